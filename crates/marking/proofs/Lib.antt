@@ -1,0 +1,2 @@
+-- Laws about the crate's definitions.
+pub mod Computes

@@ -1,0 +1,31 @@
+-- When one action covers another.
+use Prim.Native.Nat.{ℕ}
+use mathlib.Core.Bool.{Bool, true, false, not, _&&_, _||_}
+use mathlib.Core.List.{List}
+use mathlib.Core.Option.{Option, none, some}
+use lib.Dec.{eqb}
+use Rattle.files.specs.Below.{anyBelow, allBelow, allOf}
+use Rattle.files.specs.Task.{Pair, Action, Task, variableCount, actionCount, actionOf, valueIn}
+use Rattle.plans.specs.State.{asksFact}
+
+-- both leave the variable, or both set the same value
+abbrev pub sameEffect : Option ℕ → Option ℕ → Bool
+sameEffect none none = true
+sameEffect none (some y) = false
+sameEffect (some x) none = false
+sameEffect (some x) (some y) = eqb x y
+
+-- every condition of the first list stands in the second
+unfoldable pub within : List Pair → List Pair → Bool
+within conditions others = allOf (λ c. asksFact others (c .variable) (c .value)) conditions
+
+-- b covers a: the same cost, the same effect on each tracked variable, and conditions that are a proper subset
+unfoldable pub covers : Task → (ℕ → Bool) → Action → Action → Bool
+covers t tracked b a =
+    eqb (b .cost) (a .cost)
+    && (allBelow (variableCount t) (λ v. not (tracked v) || sameEffect (valueIn (b .effects) v) (valueIn (a .effects) v))
+    && (within (b .conditions) (a .conditions) && not (within (a .conditions) (b .conditions))))
+
+-- covered (01): an action of A covers it
+unfoldable pub covered : Task → (ℕ → Bool) → (ℕ → Bool) → ℕ → Bool
+covered t tracked A a = anyBelow (actionCount t) (λ b. A b && covers t tracked (actionOf t b) (actionOf t a))

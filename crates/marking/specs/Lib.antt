@@ -1,0 +1,6 @@
+-- The definitions of the crate, in the order of document 01.
+pub mod Marks
+pub mod Links
+pub mod Covering
+pub mod Rounds
+pub mod Mark

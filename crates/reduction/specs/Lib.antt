@@ -1,0 +1,6 @@
+-- The definitions of the crate, in the order of document 01.
+pub mod Named
+pub mod Renumber
+pub mod Task
+pub mod Reduce
+pub mod Stretch

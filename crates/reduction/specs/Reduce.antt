@@ -1,0 +1,75 @@
+-- Reduction called alone: the row of check, marking and reduction, with what each lent buffer holds after every outcome.
+use Prim.Native.Nat.{ℕ}
+use mathlib.Core.Bool.{Bool, true, false, not, cond}
+use mathlib.Core.List.{List}
+use lib.Dec.{leb, eqb}
+use lib.ListN.{length}
+use Rattle.files.specs.declared.Outcome.{Outcome}
+use Rattle.files.specs.Outcome.{done, isDone, guard, andThen, fits, after}
+use Rattle.files.specs.Task.{Task, actionCount, factCount}
+use Rattle.files.specs.TaskFile.{checkTask, taskOf, taskFile}
+use Rattle.files.specs.OriginFile.{originFile}
+use Rattle.marking.specs.Rounds.{Marking, marking}
+use Rattle.marking.specs.Mark.{validLevel, marksFit, actionMarksOf, factMarksOf}
+use Rattle.reduction.specs.Task.{reducedTask, originsAt}
+use Rattle.reduction.specs.declared.Reduced.{Reduced}
+
+-- the files of the reduced task and its origins under a signer
+unfoldable pub reducedFile : Task → ℕ → ℕ → List ℕ
+reducedFile t level signer = taskFile (reducedTask t level) signer
+
+unfoldable pub originsFile : Task → ℕ → ℕ → List ℕ
+originsFile t level signer = originFile (originsAt t level) signer
+
+-- the lengths of the four lent buffers
+pub record Rooms : Type 0 where
+  pub actions : ℕ
+  pub facts : ℕ
+  pub reduced : ℕ
+  pub origin : ℕ
+
+-- the stages check and marking: the file, the level, the signer, the room for the marks
+unfoldable pub markStage : List ℕ → ℕ → ℕ → Rooms → Outcome
+markStage task level signer room =
+    andThen (checkTask task)
+    (guard (validLevel level) 8 0
+    (guard (leb 1 signer) 7 0
+    (marksFit (taskOf task) (room .actions) (room .facts))))
+
+-- the stage reduction: the room for both files, before either is written
+unfoldable pub reduceStage : List ℕ → ℕ → ℕ → Rooms → Outcome
+reduceStage task level signer room =
+    andThen (markStage task level signer room)
+    (fits (length (reducedFile (taskOf task) level signer)) (room .reduced)
+    (fits (length (originsFile (taskOf task) level signer)) (room .origin)
+    done))
+
+-- an outcome with lengths and rounds, which are 0 beside a refusal
+unfoldable pub reduce : List ℕ → ℕ → ℕ → Rooms → Reduced
+reduce task level signer room =
+    let o = reduceStage task level signer room in
+    let t = taskOf task in
+    let answer : Reduced =
+    record {
+      outcome = o;
+      actions = actionCount t;
+      facts = factCount t;
+      reduced = length (reducedFile t level signer);
+      origin = length (originsFile t level signer);
+      rounds = marking t level .rounds;
+    }
+    in
+    cond (isDone o) answer (record { outcome = o; actions = 0; facts = 0; reduced = 0; origin = 0; rounds = 0 })
+
+-- each buffer after the call: a finished stage's holds its result, a later one is untouched
+unfoldable pub reducedActionMarks : List ℕ → ℕ → ℕ → Rooms → List ℕ → List ℕ
+reducedActionMarks task level signer room old = after (markStage task level signer room) (actionMarksOf (taskOf task) level) old
+
+unfoldable pub reducedFactMarks : List ℕ → ℕ → ℕ → Rooms → List ℕ → List ℕ
+reducedFactMarks task level signer room old = after (markStage task level signer room) (factMarksOf (taskOf task) level) old
+
+unfoldable pub reducedBuffer : List ℕ → ℕ → ℕ → Rooms → List ℕ → List ℕ
+reducedBuffer task level signer room old = after (reduceStage task level signer room) (reducedFile (taskOf task) level signer) old
+
+unfoldable pub originBuffer : List ℕ → ℕ → ℕ → Rooms → List ℕ → List ℕ
+originBuffer task level signer room old = after (reduceStage task level signer room) (originsFile (taskOf task) level signer) old

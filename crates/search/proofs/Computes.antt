@@ -1,0 +1,10 @@
+-- The crate's definitions under one name: to unfold `computes` is to unfold them all.
+use Rattle.search.specs.States.{stateCount, stateNumber, stateAt}
+use Rattle.search.specs.Table.{less, least, same, stepTo, atGoal, nextState, through, leastBelow, distancesIn, distances, entryOf, tableOf}
+use Rattle.search.specs.FirstPlan.{firstAction, stepsFrom, startNumber, firstPlan}
+use Rattle.search.specs.Planner.{searched, searchedStates, planFound, searchStage, planFits, planStage, planMade, plan, plannedActionMarks, plannedFactMarks, plannedReduced, plannedOrigin, plannedTable, plannedPlan}
+use Rattle.search.specs.Listing.{ascii, digits, decimal, line, stepLines, ample, planLines, listing}
+
+unfoldable pub computes : Unit {0}
+unfolding stateCount stateNumber stateAt less least same stepTo atGoal nextState through leastBelow distancesIn distances entryOf tableOf firstAction stepsFrom startNumber firstPlan searched searchedStates planFound searchStage planFits planStage planMade plan plannedActionMarks plannedFactMarks plannedReduced plannedOrigin plannedTable plannedPlan ascii digits decimal line stepLines ample planLines listing
+computes = tt

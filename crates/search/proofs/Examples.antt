@@ -1,0 +1,14 @@
+-- Every case of the table is as the document says: the definitions compute to it.
+use mathlib.Core.Path.{_≡_, refl}
+use mathlib.Core.Bool.{true}
+use Rattle.files.specs.Below.{allOf}
+use Rattle.files.proofs.Computes as files
+use Rattle.plans.proofs.Computes as plans
+use Rattle.marking.proofs.Computes as marking
+use Rattle.reduction.proofs.Computes as reduction
+use Rattle.search.proofs.Computes.{computes}
+use Rattle.search.specs.Examples.{Case, cases, asExpected}
+
+pub examples : allOf asExpected cases ≡ true
+unfolding asExpected cases files.computes plans.computes marking.computes reduction.computes computes
+examples = refl

@@ -1,0 +1,129 @@
+-- The cases that document 01 marks P: what the definitions find, and what the document says.
+use Prim.Native.Nat.{ℕ}
+use mathlib.Core.Bool.{Bool}
+use mathlib.Core.List.{List, [], _∷_, _++_}
+use lib.Dec.{eqb}
+use lib.ListN.{replicate}
+use Rattle.files.specs.declared.Outcome.{Outcome}
+use Rattle.files.specs.Below.{sameList}
+use Rattle.files.specs.Bytes.{u16Bytes}
+use Rattle.files.specs.Records.{recordBytes}
+use Rattle.files.specs.Task.{Pair, Variable, Action, Task, pair, variable, action}
+use Rattle.files.specs.TaskFile.{checkTask, taskFile}
+use Rattle.files.specs.PlanFile.{planFile}
+use Rattle.plans.specs.declared.Checked.{Checked}
+use Rattle.plans.specs.Check.{checkPlan}
+use Rattle.marking.specs.declared.Marked.{Marked}
+use Rattle.marking.specs.Mark.{mark, markedActions}
+use Rattle.reduction.specs.Reduce.{Rooms, reducedBuffer}
+use Rattle.search.specs.Planner.{PlanRooms, plan, plannedPlan}
+use Rattle.search.specs.Listing.{ample}
+use Rattle.search.specs.declared.Planned.{Planned}
+
+-- task E: station, lamp and line
+abbrev pub variablesE : List Variable
+variablesE = variable 3 0 ∷ variable 2 1 ∷ variable 3 0 ∷ []
+
+abbrev pub goalE : List Pair
+goalE = pair 1 1 ∷ pair 2 1 ∷ []
+
+-- actions 0 and 1, and the others
+abbrev pub lineActions : List Action
+lineActions =
+    action 2 (pair 0 1 ∷ []) (pair 2 1 ∷ [])
+    ∷ action 2 [] (pair 2 1 ∷ [])
+    ∷ []
+
+abbrev pub otherActions : List Action
+otherActions =
+    action 1 [] (pair 0 1 ∷ [])
+    ∷ action 0 [] (pair 2 2 ∷ [])
+    ∷ action 1 [] (pair 1 1 ∷ [])
+    ∷ action 1 [] (pair 1 0 ∷ [])
+    ∷ action 1 (pair 0 1 ∷ []) (pair 0 2 ∷ [])
+    ∷ []
+
+-- the file of E, of E without actions 0 and 1, and of E with the goal lamp=1 alone
+abbrev pub fileE : List ℕ
+fileE = taskFile (record { variables = variablesE; goal = goalE; actions = lineActions ++ otherActions }) 7
+
+abbrev pub fileWithoutLine : List ℕ
+fileWithoutLine = taskFile (record { variables = variablesE; goal = goalE; actions = otherActions }) 7
+
+abbrev pub fileLampAlone : List ℕ
+fileLampAlone = taskFile (record { variables = variablesE; goal = pair 1 1 ∷ []; actions = lineActions ++ otherActions }) 7
+
+-- a header record alone
+abbrev pub headerOf : ℕ → List ℕ
+headerOf variables = recordBytes 1 (u16Bytes variables ++ u16Bytes 0)
+
+-- answers as numbers
+abbrev pub outcomeNumbers : Outcome → List ℕ
+outcomeNumbers o = o .number ∷ o .file ∷ o .place ∷ []
+
+abbrev pub checkNumbers : Checked → List ℕ
+checkNumbers c = outcomeNumbers (c .outcome) ++ (c .cost .0 ∷ c .steps .0 ∷ [])
+
+abbrev pub planNumbers : Planned → List ℕ
+planNumbers p = outcomeNumbers (p .outcome) ++ (p .cost .0 ∷ p .steps .0 ∷ [])
+
+-- buffers that held 9 before
+abbrev pub used : ℕ → List ℕ
+used n = replicate n 9
+
+-- the outcome, the rounds and the action marks of a file of 7 actions and 8 facts
+abbrev pub keptNumbers : List ℕ → ℕ → List ℕ
+keptNumbers file level =
+    let m = mark file level 7 8 in
+    outcomeNumbers (m .outcome) ++ (m .rounds ∷ []) ++ markedActions file level (used 7) (used 8)
+
+-- a row of the table
+pub record Case : Type 0 where
+  pub found : List ℕ
+  pub expected : List ℕ
+
+abbrev pub case : List ℕ → List ℕ → Case
+case found expected = record { found = found; expected = expected }
+
+unfoldable pub cases : List Case
+cases =
+    -- empty file, 1 at 0
+    case (outcomeNumbers (checkTask [])) (1 ∷ 0 ∷ 0 ∷ [])
+    -- header with 65 variables, 4 at 4; 64 passes there, and the file ends at 8
+    ∷ case (outcomeNumbers (checkTask (headerOf 65))) (4 ∷ 0 ∷ 4 ∷ [])
+    ∷ case (outcomeNumbers (checkTask (headerOf 64))) (1 ∷ 0 ∷ 8 ∷ [])
+    -- level 1 keeps all in 3 rounds; 2 keeps 0 1 2 4 in 3; 3 keeps 0 1 2 in 3; 4 keeps 0 1 in 2
+    ∷ case (keptNumbers fileE 1) (0 ∷ 0 ∷ 0 ∷ 3 ∷ 1 ∷ 1 ∷ 1 ∷ 1 ∷ 1 ∷ 1 ∷ 1 ∷ [])
+    ∷ case (keptNumbers fileE 2) (0 ∷ 0 ∷ 0 ∷ 3 ∷ 1 ∷ 1 ∷ 1 ∷ 0 ∷ 1 ∷ 0 ∷ 0 ∷ [])
+    ∷ case (keptNumbers fileE 3) (0 ∷ 0 ∷ 0 ∷ 3 ∷ 1 ∷ 1 ∷ 1 ∷ 0 ∷ 0 ∷ 0 ∷ 0 ∷ [])
+    ∷ case (keptNumbers fileE 4) (0 ∷ 0 ∷ 0 ∷ 2 ∷ 1 ∷ 1 ∷ 0 ∷ 0 ∷ 0 ∷ 0 ∷ 0 ∷ [])
+    -- plan 2, 0 costs 3
+    ∷ case (checkNumbers (checkPlan fileE (planFile (2 ∷ 0 ∷ []) 7))) (0 ∷ 0 ∷ 0 ∷ 3 ∷ 2 ∷ [])
+    -- plan 0: 22 at 0
+    ∷ case (checkNumbers (checkPlan fileE (planFile (0 ∷ []) 7))) (22 ∷ 0 ∷ 0 ∷ 0 ∷ 0 ∷ [])
+    -- plan 2: 23 at 1
+    ∷ case (checkNumbers (checkPlan fileE (planFile (2 ∷ []) 7))) (23 ∷ 0 ∷ 1 ∷ 0 ∷ 0 ∷ [])
+    -- without actions 0 and 1: 24
+    ∷ case (planNumbers (plan fileWithoutLine 7 ample)) (24 ∷ 0 ∷ 0 ∷ 0 ∷ 0 ∷ [])
+    -- goal lamp=1 alone: level 3 keeps nothing, the plan is empty
+    ∷ case (keptNumbers fileLampAlone 3) (0 ∷ 0 ∷ 0 ∷ 1 ∷ 0 ∷ 0 ∷ 0 ∷ 0 ∷ 0 ∷ 0 ∷ 0 ∷ [])
+    ∷ case (planNumbers (plan fileLampAlone 7 ample)) (0 ∷ 0 ∷ 0 ∷ 0 ∷ 0 ∷ [])
+    ∷ case (plannedPlan fileLampAlone 7 ample []) (planFile [] 7)
+    -- E reduced at level 4, 80 bytes
+    ∷ case
+    (reducedBuffer fileE 4 7 (ample .reduction) (used 82))
+    (0x04 ∷ 0x00 ∷ 0x01 ∷ 0x00 ∷ 0x02 ∷ 0x00 ∷ 0x02 ∷ 0x00
+    ∷ 0x04 ∷ 0x00 ∷ 0x02 ∷ 0x00 ∷ 0x02 ∷ 0x00 ∷ 0x01 ∷ 0x00
+    ∷ 0x04 ∷ 0x00 ∷ 0x02 ∷ 0x00 ∷ 0x02 ∷ 0x00 ∷ 0x01 ∷ 0x00
+    ∷ 0x04 ∷ 0x00 ∷ 0x03 ∷ 0x00 ∷ 0x01 ∷ 0x00 ∷ 0x00 ∷ 0x00
+    ∷ 0x10 ∷ 0x00 ∷ 0x04 ∷ 0x00 ∷ 0x02 ∷ 0x00 ∷ 0x00 ∷ 0x00 ∷ 0x01 ∷ 0x00 ∷ 0x01 ∷ 0x00
+    ∷ 0x00 ∷ 0x00 ∷ 0x00 ∷ 0x00 ∷ 0x01 ∷ 0x00 ∷ 0x00 ∷ 0x00
+    ∷ 0x0C ∷ 0x00 ∷ 0x04 ∷ 0x00 ∷ 0x02 ∷ 0x00 ∷ 0x00 ∷ 0x00 ∷ 0x00 ∷ 0x00 ∷ 0x01 ∷ 0x00
+    ∷ 0x01 ∷ 0x00 ∷ 0x00 ∷ 0x00
+    ∷ 0x08 ∷ 0x00 ∷ 0x05 ∷ 0x00 ∷ 0x07 ∷ 0x00 ∷ 0x00 ∷ 0x00 ∷ 0x44 ∷ 0x00 ∷ 0x00 ∷ 0x00
+    ∷ 9 ∷ 9 ∷ [])
+    ∷ []
+
+-- the definitions find what the document says
+unfoldable pub asExpected : Case → Bool
+asExpected c = sameList eqb (c .found) (c .expected)

@@ -1,0 +1,7 @@
+-- The definitions of the crate, in the order of document 01.
+pub mod States
+pub mod Table
+pub mod FirstPlan
+pub mod Planner
+pub mod Listing
+pub mod Examples

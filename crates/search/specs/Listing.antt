@@ -1,0 +1,64 @@
+-- What `shortest` prints of a task file.
+use Prim.Native.Nat.{ℕ, zero, suc, _+_, _/_, _%_}
+use Prim.Native.Char.{code}
+use Prim.Native.String as text
+use Prim.Native.String.{String}
+use mathlib.Core.Bool.{Bool, true, false, cond}
+use mathlib.Core.List.{List, [], _∷_, _++_}
+use lib.Dec.{ltb}
+use Rattle.files.specs.declared.Outcome.{Outcome}
+use Rattle.files.specs.Outcome.{isDone}
+use Rattle.files.specs.Records.{signerOf}
+use Rattle.files.specs.Task.{Task, variableCount, actionCount}
+use Rattle.files.specs.TaskFile.{taskOf}
+use Rattle.reduction.specs.Reduce.{Rooms}
+use Rattle.search.specs.Planner.{PlanRooms, searched, planMade, plan}
+use Rattle.search.specs.declared.Planned.{Planned}
+
+-- the bytes of an ASCII text
+unfoldable pub ascii : String → List ℕ
+ascii text.[] = []
+ascii (text._∷_ c s) = code c ∷ ascii s
+
+-- a number below 2^64 in decimal, at most `count` digits
+unfoldable pub digits : ℕ → ℕ → List ℕ
+digits zero n = []
+digits (suc count) n =
+    let front = digits count (n / 10) in
+    cond (ltb n 10) [] front ++ ((48 + n % 10) ∷ [])
+
+unfoldable pub decimal : ℕ → List ℕ
+decimal n = digits 20 n
+
+-- a line of two words with a number behind each
+unfoldable pub line : String → ℕ → String → ℕ → List ℕ
+line first m second n = ascii first ++ decimal m ++ ascii second ++ decimal n ++ ascii "\n"
+
+-- a line a step, with its original number
+unfoldable pub stepLines : List ℕ → List ℕ
+stepLines [] = []
+stepLines (a ∷ steps) = ascii "step " ++ decimal a ++ ascii "\n" ++ stepLines steps
+
+-- buffers long enough for every task
+unfoldable pub ample : PlanRooms
+ample =
+    record {
+      reduction = record { actions = 512; facts = 2048; reduced = 65536; origin = 65536 };
+      table = 4096;
+      plan = 65536;
+    }
+
+-- counts of variables and actions, those of the kept, the steps, cost and steps
+unfoldable pub planLines : List ℕ → Planned → List ℕ
+planLines task p =
+    line "task " (variableCount (taskOf task)) " " (actionCount (taskOf task))
+    ++ line "kept " (variableCount (searched task)) " " (actionCount (searched task))
+    ++ stepLines (planMade task)
+    ++ line "cost " (p .cost .0) " steps " (p .steps .0)
+
+-- planned under the file's signer; after a refusal just one line
+unfoldable pub listing : List ℕ → List ℕ
+listing task =
+    let p = plan task (signerOf task) ample in
+    let lines = planLines task p in
+    cond (isDone (p .outcome)) lines (line "refused " (p .outcome .number) " at " (p .outcome .place))
