@@ -1,5 +1,5 @@
 -- The crate's definitions under one name: to unfold `computes` is to unfold them all.
-use Rattle.files.specs.Outcome.{isDone, guard, choose, andThen, inSecond, fits, overwrite, after}
+use Rattle.files.specs.Outcome.{isDone, guard, andThen, inSecond, fits, overwrite, after}
 use Rattle.files.specs.Bytes.{u16At, u32At, u16Bytes, u32Bytes}
 use Rattle.files.specs.Records.{bodyLength, kindAt, recordEnd, recordsEnd, bodyRule, bodyFits, headAt, numbersAt, signOffAt, sizeFits, signerOf, numbersFrom, numberBytes, recordBytes, signed}
 use Rattle.files.specs.TaskFile.{headerAt, variablesIn, actionsIn, variableAt, variablesAt, variablePlace, sizeAt, pairAt, pairsAt, goalAt, conditionsIn, effectsIn, actionLength, effectsPlace, actionAt, actionsAt, goalPlace, actionsPlace, checkTask, pairsFrom, variablesFrom, actionFrom, actionsFrom, taskOf, actionPlace, pairBytes, variableBytes, actionBody, actionBytes, taskRecords, taskFile}
@@ -9,5 +9,5 @@ use Rattle.files.specs.Reading.{readTask, readOrigin, readPlan}
 use Rattle.files.specs.Accepted.{validSigner, validPairs, validVariable, validAction, acceptedTask, rising, validValues, acceptedOrigin, acceptedPlan}
 
 unfoldable pub computes : Unit {0}
-unfolding isDone guard choose andThen inSecond fits overwrite after u16At u32At u16Bytes u32Bytes bodyLength kindAt recordEnd recordsEnd bodyRule bodyFits headAt numbersAt signOffAt sizeFits signerOf numbersFrom numberBytes recordBytes signed headerAt variablesIn actionsIn variableAt variablesAt variablePlace sizeAt pairAt pairsAt goalAt conditionsIn effectsIn actionLength effectsPlace actionAt actionsAt goalPlace actionsPlace checkTask pairsFrom variablesFrom actionFrom actionsFrom taskOf actionPlace pairBytes variableBytes actionBody actionBytes taskRecords taskFile valuesIn variableOriginAt variableOriginsAt actionOriginsAt variableOriginsFrom originVariablesIn originActionsPlace checkOrigin originsFrom originOf variableOriginBytes originFile stepsIn checkPlanFile planOf planFile readTask readOrigin readPlan validSigner validPairs validVariable validAction acceptedTask rising validValues acceptedOrigin acceptedPlan
+unfolding isDone guard andThen inSecond fits overwrite after u16At u32At u16Bytes u32Bytes bodyLength kindAt recordEnd recordsEnd bodyRule bodyFits headAt numbersAt signOffAt sizeFits signerOf numbersFrom numberBytes recordBytes signed headerAt variablesIn actionsIn variableAt variablesAt variablePlace sizeAt pairAt pairsAt goalAt conditionsIn effectsIn actionLength effectsPlace actionAt actionsAt goalPlace actionsPlace checkTask pairsFrom variablesFrom actionFrom actionsFrom taskOf actionPlace pairBytes variableBytes actionBody actionBytes taskRecords taskFile valuesIn variableOriginAt variableOriginsAt actionOriginsAt variableOriginsFrom originVariablesIn originActionsPlace checkOrigin originsFrom originOf variableOriginBytes originFile stepsIn checkPlanFile planOf planFile readTask readOrigin readPlan validSigner validPairs validVariable validAction acceptedTask rising validValues acceptedOrigin acceptedPlan
 computes = tt

@@ -20,13 +20,9 @@ unfoldable pub guard : Bool → ℕ → ℕ → Outcome → Outcome
 guard true number place rest = rest
 guard false number place rest = refusal number place
 
-unfoldable pub choose : Bool → Outcome → Outcome → Outcome
-choose true a b = a
-choose false a b = b
-
 -- where the first is done, the second; else the first
 unfoldable pub andThen : Outcome → Outcome → Outcome
-andThen first second = choose (isDone first) second first
+andThen first second = cond (isDone first) second first
 
 -- the outcome of reading the second file handed in
 unfoldable pub inSecond : Outcome → Outcome

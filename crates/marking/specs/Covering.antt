@@ -6,7 +6,7 @@ use mathlib.Core.Option.{Option, none, some}
 use lib.Dec.{eqb}
 use Rattle.files.specs.Below.{anyBelow, allBelow, allOf}
 use Rattle.files.specs.Task.{Pair, Action, Task, variableCount, actionCount, actionOf, valueIn}
-use Rattle.plans.specs.State.{asksFact}
+use Rattle.plans.specs.State.{hasFact}
 
 -- both leave the variable, or both set the same value
 abbrev pub sameEffect : Option ℕ → Option ℕ → Bool
@@ -17,7 +17,7 @@ sameEffect (some x) (some y) = eqb x y
 
 -- every condition of the first list stands in the second
 unfoldable pub within : List Pair → List Pair → Bool
-within conditions others = allOf (λ c. asksFact others (c .variable) (c .value)) conditions
+within conditions others = allOf (λ c. hasFact others (c .variable) (c .value)) conditions
 
 -- b covers a: the same cost, the same effect on each tracked variable, and conditions that are a proper subset
 unfoldable pub covers : Task → (ℕ → Bool) → Action → Action → Bool

@@ -32,8 +32,8 @@ unfoldable pub tracked : Task → ℕ → Marks → ℕ → Bool
 tracked t level m v = anyBelow (sizeOf t v) (unlinked t level m v)
 
 -- A gains the action: at level 1 it sets a variable that has a relevant fact, else it has an effect in F that is not linked
-unfoldable pub gained : Task → ℕ → Marks → ℕ → Bool
-gained t level m a =
+unfoldable pub gainsAction : Task → ℕ → Marks → ℕ → Bool
+gainsAction t level m a =
     anyOf
     (λ e. cond (eqb level 1) (hasRelevant t m (e .variable)) (unlinked t level m (e .variable) (e .value)))
     (actionOf t a .effects)

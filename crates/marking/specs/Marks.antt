@@ -6,7 +6,7 @@ use lib.Dec.{eqb}
 use lib.ListN.{getD}
 use Rattle.files.specs.Below.{tabulate, sameList}
 use Rattle.files.specs.Task.{Pair, Task, variableCount, actionCount, sizeOf, mentions}
-use Rattle.plans.specs.State.{asksFact}
+use Rattle.plans.specs.State.{hasFact}
 
 -- a mark for each action, and a row of marks for each variable, one for each value
 pub record Marks : Type 0 where
@@ -21,7 +21,7 @@ relevant m v value = getD (getD (m .facts) v []) value false
 
 -- conditions or a goal name a fact: at level 1 their variables count whole
 unfoldable pub names : ℕ → List Pair → ℕ → ℕ → Bool
-names level conditions v value = cond (eqb level 1) (mentions conditions v) (asksFact conditions v value)
+names level conditions v value = cond (eqb level 1) (mentions conditions v) (hasFact conditions v value)
 
 abbrev pub actionMarks : Task → (ℕ → Bool) → List Bool
 actionMarks t f = tabulate (actionCount t) f

@@ -25,9 +25,9 @@ holds condition s = admits condition (s (condition .variable))
 unfoldable pub allHold : List Pair → State → Bool
 allHold conditions s = allOf (λ c. holds c s) conditions
 
--- the fact of a variable and a value is among those that the conditions admit
-unfoldable pub asksFact : List Pair → ℕ → ℕ → Bool
-asksFact conditions v value = anyOf (λ c. eqb (c .variable) v && admits c value) conditions
+-- a condition of the list admits the fact of the variable and the value
+unfoldable pub hasFact : List Pair → ℕ → ℕ → Bool
+hasFact conditions v value = anyOf (λ c. eqb (c .variable) v && admits c value) conditions
 
 unfoldable pub applicable : Action → State → Bool
 applicable a s = allHold (a .conditions) s

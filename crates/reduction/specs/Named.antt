@@ -4,12 +4,12 @@ use mathlib.Core.Bool.{Bool, true, false, not, _&&_, _||_}
 use lib.Dec.{eqb}
 use Rattle.files.specs.Below.{anyBelow, allBelow}
 use Rattle.files.specs.Task.{Task, Action, actionCount, actionOf, sizeOf, startOf}
-use Rattle.plans.specs.State.{asksFact}
+use Rattle.plans.specs.State.{hasFact}
 use Rattle.marking.specs.Links.{threatened}
 
 -- named (01): a fact of the goal, or a condition of a kept action, covered or not
 unfoldable pub named : Task → (ℕ → Bool) → ℕ → ℕ → Bool
-named t A v value = asksFact (t .goal) v value || anyBelow (actionCount t) (λ a. A a && asksFact (actionOf t a .conditions) v value)
+named t A v value = hasFact (t .goal) v value || anyBelow (actionCount t) (λ a. A a && hasFact (actionOf t a .conditions) v value)
 
 unfoldable pub hasNamed : Task → (ℕ → Bool) → ℕ → Bool
 hasNamed t A v = anyBelow (sizeOf t v) (named t A v)

@@ -43,9 +43,9 @@ stepLines (a ∷ steps) = ascii "step " ++ decimal a ++ ascii "\n" ++ stepLines 
 unfoldable pub ample : PlanRooms
 ample =
     record {
-      reduction = record { actions = 512; facts = 2048; reduced = 65536; origin = 65536 };
+      reduction = record { actions = 512; facts = 2048; reduced = 65536; origin = 5520 };
       table = 4096;
-      plan = 65536;
+      plan = 8206;
     }
 
 -- counts of variables and actions, those of the kept, the steps, cost and steps
