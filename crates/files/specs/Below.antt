@@ -3,10 +3,14 @@ use mathlib.Core.Bool.{Bool, true, false, cond, _&&_, _||_}
 use mathlib.Core.List.{List, [], _∷_, _++_}
 use Prim.Native.Nat.{ℕ, zero, suc, _+_}
 
+-- f at each of n numbers from i on
+abbrev pub tabulateFrom : {A : Type 0} → ℕ → ℕ → (ℕ → A) → List A
+tabulateFrom i zero f = []
+tabulateFrom i (suc n) f = f i ∷ tabulateFrom (i + 1) n f
+
 -- f at each number below n
-abbrev pub tabulate {ℓ} : {A : Type ℓ} → ℕ → (ℕ → A) → List A
-tabulate zero f = []
-tabulate (suc n) f = f zero ∷ tabulate n (λ k. f (suc k))
+abbrev pub tabulate : {A : Type 0} → ℕ → (ℕ → A) → List A
+tabulate n f = tabulateFrom 0 n f
 
 -- some number below n passes
 abbrev pub anyBelow : ℕ → (ℕ → Bool) → Bool

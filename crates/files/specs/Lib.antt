@@ -9,3 +9,6 @@ pub mod OriginFile
 pub mod PlanFile
 pub mod Reading
 pub mod Accepted
+pub mod Dense
+pub mod Rows
+pub mod Lengths

@@ -81,9 +81,12 @@ originOf s =
       actions = numbersFrom s (originActionsPlace s + 4) (bodyLength s (originActionsPlace s) / 2);
     }
 
+unfoldable pub originBody : VariableOrigin → List ℕ
+originBody o = u16Bytes (o .variable) ++ numberBytes (o .values)
+
 unfoldable pub variableOriginBytes : List VariableOrigin → List ℕ
 variableOriginBytes [] = []
-variableOriginBytes (o ∷ os) = recordBytes 6 (u16Bytes (o .variable) ++ numberBytes (o .values)) ++ variableOriginBytes os
+variableOriginBytes (o ∷ os) = recordBytes 6 (originBody o) ++ variableOriginBytes os
 
 -- the file of origins under a signer
 unfoldable pub originFile : Origin → ℕ → List ℕ

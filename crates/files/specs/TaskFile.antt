@@ -71,16 +71,22 @@ actionLength s at = 8 + 4 * conditionsIn s at + 4 * effectsIn s at
 unfoldable pub effectsPlace : List ℕ → ℕ → ℕ
 effectsPlace s at = at + 12 + 4 * conditionsIn s at
 
--- cost and both counts, then the length, then the pairs
-unfoldable pub actionAt : List ℕ → ℕ → Outcome
-actionAt s at =
-    andThen (headAt s at 4)
-    (guard (leb (u32At s (at + 4)) 1000000) 4 (at + 4)
+-- cost and both counts, then the length
+unfoldable pub actionFormAt : List ℕ → ℕ → Outcome
+actionFormAt s at =
+    guard (leb (u32At s (at + 4)) 1000000) 4 (at + 4)
     (guard (leb (conditionsIn s at) 64) 4 (at + 8)
     (guard (leb (effectsIn s at) 64) 4 (at + 10)
     (guard (eqb (bodyLength s at) (actionLength s at)) 3 at
+    done)))
+
+-- then the pairs
+unfoldable pub actionAt : List ℕ → ℕ → Outcome
+actionAt s at =
+    andThen (headAt s at 4)
+    (andThen (actionFormAt s at)
     (andThen (pairsAt s 0 (at + 12) (conditionsIn s at))
-    (pairsAt s 0 (effectsPlace s at) (effectsIn s at)))))))
+    (pairsAt s 0 (effectsPlace s at) (effectsIn s at))))
 
 -- `count` actions from `at` on, and the sign-off behind them
 unfoldable pub actionsAt : List ℕ → ℕ → ℕ → Outcome

@@ -1,8 +1,214 @@
-// Records: a body length, a kind and a body.
+// Records: a body length, a kind and a body; and the sign-off that ends every file.
+ghost use mathlib.Core.Path.{_≡_};
+ghost use mathlib.Core.List.{_++_};
+ghost use Prim.Native.Nat.{_+_, _*_, _<_, _≤_};
+ghost use lib.ListN.{length};
+ghost use Rattle.files.specs.Bytes.{u16Bytes, u32Bytes, placed};
+ghost use Rattle.files.specs.Records.{bodyLength, kindAt, recordEnd, recordsEnd, bodyRule, bodyFits, headAt, numbersAt, signOffAt, signerOf, recordBytes};
+use crate::Outcome;
+use crate::bytes;
+use crate::outcomes;
 
 // The body length rule of a kind: at least `least`, in steps of `step`, at most `limit`.
 pub struct Rule {
     pub least: usize,
     pub step: usize,
     pub limit: usize,
+}
+
+// The body length rule of each kind; no body fits an unknown one.
+pub fn body_rule(kind: usize) -> Rule
+    ensures { λ r. ⌜ (r ≡ bodyRule kind) × (0 < r .step) ⌝ }
+{
+    match kind {
+        1 => Rule {
+            least: 4,
+            step: 65536,
+            limit: 4,
+        },
+        2 => Rule {
+            least: 4,
+            step: 65536,
+            limit: 4,
+        },
+        3 => Rule {
+            least: 0,
+            step: 4,
+            limit: 256,
+        },
+        4 => Rule {
+            least: 8,
+            step: 1,
+            limit: 65535,
+        },
+        5 => Rule {
+            least: 8,
+            step: 65536,
+            limit: 8,
+        },
+        6 => Rule {
+            least: 4,
+            step: 2,
+            limit: 66,
+        },
+        7 => Rule {
+            least: 0,
+            step: 2,
+            limit: 1024,
+        },
+        8 => Rule {
+            least: 0,
+            step: 2,
+            limit: 8192,
+        },
+        0 | 9.. => Rule {
+            least: 65536,
+            step: 1,
+            limit: 0,
+        },
+    }
+}
+
+pub fn body_length(s: &[u8], at: usize) -> usize
+    requires { ⌜ at < 1099511627776 ⌝ }
+    ensures { λ r. ⌜ (r ≡ bodyLength (now (s .entry)) at) × (r < 65536) ⌝ }
+{
+    bytes::u16_at(s, at)
+}
+
+pub fn kind_at(s: &[u8], at: usize) -> usize
+    requires { ⌜ at < 549755813888 ⌝ }
+    ensures { λ r. ⌜ r ≡ kindAt (now (s .entry)) at ⌝ }
+{
+    bytes::u16_at(s, at + 2)
+}
+
+// Where the record at `at` ends.
+pub fn record_end(s: &[u8], at: usize) -> usize
+    requires { ⌜ at < 1099511627776 ⌝ }
+    ensures { λ r. ⌜ (r ≡ recordEnd (now (s .entry)) at) × (r < at + 65540) ⌝ }
+{
+    at + 4 + body_length(s, at)
+}
+
+// Where the record after `count` records from `at` on stands.
+pub fn records_end(s: &[u8], at: usize, count: usize) -> usize
+    requires { ⌜ at + 65540 * count < 549755813888 ⌝ }
+    ensures { λ r. ⌜ (r ≡ recordsEnd (now (s .entry)) at count) × (r ≤ at + 65540 * count) ⌝ }
+{
+    let mut place = at;
+    let mut left = count;
+    while 0 < left {
+        place = record_end(s, place);
+        left -= 1;
+    }
+    place
+}
+
+// Whether a body of `length` bytes fits its kind's rule.
+fn check_body(rule: Rule, length: usize, at: usize) -> Outcome
+    requires { ⌜ 0 < rule .step ⌝ }
+    ensures { λ r. ⌜ r ≡ bodyFits rule length at ⌝ }
+{
+    if length < rule.least {
+        return outcomes::refuse(3, at);
+    }
+    let broken = (length - rule.least) % rule.step;
+    if broken != 0 {
+        return outcomes::refuse(3, at);
+    }
+    if rule.limit < length {
+        return outcomes::refuse(4, at);
+    }
+    outcomes::done()
+}
+
+// The head of the record at `at`, where `kind` is due.
+pub fn check_head(s: &[u8], at: usize, kind: usize) -> Outcome
+    requires { ⌜ at < 549755813888 ⌝ }
+    ensures { λ r. ⌜ r ≡ headAt (now (s .entry)) at kind ⌝ }
+{
+    if s.len() < at + 4 {
+        return outcomes::refuse(1, at);
+    }
+    let end = record_end(s, at);
+    if s.len() < end {
+        return outcomes::refuse(1, at);
+    }
+    let found = kind_at(s, at);
+    if found != kind {
+        return outcomes::refuse(2, at);
+    }
+    check_body(body_rule(kind), body_length(s, at), at)
+}
+
+// `count` numbers of 2 bytes, each below the limit.
+pub fn check_numbers(limit: usize, s: &[u8], at: usize, count: usize) -> Outcome
+    requires { ⌜ at + 2 * count < 549755813888 ⌝ }
+    ensures { λ r. ⌜ r ≡ numbersAt limit (now (s .entry)) at count ⌝ }
+{
+    let mut place = at;
+    let mut left = count;
+    while 0 < left {
+        let n = bytes::u16_at(s, place);
+        if limit <= n {
+            return outcomes::refuse(5, place);
+        }
+        place += 2;
+        left -= 1;
+    }
+    outcomes::done()
+}
+
+// The sign-off at `at`, behind which nothing stands.
+pub fn check_sign_off(s: &[u8], at: usize) -> Outcome
+    requires { ⌜ at < 549755813888 ⌝ }
+    ensures { λ r. ⌜ r ≡ signOffAt (now (s .entry)) at ⌝ }
+{
+    let head = check_head(s, at, 5);
+    if head.number != 0 {
+        return head;
+    }
+    let signer = bytes::u32_at(s, at + 4);
+    if signer < 1 {
+        return outcomes::refuse(7, at + 4);
+    }
+    let before = bytes::u32_at(s, at + 8);
+    if before != at {
+        return outcomes::refuse(7, at + 8);
+    }
+    if s.len() != at + 12 {
+        return outcomes::refuse(2, at + 12);
+    }
+    outcomes::done()
+}
+
+// The signer of an accepted file.
+pub fn signer(s: &[u8]) -> usize
+    requires { ⌜ length (now s) ≤ 65536 ⌝ }
+    ensures { λ r. ⌜ (r ≡ signerOf (now (s .entry))) × (r < 4294967296) ⌝ }
+{
+    if s.len() < 8 {
+        return bytes::u32_at(s, 0);
+    }
+    bytes::u32_at(s, s.len() - 8)
+}
+
+// Writes a record's head.
+pub fn put_head(buffer: &mut [u8], at: usize, kind: usize, length: usize)
+    requires { ⌜ at + 4 ≤ lib.ListN.length (now buffer) ⌝ }
+    ensures { λ r. ⌜ now (buffer .exit) ≡ placed (now (buffer .entry)) at (u16Bytes length ++ u16Bytes kind) ⌝ }
+{
+    bytes::put_u16(buffer, at, length);
+    bytes::put_u16(buffer, at + 2, kind);
+}
+
+// Writes the sign-off behind `at` bytes of records.
+pub fn put_sign_off(buffer: &mut [u8], at: usize, signer: usize)
+    requires { ⌜ at + 12 ≤ length (now buffer) ⌝ }
+    ensures { λ r. ⌜ now (buffer .exit) ≡ placed (now (buffer .entry)) at (recordBytes 5 (u32Bytes signer ++ u32Bytes at)) ⌝ }
+{
+    put_head(buffer, at, 5, 8);
+    bytes::put_u32(buffer, at + 4, signer);
+    bytes::put_u32(buffer, at + 8, at);
 }

@@ -1,0 +1,1 @@
+-- Rows of the dense arrays hold the pairs that they were filled with.

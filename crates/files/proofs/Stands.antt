@@ -1,0 +1,1 @@
+-- Bytes that stand at a place of a file: what is read there, and what is written there.

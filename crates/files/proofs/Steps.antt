@@ -1,0 +1,1 @@
+-- How the recursive checks go, step by step, in the form that a loop counting down wants.

@@ -1,0 +1,1 @@
+-- A task file that is written reads back, and a file that reads as a task is the one written for it.

@@ -1,0 +1,1 @@
+-- Laws of what the writers write, step by step.

@@ -1,0 +1,50 @@
+// Little-endian numbers in a slice of bytes.
+ghost use mathlib.Core.Path.{_≡_};
+ghost use Prim.Native.Nat.{_+_, _<_, _≤_};
+ghost use lib.ListN.{length, getD};
+ghost use Rattle.files.specs.Bytes.{u16At, u32At, u16Bytes, u32Bytes, placed};
+
+// The byte at a place, 0 past the end.
+pub fn byte_at(s: &[u8], at: usize) -> usize
+    ensures { λ r. ⌜ (r ≡ getD (now (s .entry)) at 0) × (r < 256) ⌝ }
+{
+    if at < s.len() { s[at] as usize } else { 0 }
+}
+
+pub fn u16_at(s: &[u8], at: usize) -> usize
+    requires { ⌜ at < 1099511627776 ⌝ }
+    ensures { λ r. ⌜ (r ≡ u16At (now (s .entry)) at) × (r < 65536) ⌝ }
+{
+    let lower = byte_at(s, at);
+    let upper = byte_at(s, at + 1);
+    lower + upper * 256
+}
+
+pub fn u32_at(s: &[u8], at: usize) -> usize
+    requires { ⌜ at < 1099511627776 ⌝ }
+    ensures { λ r. ⌜ (r ≡ u32At (now (s .entry)) at) × (r < 4294967296) ⌝ }
+{
+    let lower = u16_at(s, at);
+    let third = byte_at(s, at + 2);
+    let fourth = byte_at(s, at + 3);
+    lower + third * 65536 + fourth * 16777216
+}
+
+// Writes the lower 16 bits of a number.
+pub fn put_u16(buffer: &mut [u8], at: usize, n: usize)
+    requires { ⌜ at + 2 ≤ length (now buffer) ⌝ }
+    ensures { λ r. ⌜ now (buffer .exit) ≡ placed (now (buffer .entry)) at (u16Bytes n) ⌝ }
+{
+    buffer[at] = (n % 256) as u8;
+    buffer[at + 1] = (n / 256 % 256) as u8;
+}
+
+// Writes the lower 32 bits of a number.
+pub fn put_u32(buffer: &mut [u8], at: usize, n: usize)
+    requires { ⌜ at + 4 ≤ length (now buffer) ⌝ }
+    ensures { λ r. ⌜ now (buffer .exit) ≡ placed (now (buffer .entry)) at (u32Bytes n) ⌝ }
+{
+    put_u16(buffer, at, n);
+    buffer[at + 2] = (n / 65536 % 256) as u8;
+    buffer[at + 3] = (n / 16777216 % 256) as u8;
+}

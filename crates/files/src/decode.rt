@@ -1,0 +1,158 @@
+// An accepted task file into dense arrays: an entry per variable and action, and for each action
+// a row of 64 entries, one per variable, in which 255 stands for no pair.
+ghost use mathlib.Core.Path.{_≡_};
+ghost use Prim.Native.Nat.{_+_, _*_, _<_, _≤_};
+ghost use lib.ListN.{length};
+ghost use Rattle.files.specs.Bytes.{placed};
+ghost use Rattle.files.specs.Dense.{held, arrays};
+ghost use Rattle.files.specs.Rows.{cleared, stored, filled, filledRows, sizeEntries, startEntries, costEntries, conditionLists, effectLists};
+ghost use Rattle.files.specs.TaskFile.{pairsFrom, variablesFrom, actionsFrom, checkTask, taskOf, variablesIn, actionsIn};
+use crate::Outcome;
+use crate::bytes;
+use crate::records;
+use crate::task;
+
+// Clears the row of 64 entries at `base`.
+fn clear_row(row: &mut [u8], base: usize)
+    requires { ⌜ base + 64 ≤ length (now row) ⌝ }
+    ensures { λ r. ⌜ now (row .exit) ≡ cleared (now (row .entry)) base 64 ⌝ }
+{
+    let mut at = base;
+    let mut left: usize = 64;
+    while 0 < left {
+        row[at] = 255;
+        at += 1;
+        left -= 1;
+    }
+}
+
+// Stores a value in the entry of a variable below 64.
+fn store(row: &mut [u8], base: usize, variable: usize, value: usize)
+    requires { ⌜ base + 64 ≤ length (now row) ⌝ }
+    ensures { λ r. ⌜ now (row .exit) ≡ stored (now (row .entry)) base variable value ⌝ }
+{
+    if variable < 64 {
+        row[base + variable] = (value % 256) as u8;
+    }
+}
+
+// Stores the `count` pairs that stand at `at`.
+fn fill_row(row: &mut [u8], base: usize, s: &[u8], at: usize, count: usize)
+    requires { ⌜ (base + 64 ≤ length (now row)) × (at + 4 * count < 549755813888) ⌝ }
+    ensures { λ r. ⌜ now (row .exit) ≡ filled (now (row .entry)) base (pairsFrom (now (s .entry)) at count) ⌝ }
+{
+    let mut place = at;
+    let mut left = count;
+    while 0 < left {
+        let variable = bytes::u16_at(s, place);
+        let value = bytes::u16_at(s, place + 2);
+        store(row, base, variable, value);
+        place += 4;
+        left -= 1;
+    }
+}
+
+// The domain sizes and start values of `count` variables.
+fn read_variables(sizes: &mut [u8], starts: &mut [u8], s: &[u8], count: usize)
+    requires { ⌜ (count ≤ 64) × (64 ≤ length (now sizes)) × (64 ≤ length (now starts)) ⌝ }
+    ensures { λ r. ⌜ (now (sizes .exit) ≡ placed (now (sizes .entry)) 0 (sizeEntries (variablesFrom (now (s .entry)) 8 count))) × (now (starts .exit) ≡ placed (now (starts .entry)) 0 (startEntries (variablesFrom (now (s .entry)) 8 count))) ⌝ }
+{
+    let mut i: usize = 0;
+    let mut place: usize = 8;
+    let mut left = count;
+    while 0 < left {
+        sizes[i] = (bytes::u16_at(s, place + 4) % 256) as u8;
+        starts[i] = (bytes::u16_at(s, place + 6) % 256) as u8;
+        i += 1;
+        place += 8;
+        left -= 1;
+    }
+}
+
+// The costs of `count` actions from `at` on.
+fn read_costs(costs: &mut [u32], s: &[u8], at: usize, count: usize)
+    requires { ⌜ (count ≤ length (now costs)) × (at + 65540 * count < 274877906944) ⌝ }
+    ensures { λ r. ⌜ now (costs .exit) ≡ placed (now (costs .entry)) 0 (costEntries (actionsFrom (now (s .entry)) at count)) ⌝ }
+{
+    let mut i: usize = 0;
+    let mut place = at;
+    let mut left = count;
+    while 0 < left {
+        costs[i] = bytes::u32_at(s, place + 4) as u32;
+        i += 1;
+        place = records::record_end(s, place);
+        left -= 1;
+    }
+}
+
+// The conditions of `count` actions from `at` on, a row each.
+fn read_conditions(rows: &mut [u8], s: &[u8], at: usize, count: usize)
+    requires { ⌜ (64 * count ≤ length (now rows)) × (at + 65540 * count < 137438953472) ⌝ }
+    ensures { λ r. ⌜ now (rows .exit) ≡ filledRows (now (rows .entry)) 0 (conditionLists (actionsFrom (now (s .entry)) at count)) ⌝ }
+{
+    let mut base: usize = 0;
+    let mut place = at;
+    let mut left = count;
+    while 0 < left {
+        let pairs = task::conditions_in(s, place);
+        clear_row(rows, base);
+        fill_row(rows, base, s, place + 12, pairs);
+        base += 64;
+        place = records::record_end(s, place);
+        left -= 1;
+    }
+}
+
+// The effects of `count` actions from `at` on, a row each.
+fn read_effects(rows: &mut [u8], s: &[u8], at: usize, count: usize)
+    requires { ⌜ (64 * count ≤ length (now rows)) × (at + 65540 * count < 137438953472) ⌝ }
+    ensures { λ r. ⌜ now (rows .exit) ≡ filledRows (now (rows .entry)) 0 (effectLists (actionsFrom (now (s .entry)) at count)) ⌝ }
+{
+    let mut base: usize = 0;
+    let mut place = at;
+    let mut left = count;
+    while 0 < left {
+        let pairs = task::effects_in(s, place);
+        let from = task::effects_place(s, place);
+        clear_row(rows, base);
+        fill_row(rows, base, s, from, pairs);
+        base += 64;
+        place = records::record_end(s, place);
+        left -= 1;
+    }
+}
+
+// Checks a task file and, where it is accepted, reads its task into arrays.
+pub fn read_task(
+    file: &[u8],
+    sizes: &mut [u8; 64],
+    starts: &mut [u8; 64],
+    goal: &mut [u8; 64],
+    costs: &mut [u32; 512],
+    conditions: &mut [u8; 32768],
+    effects: &mut [u8; 32768],
+) -> Outcome
+    ensures outcome { λ r. ⌜ r ≡ checkTask (now (file .entry)) ⌝ }
+    ensures task { λ r. ⌜ (r .number ≡ 0 → held (arrays (variablesIn (now (file .entry))) (actionsIn (now (file .entry))) (now (sizes .exit)) (now (starts .exit)) (now (goal .exit)) (now (costs .exit)) (now (conditions .exit)) (now (effects .exit))) ≡ taskOf (now (file .entry))) ⌝ }
+{
+    let checked = crate::check_task(file);
+    if checked.number != 0 {
+        return checked;
+    }
+    let goal_at = task::goal_place(file);
+    let at = task::actions_place(file);
+    let actions = task::actions_in(file);
+    read_variables(sizes, starts, file, task::variables_in(file));
+    clear_row(goal, 0);
+    fill_row(
+        goal,
+        0,
+        file,
+        goal_at + 4,
+        records::body_length(file, goal_at) / 4,
+    );
+    read_costs(costs, file, at, actions);
+    read_conditions(conditions, file, at, actions);
+    read_effects(effects, file, at, actions);
+    checked
+}

@@ -1,0 +1,108 @@
+// Origin files: the check of each record in the order of refusals.
+ghost use mathlib.Core.Path.{_≡_};
+ghost use Prim.Native.Nat.{_+_, _*_, _<_, _≤_};
+ghost use Rattle.files.specs.OriginFile.{valuesIn, variableOriginAt, variableOriginsAt, actionOriginsAt, variableOriginsFrom, originVariablesIn, originActionsPlace};
+use crate::Outcome;
+use crate::bytes;
+use crate::outcomes;
+use crate::records;
+
+// How many values the variable origin at `at` gives.
+fn values_in(s: &[u8], at: usize) -> usize
+    requires { ⌜ at < 274877906944 ⌝ }
+    ensures { λ r. ⌜ (r ≡ valuesIn (now (s .entry)) at) × (r < 65536) ⌝ }
+{
+    let length = records::body_length(s, at);
+    if length < 2 {
+        return 0;
+    }
+    (length - 2) / 2
+}
+
+// The variable origin at `at`, whose variable is to be at least `low`.
+fn check_variable(s: &[u8], low: usize, at: usize) -> Outcome
+    requires { ⌜ at < 137438953472 ⌝ }
+    ensures { λ r. ⌜ r ≡ variableOriginAt (now (s .entry)) low at ⌝ }
+{
+    let head = records::check_head(s, at, 6);
+    if head.number != 0 {
+        return head;
+    }
+    let variable = bytes::u16_at(s, at + 4);
+    if variable < low {
+        return outcomes::refuse(6, at + 4);
+    }
+    if 64 <= variable {
+        return outcomes::refuse(5, at + 4);
+    }
+    records::check_numbers(32, s, at + 6, values_in(s, at))
+}
+
+// `count` variable origins from the file's start on.
+pub fn check_variables(s: &[u8], count: usize) -> Outcome
+    requires { ⌜ count < 1000000 ⌝ }
+    ensures { λ r. ⌜ r ≡ variableOriginsAt (now (s .entry)) 0 0 count ⌝ }
+{
+    let mut low: usize = 0;
+    let mut place: usize = 0;
+    let mut left = count;
+    while 0 < left {
+        let variable = check_variable(s, low, place);
+        if variable.number != 0 {
+            return variable;
+        }
+        low = bytes::u16_at(s, place + 4) + 1;
+        place = records::record_end(s, place);
+        left -= 1;
+    }
+    outcomes::done()
+}
+
+// `count` rising numbers of original actions.
+pub fn check_actions(s: &[u8], at: usize, count: usize) -> Outcome
+    requires { ⌜ at + 2 * count < 274877906944 ⌝ }
+    ensures { λ r. ⌜ r ≡ actionOriginsAt (now (s .entry)) 0 at count ⌝ }
+{
+    let mut low: usize = 0;
+    let mut place = at;
+    let mut left = count;
+    while 0 < left {
+        let action = bytes::u16_at(s, place);
+        if action < low {
+            return outcomes::refuse(6, place);
+        }
+        if 512 <= action {
+            return outcomes::refuse(5, place);
+        }
+        low = action + 1;
+        place += 2;
+        left -= 1;
+    }
+    outcomes::done()
+}
+
+// How many records of kind 6 stand in a row at the file's start, counted up to 65.
+pub fn variables_in(s: &[u8]) -> usize
+    ensures { λ r. ⌜ (r ≡ originVariablesIn (now (s .entry))) × (r ≤ 65) ⌝ }
+{
+    let mut found: usize = 0;
+    let mut place: usize = 0;
+    let mut left: usize = 65;
+    while 0 < left {
+        let kind = records::kind_at(s, place);
+        if kind != 6 {
+            return found;
+        }
+        found += 1;
+        place = records::record_end(s, place);
+        left -= 1;
+    }
+    found
+}
+
+// Where the record of kind 7 stands.
+pub fn actions_place(s: &[u8]) -> usize
+    ensures { λ r. ⌜ (r ≡ originActionsPlace (now (s .entry))) × (r < 8589934592) ⌝ }
+{
+    records::records_end(s, 0, variables_in(s))
+}

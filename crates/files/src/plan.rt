@@ -1,0 +1,94 @@
+// Plan files: read against a task's number of actions, and written step by step.
+ghost use mathlib.Core.Path.{_≡_};
+ghost use mathlib.Core.List.{_++_};
+ghost use Prim.Native.Nat.{_+_, _*_, _<_, _≤_};
+ghost use lib.ListN.{length, getD};
+ghost use Rattle.files.specs.Below.{tabulate};
+ghost use Rattle.files.specs.Bytes.{u16Bytes, placed};
+ghost use Rattle.files.specs.Outcome.{overwrite};
+ghost use Rattle.files.specs.PlanFile.{checkPlanFile, planOf, planFile};
+ghost use Rattle.files.specs.Records.{numberBytes};
+use crate::Outcome;
+use crate::bytes;
+use crate::outcomes;
+use crate::records;
+
+// Whether a file is a plan file for a task of so many actions.
+pub fn check(s: &[u8], actions: usize) -> Outcome
+    ensures { λ r. ⌜ r ≡ checkPlanFile actions (now (s .entry)) ⌝ }
+{
+    if 65536 < s.len() {
+        return outcomes::refuse(4, 0);
+    }
+    let head = records::check_head(s, 0, 8);
+    if head.number != 0 {
+        return head;
+    }
+    let numbers = records::check_numbers(actions, s, 4, records::body_length(s, 0) / 2);
+    if numbers.number != 0 {
+        return numbers;
+    }
+    records::check_sign_off(s, records::record_end(s, 0))
+}
+
+// How many steps a plan file holds.
+pub fn steps(s: &[u8]) -> usize
+    ensures { λ r. ⌜ (r ≡ length (planOf (now (s .entry)))) × (r < 32768) ⌝ }
+{
+    records::body_length(s, 0) / 2
+}
+
+// The action number of step `i`, which the file holds.
+pub fn step(s: &[u8], i: usize) -> usize
+    requires { ⌜ i < length (planOf (now s)) ⌝ }
+    ensures { λ r. ⌜ (r ≡ getD (planOf (now (s .entry))) i 0) × (r < 65536) ⌝ }
+{
+    bytes::u16_at(s, 4 + 2 * i)
+}
+
+// How many bytes the file of a plan of so many steps takes.
+pub fn needed(steps: usize) -> usize
+    requires { ⌜ steps ≤ 65536 ⌝ }
+    ensures { λ r. ⌜ r ≡ 16 + 2 * steps ⌝ }
+{
+    16 + 2 * steps
+}
+
+// Writes the head of a plan record of so many steps.
+pub fn put_head(buffer: &mut [u8], steps: usize)
+    requires { ⌜ (steps ≤ 65536) × (4 ≤ length (now buffer)) ⌝ }
+    ensures { λ r. ⌜ now (buffer .exit) ≡ placed (now (buffer .entry)) 0 (u16Bytes (2 * steps) ++ u16Bytes 8) ⌝ }
+{
+    records::put_head(buffer, 0, 8, 2 * steps);
+}
+
+// Writes step `i`.
+pub fn put_step(buffer: &mut [u8], i: usize, action: usize)
+    requires { ⌜ (i ≤ 65536) × (6 + 2 * i ≤ length (now buffer)) ⌝ }
+    ensures { λ r. ⌜ now (buffer .exit) ≡ placed (now (buffer .entry)) (4 + 2 * i) (u16Bytes action) ⌝ }
+{
+    bytes::put_u16(buffer, 4 + 2 * i, action);
+}
+
+// Writes the numbers of a plan's steps behind the head.
+fn put_steps(buffer: &mut [u8], plan: &[u16])
+    requires { ⌜ (length (now plan) ≤ 4096) × (4 + 2 * length (now plan) ≤ length (now buffer)) ⌝ }
+    ensures { λ r. ⌜ now (buffer .exit) ≡ placed (now (buffer .entry)) 4 (numberBytes (now (plan .entry))) ⌝ }
+{
+    let mut i: usize = 0;
+    while i < plan.len() {
+        put_step(buffer, i, plan[i] as usize);
+        i += 1;
+    }
+}
+
+// Writes the file of a plan under a signer.
+pub fn write(buffer: &mut [u8], plan: &[u16], signer: usize)
+    requires { ⌜ (length (now plan) ≤ 4096) × (16 + 2 * length (now plan) ≤ length (now buffer)) ⌝ }
+    ensures { λ r. ⌜ now (buffer .exit) ≡ overwrite (now (buffer .entry)) (planFile (now (plan .entry)) signer) ⌝ }
+{
+    let steps = plan.len();
+    put_head(buffer, steps);
+    put_steps(buffer, plan);
+    records::put_sign_off(buffer, 4 + 2 * steps, signer);
+}

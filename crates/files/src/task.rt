@@ -1,0 +1,254 @@
+// Task files: the check of each record in the order of refusals.
+ghost use mathlib.Core.Path.{_≡_};
+ghost use Prim.Native.Nat.{_+_, _*_, _<_, _≤_};
+ghost use lib.ListN.{length};
+ghost use Rattle.files.specs.Bytes.{u16At};
+ghost use Rattle.files.specs.TaskFile.{headerAt, variablesIn, actionsIn, variableAt, variablesAt, sizeAt, pairAt, pairsAt, goalAt, conditionsIn, effectsIn, actionLength, effectsPlace, actionFormAt, actionAt, actionsAt, goalPlace, actionsPlace, actionPlace};
+use crate::Outcome;
+use crate::bytes;
+use crate::outcomes;
+use crate::records;
+
+// The counts that a header states.
+pub fn variables_in(s: &[u8]) -> usize
+    ensures { λ r. ⌜ (r ≡ variablesIn (now (s .entry))) × (r < 65536) ⌝ }
+{
+    bytes::u16_at(s, 4)
+}
+
+pub fn actions_in(s: &[u8]) -> usize
+    ensures { λ r. ⌜ (r ≡ actionsIn (now (s .entry))) × (r < 65536) ⌝ }
+{
+    bytes::u16_at(s, 6)
+}
+
+pub fn check_header(s: &[u8]) -> Outcome
+    ensures { λ r. ⌜ r ≡ headerAt (now (s .entry)) ⌝ }
+{
+    let head = records::check_head(s, 0, 1);
+    if head.number != 0 {
+        return head;
+    }
+    let variables = bytes::u16_at(s, 4);
+    if 64 < variables {
+        return outcomes::refuse(4, 4);
+    }
+    let actions = bytes::u16_at(s, 6);
+    if 512 < actions {
+        return outcomes::refuse(4, 6);
+    }
+    outcomes::done()
+}
+
+fn check_variable(s: &[u8], at: usize) -> Outcome
+    requires { ⌜ at < 274877906944 ⌝ }
+    ensures { λ r. ⌜ r ≡ variableAt (now (s .entry)) at ⌝ }
+{
+    let head = records::check_head(s, at, 2);
+    if head.number != 0 {
+        return head;
+    }
+    let size = bytes::u16_at(s, at + 4);
+    if size < 1 {
+        return outcomes::refuse(4, at + 4);
+    }
+    if 32 < size {
+        return outcomes::refuse(4, at + 4);
+    }
+    let start = bytes::u16_at(s, at + 6);
+    if size <= start {
+        return outcomes::refuse(5, at + 6);
+    }
+    outcomes::done()
+}
+
+pub fn check_variables(s: &[u8], at: usize, count: usize) -> Outcome
+    requires { ⌜ at + 8 * count < 274877906944 ⌝ }
+    ensures { λ r. ⌜ r ≡ variablesAt (now (s .entry)) at count ⌝ }
+{
+    let mut place = at;
+    let mut left = count;
+    while 0 < left {
+        let variable = check_variable(s, place);
+        if variable.number != 0 {
+            return variable;
+        }
+        place += 8;
+        left -= 1;
+    }
+    outcomes::done()
+}
+
+// The domain size of the variable whose number stands at `at`.
+fn size_at(s: &[u8], at: usize) -> usize
+    requires { ⌜ at < 274877906944 ⌝ }
+    ensures { λ r. ⌜ r ≡ sizeAt (now (s .entry)) (u16At (now (s .entry)) at) ⌝ }
+{
+    let variable = bytes::u16_at(s, at);
+    bytes::u16_at(s, 8 * variable + 8 + 4)
+}
+
+// The pair at `at`, whose variable is to be at least `low`.
+fn check_pair(s: &[u8], low: usize, at: usize) -> Outcome
+    requires { ⌜ at < 274877906944 ⌝ }
+    ensures { λ r. ⌜ r ≡ pairAt (now (s .entry)) low at ⌝ }
+{
+    let variable = bytes::u16_at(s, at);
+    if variable < low {
+        return outcomes::refuse(6, at);
+    }
+    let variables = variables_in(s);
+    if variables <= variable {
+        return outcomes::refuse(5, at);
+    }
+    let value = bytes::u16_at(s, at + 2);
+    let size = size_at(s, at);
+    if size <= value {
+        return outcomes::refuse(5, at + 2);
+    }
+    outcomes::done()
+}
+
+// `count` pairs whose variables strictly rise.
+fn check_pairs(s: &[u8], at: usize, count: usize) -> Outcome
+    requires { ⌜ at + 4 * count < 274877906944 ⌝ }
+    ensures { λ r. ⌜ r ≡ pairsAt (now (s .entry)) 0 at count ⌝ }
+{
+    let mut low: usize = 0;
+    let mut place = at;
+    let mut left = count;
+    while 0 < left {
+        let pair = check_pair(s, low, place);
+        if pair.number != 0 {
+            return pair;
+        }
+        low = bytes::u16_at(s, place) + 1;
+        place += 4;
+        left -= 1;
+    }
+    outcomes::done()
+}
+
+pub fn check_goal(s: &[u8], at: usize) -> Outcome
+    requires { ⌜ at < 137438953472 ⌝ }
+    ensures { λ r. ⌜ r ≡ goalAt (now (s .entry)) at ⌝ }
+{
+    let head = records::check_head(s, at, 3);
+    if head.number != 0 {
+        return head;
+    }
+    check_pairs(s, at + 4, records::body_length(s, at) / 4)
+}
+
+// The counts of an action record.
+pub fn conditions_in(s: &[u8], at: usize) -> usize
+    requires { ⌜ at < 274877906944 ⌝ }
+    ensures { λ r. ⌜ (r ≡ conditionsIn (now (s .entry)) at) × (r < 65536) ⌝ }
+{
+    bytes::u16_at(s, at + 8)
+}
+
+pub fn effects_in(s: &[u8], at: usize) -> usize
+    requires { ⌜ at < 274877906944 ⌝ }
+    ensures { λ r. ⌜ (r ≡ effectsIn (now (s .entry)) at) × (r < 65536) ⌝ }
+{
+    bytes::u16_at(s, at + 10)
+}
+
+// Where the effects of the action record at `at` stand.
+pub fn effects_place(s: &[u8], at: usize) -> usize
+    requires { ⌜ at < 274877906944 ⌝ }
+    ensures { λ r. ⌜ (r ≡ effectsPlace (now (s .entry)) at) × (r < at + 262152) ⌝ }
+{
+    at + 12 + 4 * conditions_in(s, at)
+}
+
+// The body length that an action's counts ask for.
+fn action_length(s: &[u8], at: usize) -> usize
+    requires { ⌜ at < 274877906944 ⌝ }
+    ensures { λ r. ⌜ r ≡ actionLength (now (s .entry)) at ⌝ }
+{
+    8 + 4 * conditions_in(s, at) + 4 * effects_in(s, at)
+}
+
+// An action's cost, counts and body length.
+fn check_action_form(s: &[u8], at: usize) -> Outcome
+    requires { ⌜ at < 137438953472 ⌝ }
+    ensures { λ r. ⌜ r ≡ actionFormAt (now (s .entry)) at ⌝ }
+{
+    let cost = bytes::u32_at(s, at + 4);
+    if 1000000 < cost {
+        return outcomes::refuse(4, at + 4);
+    }
+    let conditions = conditions_in(s, at);
+    if 64 < conditions {
+        return outcomes::refuse(4, at + 8);
+    }
+    let effects = effects_in(s, at);
+    if 64 < effects {
+        return outcomes::refuse(4, at + 10);
+    }
+    let length = records::body_length(s, at);
+    let due = action_length(s, at);
+    if length != due {
+        return outcomes::refuse(3, at);
+    }
+    outcomes::done()
+}
+
+fn check_action(s: &[u8], at: usize) -> Outcome
+    requires { ⌜ at < 137438953472 ⌝ }
+    ensures { λ r. ⌜ r ≡ actionAt (now (s .entry)) at ⌝ }
+{
+    let head = records::check_head(s, at, 4);
+    if head.number != 0 {
+        return head;
+    }
+    let form = check_action_form(s, at);
+    if form.number != 0 {
+        return form;
+    }
+    let conditions = check_pairs(s, at + 12, conditions_in(s, at));
+    if conditions.number != 0 {
+        return conditions;
+    }
+    check_pairs(s, effects_place(s, at), effects_in(s, at))
+}
+
+// `count` actions from `at` on, and the sign-off behind them.
+pub fn check_actions(s: &[u8], at: usize, count: usize) -> Outcome
+    requires { ⌜ at + 65540 * count < 137438953472 ⌝ }
+    ensures { λ r. ⌜ r ≡ actionsAt (now (s .entry)) at count ⌝ }
+{
+    let mut place = at;
+    let mut left = count;
+    while 0 < left {
+        let action = check_action(s, place);
+        if action.number != 0 {
+            return action;
+        }
+        place = records::record_end(s, place);
+        left -= 1;
+    }
+    records::check_sign_off(s, place)
+}
+
+// Where the goal, the first action and action `a` stand.
+pub fn goal_place(s: &[u8]) -> usize
+    ensures { λ r. ⌜ (r ≡ goalPlace (now (s .entry))) × (r < 600000) ⌝ }
+{
+    8 * variables_in(s) + 8
+}
+
+pub fn actions_place(s: &[u8]) -> usize
+    ensures { λ r. ⌜ (r ≡ actionsPlace (now (s .entry))) × (r < 700000) ⌝ }
+{
+    records::record_end(s, goal_place(s))
+}
+
+pub fn action_place(s: &[u8], a: usize) -> usize
+    requires { ⌜ a < 65536 ⌝ }
+    ensures { λ r. ⌜ (r ≡ actionPlace (now (s .entry)) a) × (r < 8589934592) ⌝ }
+{
+    records::records_end(s, actions_place(s), a)
+}
