@@ -11,3 +11,6 @@ pub mod OriginRoundTrip
 pub mod PlanRoundTrip
 pub mod Tabulate
 pub mod RowLaws
+pub mod Logic
+pub mod HeldLaws
+pub mod Decoding

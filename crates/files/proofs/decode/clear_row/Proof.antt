@@ -1,45 +1,45 @@
+-- The loop's invariant: clearing what is left of the row gives the whole row cleared.
+use Prim.Native.Nat.{ℕ, _+_, _*_, _-_, _≤_, _<_}
+use mathlib.Core.Path.{_≡_, refl, sym, ap, _∙_}
+use native.Mathlib.Omega.{arith}
+use lib.ListN.{length, length-set}
+use Rattle.files.specs.Rows.{cleared}
+use Rattle.files.proofs.Decoding.{cleared-next, cleared-none}
+use borrow.Author.Needs.{needs}
 use Rattle.files.proofs.decode.clear_row.Statement.{statement}
 use Rattle.files.proofs.decode.clear_row.Tie as tie
-use Rattle.files.proofs.decode.clear_row.Reads as reads
-use Rattle.files.proofs.decode.clear_row.Lts as lts
 
 abbrev Inv-loop : tie.InvT-loop
-Inv-loop row₀ base at₀ left₀ row at left = ?
+Inv-loop row₀ base at₀ left₀ row at left =
+    (cleared row at left ≡ cleared row₀ base 64) × (at + left ≤ length row) × (length row ≡ length row₀)
 
 abbrev μ-loop : tie.MeasureT-loop
-μ-loop row₀ base at₀ left₀ row at left = ?
+μ-loop row₀ base at₀ left₀ row at left =
+    left
 
--- src/decode.rt:22:5
 loop-holds : tie.Need-loop-holds Inv-loop μ-loop
-loop-holds c = ?
+loop-holds c = (refl, search needs, refl)
 
--- src/decode.rt:23:9
 slice-write-row : tie.Need-slice-write-row Inv-loop μ-loop
-slice-write-row c = ?
+slice-write-row c = search needs
 
--- src/decode.rt:24:9
 add-at : tie.Need-add-at Inv-loop μ-loop
-add-at c = ?
+add-at c = search needs
 
--- src/decode.rt:25:9
 sub-left : tie.Need-sub-left Inv-loop μ-loop
-sub-left c = ?
+sub-left c = search needs
 
--- src/decode.rt:22:5
 loop-less : tie.Need-loop-less Inv-loop μ-loop
-loop-less c = ?
+loop-less c = search needs
 
--- src/decode.rt:22:5
 loop-again : tie.Need-loop-again Inv-loop μ-loop
-loop-again c = ?
+loop-again c = (cleared-next _ _ _ (c .loop-test .taken) ∙ c .before .loop .inv .0, omega (arith, length-set (c .before .loop .row) (c .before .loop .at) 255), length-set (c .before .loop .row) (c .before .loop .at) 255 ∙ c .before .loop .inv .2)
 
--- src/decode.rt:16:1
 same-length : tie.Need-same-length Inv-loop μ-loop
-same-length c = ?
+same-length c = c .before .loop .inv .2
 
--- src/decode.rt:16:1
 returns : tie.Need-returns Inv-loop μ-loop
-returns c = ?
+returns c = cleared-none _ _ _ (c .loop-test .left) ∙ c .before .loop .inv .0
 
 pub clear-row-spec : {M : Type 1} → statement M
 clear-row-spec =

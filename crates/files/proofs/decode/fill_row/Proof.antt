@@ -1,59 +1,57 @@
+-- The loop's invariant: filling in the pairs that are left gives the row with all of them.
+use Prim.Native.Nat.{ℕ, _+_, _*_, _-_, _≤_, _<_}
+use mathlib.Core.Path.{_≡_, refl, sym, ap, _∙_}
+use native.Mathlib.Omega.{arith}
+use lib.ListN.{length, length-set}
+use Rattle.files.specs.TaskFile.{pairsFrom}
+use Rattle.files.specs.Rows.{filled}
+use Rattle.files.proofs.Decoding.{filled-next, filled-none}
+use borrow.Author.Needs.{needs}
 use Rattle.files.proofs.decode.fill_row.Statement.{statement}
 use Rattle.files.proofs.decode.fill_row.Tie as tie
-use Rattle.files.proofs.decode.fill_row.Reads as reads
-use Rattle.files.proofs.decode.fill_row.Lts as lts
-use Rattle.files.proofs.bytes.u16_at.Reads as u16-at-reads
-use Rattle.files.proofs.decode.store.Reads as store-reads
 
 abbrev Inv-loop : tie.InvT-loop
-Inv-loop row₀ base s at count place₀ left₀ row place left = ?
+Inv-loop row₀ base s at count place₀ left₀ row place left =
+    (filled row base (pairsFrom s place left) ≡ filled row₀ base (pairsFrom s at count)) × (base + 64 ≤ length row) × (place + 4 * left < 549755813888) × (length row ≡ length row₀)
 
 abbrev μ-loop : tie.MeasureT-loop
-μ-loop row₀ base s at count place₀ left₀ row place left = ?
+μ-loop row₀ base s at count place₀ left₀ row place left =
+    left
 
--- src/decode.rt:46:5
 loop-holds : tie.Need-loop-holds Inv-loop μ-loop
-loop-holds c = ?
+loop-holds c = (refl, search needs, search needs, refl)
 
--- src/decode.rt:47:13
 u16-at-requires : tie.Need-u16-at-requires Inv-loop μ-loop
-u16-at-requires c κs = ?
+u16-at-requires c κs = search needs
 
--- src/decode.rt:48:38
 add-u16-at : tie.Need-add-u16-at Inv-loop μ-loop
-add-u16-at c = ?
+add-u16-at c = search needs
 
--- src/decode.rt:48:13
 u16-at-requires-2 : tie.Need-u16-at-requires-2 Inv-loop μ-loop
-u16-at-requires-2 c κs = ?
+u16-at-requires-2 c κs = search needs
 
--- src/decode.rt:49:9
 store-requires : tie.Need-store-requires Inv-loop μ-loop
-store-requires c κs = ?
+store-requires c κs = search needs
 
--- src/decode.rt:50:9
 add-place : tie.Need-add-place Inv-loop μ-loop
-add-place c = ?
+add-place c = search needs
 
--- src/decode.rt:51:9
 sub-left : tie.Need-sub-left Inv-loop μ-loop
-sub-left c = ?
+sub-left c = search needs
 
--- src/decode.rt:46:5
 loop-less : tie.Need-loop-less Inv-loop μ-loop
-loop-less c = ?
+loop-less c = search needs
 
--- src/decode.rt:46:5
 loop-again : tie.Need-loop-again Inv-loop μ-loop
-loop-again c = ?
+loop-again c =
+    let v = c .before .before .before .before .before .before .before .loop in
+    (filled-next _ _ _ _ _ _ _ _ (c .before .before .before .before .before .before .loop-test .taken) (c .before .before .before .before .before .u16-at .ensures .0) (c .before .before .before .before .u16-at2 .ensures .0) (c .before .before .store .ensures) ∙ v .inv .0, omega arith, omega arith, omega arith)
 
--- src/decode.rt:40:1
 same-length : tie.Need-same-length Inv-loop μ-loop
-same-length c = ?
+same-length c = c .before .loop .inv .3
 
--- src/decode.rt:40:1
 returns : tie.Need-returns Inv-loop μ-loop
-returns c = ?
+returns c = filled-none _ _ _ _ _ (c .loop-test .left) ∙ c .before .loop .inv .0
 
 pub fill-row-spec : {M : Type 1} → statement M
 fill-row-spec =

@@ -1,67 +1,65 @@
+-- The loop's invariant: placing the costs that are left gives all of them placed.
+use Prim.Native.Nat.{ℕ, _+_, _*_, _-_, _≤_, _<_}
+use mathlib.Core.Path.{_≡_, refl, sym, ap, _∙_}
+use native.Mathlib.Omega.{arith}
+use lib.ListN.{length, length-set}
+use Rattle.files.specs.Bytes.{placed}
+use Rattle.files.specs.TaskFile.{actionsFrom}
+use Rattle.files.specs.Rows.{costEntries}
+use Rattle.files.proofs.Decoding.{costs-next, costs-none}
+use borrow.Author.Needs.{needs}
 use Rattle.files.proofs.decode.read_costs.Statement.{statement}
 use Rattle.files.proofs.decode.read_costs.Tie as tie
-use Rattle.files.proofs.decode.read_costs.Reads as reads
-use Rattle.files.proofs.decode.read_costs.Lts as lts
-use Rattle.files.proofs.bytes.u32_at.Reads as u32-at-reads
-use Rattle.files.proofs.records.record_end.Reads as record-end-reads
 
 abbrev Inv-loop : tie.InvT-loop
-Inv-loop costs₀ s at count i₀ place₀ left₀ costs i place left = ?
+Inv-loop costs₀ s at count i₀ place₀ left₀ costs i place left =
+    (placed costs i (costEntries (actionsFrom s place left)) ≡ placed costs₀ 0 (costEntries (actionsFrom s at count))) × (i + left ≤ length costs) × (place + 65540 * left < 274877906944) × (length costs ≡ length costs₀)
 
 abbrev μ-loop : tie.MeasureT-loop
-μ-loop costs₀ s at count i₀ place₀ left₀ costs i place left = ?
+μ-loop costs₀ s at count i₀ place₀ left₀ costs i place left =
+    left
 
--- src/decode.rt:80:5
 loop-holds : tie.Need-loop-holds Inv-loop μ-loop
-loop-holds c = ?
+loop-holds c = (refl, search needs, search needs, refl)
 
--- src/decode.rt:81:37
 add-u32-at : tie.Need-add-u32-at Inv-loop μ-loop
-add-u32-at c = ?
+add-u32-at c = search needs
 
--- src/decode.rt:81:20
 u32-at-requires : tie.Need-u32-at-requires Inv-loop μ-loop
-u32-at-requires c κs = ?
+u32-at-requires c κs = search needs
 
--- src/decode.rt:81:20
 cast-costs : tie.Need-cast-costs Inv-loop μ-loop
-cast-costs c = ?
+cast-costs c = search needs
 
--- src/decode.rt:81:9
 mul-costs : tie.Need-mul-costs Inv-loop μ-loop
-mul-costs c = ?
+mul-costs c = search needs
 
--- src/decode.rt:81:9
 slice-write-costs : tie.Need-slice-write-costs Inv-loop μ-loop
-slice-write-costs c = ?
+slice-write-costs c = search needs
 
--- src/decode.rt:82:9
 add-i : tie.Need-add-i Inv-loop μ-loop
-add-i c = ?
+add-i c = search needs
 
--- src/decode.rt:83:9
 record-end-requires : tie.Need-record-end-requires Inv-loop μ-loop
-record-end-requires c κs = ?
+record-end-requires c κs = search needs
 
--- src/decode.rt:84:9
 sub-left : tie.Need-sub-left Inv-loop μ-loop
-sub-left c = ?
+sub-left c = search needs
 
--- src/decode.rt:80:5
 loop-less : tie.Need-loop-less Inv-loop μ-loop
-loop-less c = ?
+loop-less c = search needs
 
--- src/decode.rt:80:5
 loop-again : tie.Need-loop-again Inv-loop μ-loop
-loop-again c = ?
+loop-again c =
+    let v = c .before .before .before .loop in
+    let same = length-set (v .costs) (v .i) (c .before .u32-at .result) in
+    (costs-next _ _ _ _ _ _ _ (c .before .before .loop-test .taken) (c .before .u32-at .ensures .0) (c .record-end .ensures .0) ∙ v .inv .0, omega arith, omega arith, same ∙ v .inv .3)
 
--- src/decode.rt:73:1
 same-length : tie.Need-same-length Inv-loop μ-loop
-same-length c = ?
+same-length c = c .before .loop .inv .3
 
--- src/decode.rt:73:1
 returns : tie.Need-returns Inv-loop μ-loop
-returns c = ?
+returns c = costs-none _ _ _ _ _ (c .loop-test .left) ∙ c .before .loop .inv .0
 
 pub read-costs-spec : {M : Type 1} → statement M
 read-costs-spec =

@@ -1,82 +1,83 @@
+-- The loop's invariant: placing what is left of the sizes and the starts gives all of them placed.
+use Prim.Native.Nat.{ℕ, _+_, _*_, _-_, _≤_, _<_}
+use mathlib.Core.Path.{_≡_, refl, sym, ap, _∙_}
+use native.Mathlib.Omega.{arith}
+use lib.ListN.{length, length-set}
+use Rattle.files.specs.Bytes.{placed}
+use Rattle.files.specs.TaskFile.{variablesFrom}
+use Rattle.files.specs.Rows.{sizeEntries, startEntries}
+use Rattle.files.proofs.Decoding.{sizes-next, sizes-none, starts-next, starts-none}
+use borrow.Author.Needs.{needs}
 use Rattle.files.proofs.decode.read_variables.Statement.{statement}
 use Rattle.files.proofs.decode.read_variables.Tie as tie
-use Rattle.files.proofs.decode.read_variables.Reads as reads
-use Rattle.files.proofs.decode.read_variables.Lts as lts
-use Rattle.files.proofs.bytes.u16_at.Reads as u16-at-reads
 
 abbrev Inv-loop : tie.InvT-loop
-Inv-loop sizes₀ starts₀ s count i₀ place₀ left₀ sizes starts i place left = ?
+Inv-loop sizes₀ starts₀ s count i₀ place₀ left₀ sizes starts i place left =
+    (placed sizes i (sizeEntries (variablesFrom s place left)) ≡ placed sizes₀ 0 (sizeEntries (variablesFrom s 8 count)))
+    × (placed starts i (startEntries (variablesFrom s place left)) ≡ placed starts₀ 0 (startEntries (variablesFrom s 8 count)))
+    × ((i + left ≤ 64) × (place + 8 * left ≤ 520))
+    × (length sizes ≡ length sizes₀)
+    × (length starts ≡ length starts₀)
 
 abbrev μ-loop : tie.MeasureT-loop
-μ-loop sizes₀ starts₀ s count i₀ place₀ left₀ sizes starts i place left = ?
+μ-loop sizes₀ starts₀ s count i₀ place₀ left₀ sizes starts i place left =
+    left
 
--- src/decode.rt:63:5
 loop-holds : tie.Need-loop-holds Inv-loop μ-loop
-loop-holds c = ?
+loop-holds c = (refl, refl, search needs, refl, refl)
 
--- src/decode.rt:64:38
 add-u16-at : tie.Need-add-u16-at Inv-loop μ-loop
-add-u16-at c = ?
+add-u16-at c = search needs
 
--- src/decode.rt:64:21
 u16-at-requires : tie.Need-u16-at-requires Inv-loop μ-loop
-u16-at-requires c κs = ?
+u16-at-requires c κs = search needs
 
--- src/decode.rt:64:20
 cast-sizes : tie.Need-cast-sizes Inv-loop μ-loop
-cast-sizes c = ?
+cast-sizes c = search needs
 
--- src/decode.rt:64:9
 slice-write-sizes : tie.Need-slice-write-sizes Inv-loop μ-loop
-slice-write-sizes c = ?
+slice-write-sizes c = search needs
 
--- src/decode.rt:65:39
 add-u16-at-2 : tie.Need-add-u16-at-2 Inv-loop μ-loop
-add-u16-at-2 c = ?
+add-u16-at-2 c = search needs
 
--- src/decode.rt:65:22
 u16-at-requires-2 : tie.Need-u16-at-requires-2 Inv-loop μ-loop
-u16-at-requires-2 c κs = ?
+u16-at-requires-2 c κs = search needs
 
--- src/decode.rt:65:21
 cast-starts : tie.Need-cast-starts Inv-loop μ-loop
-cast-starts c = ?
+cast-starts c = search needs
 
--- src/decode.rt:65:9
 slice-write-starts : tie.Need-slice-write-starts Inv-loop μ-loop
-slice-write-starts c = ?
+slice-write-starts c = search needs
 
--- src/decode.rt:66:9
 add-i : tie.Need-add-i Inv-loop μ-loop
-add-i c = ?
+add-i c = search needs
 
--- src/decode.rt:67:9
 add-place : tie.Need-add-place Inv-loop μ-loop
-add-place c = ?
+add-place c = search needs
 
--- src/decode.rt:68:9
 sub-left : tie.Need-sub-left Inv-loop μ-loop
-sub-left c = ?
+sub-left c = search needs
 
--- src/decode.rt:63:5
 loop-less : tie.Need-loop-less Inv-loop μ-loop
-loop-less c = ?
+loop-less c = search needs
 
--- src/decode.rt:63:5
 loop-again : tie.Need-loop-again Inv-loop μ-loop
-loop-again c = ?
+loop-again c =
+    let v = c .before .before .before .loop in
+    let t = c .before .before .loop-test .taken in
+    let size = length-set (v .sizes) (v .i) (c .before .u16-at .result % 256) in
+    let start = length-set (v .starts) (v .i) (c .u16-at2 .result % 256) in
+    (sizes-next _ _ _ _ _ _ t (c .before .u16-at .ensures .0) ∙ v .inv .0, starts-next _ _ _ _ _ _ t (c .u16-at2 .ensures .0) ∙ v .inv .1, omega arith, size ∙ v .inv .3, start ∙ v .inv .4)
 
--- src/decode.rt:56:1
 same-length : tie.Need-same-length Inv-loop μ-loop
-same-length c = ?
+same-length c = c .before .loop .inv .3
 
--- src/decode.rt:56:1
 same-length-2 : tie.Need-same-length-2 Inv-loop μ-loop
-same-length-2 c = ?
+same-length-2 c = c .before .loop .inv .4
 
--- src/decode.rt:56:1
 returns : tie.Need-returns Inv-loop μ-loop
-returns c = ?
+returns c = (sizes-none _ _ _ _ _ (c .loop-test .left) ∙ c .before .loop .inv .0, starts-none _ _ _ _ _ (c .loop-test .left) ∙ c .before .loop .inv .1)
 
 pub read-variables-spec : {M : Type 1} → statement M
 read-variables-spec =
