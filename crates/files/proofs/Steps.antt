@@ -1,1 +1,176 @@
--- How the recursive checks go, step by step, in the form that a loop counting down wants.
+-- How the recursive checks go, step by step, as a loop that counts down wants it: what holds of the definition from
+-- here on, `whole`, holds again one entry further on, or is what the loop returns.
+use Prim.Native.Nat.{ℕ, zero, suc, _+_, _*_, _-_, _≤_, _<_}
+use mathlib.Core.Path.{_≡_, refl, sym, ap, _∙_}
+use mathlib.Core.Bool.{cond}
+use mathlib.Core.List.{List}
+use native.Mathlib.Omega.{arith}
+use lib.Dec.{leb, ltb, eqb}
+use lib.ListN.{length, getD}
+use borrow.Author.Tests.{eq-eqb, ne-eqb}
+use Rattle.files.specs.declared.Outcome.{Outcome}
+use Rattle.files.specs.Bytes.{u16At}
+use Rattle.files.specs.Outcome.{done, refusal, guard, andThen}
+use Rattle.files.specs.Records.{kindAt, recordEnd, recordsEnd, numbersAt, signOffAt, numbersFrom}
+use Rattle.files.specs.TaskFile.{variableAt, variablesAt, pairAt, pairsAt, actionAt, actionsAt}
+use Rattle.files.specs.OriginFile.{variableOriginAt, variableOriginsAt, actionOriginsAt, variableOriginsFrom}
+use Rattle.files.proofs.Guards.{goes-le, stops-le, goes-lt, stops-lt, goes-on, stops}
+use Rattle.files.proofs.Countdown.{one-more, none-left}
+
+-- records: the place behind them
+pub records-none : (s : List ℕ) (at k whole : ℕ) → recordsEnd s at k ≡ whole → k ≤ 0 → at ≡ whole
+unfolding recordsEnd
+records-none s at k whole w h = sym (ap (recordsEnd s at) (none-left k h)) ∙ w
+
+pub records-next : (s : List ℕ) (at k whole next : ℕ) → recordsEnd s at k ≡ whole → 0 < k → next ≡ recordEnd s at → recordsEnd s next (k - 1) ≡ whole
+unfolding recordsEnd
+records-next s at k whole next w h e =
+    ap (λ (p : ℕ). recordsEnd s p (k - 1)) e ∙ sym (ap (recordsEnd s at) (one-more k h)) ∙ w
+
+-- numbers below a limit
+numbers-step : (limit : ℕ) (s : List ℕ) (at k : ℕ) → 0 < k → numbersAt limit s at k ≡ guard (ltb (u16At s at) limit) 5 at (numbersAt limit s (at + 2) (k - 1))
+unfolding numbersAt
+numbers-step limit s at k h = ap (numbersAt limit s at) (one-more k h)
+
+pub numbers-none : (limit : ℕ) (s : List ℕ) (at k : ℕ) (whole r : Outcome) → numbersAt limit s at k ≡ whole → k ≤ 0 → r ≡ done → r ≡ whole
+unfolding numbersAt
+numbers-none limit s at k whole r w h e = e ∙ sym (ap (numbersAt limit s at) (none-left k h)) ∙ w
+
+pub numbers-stop : (limit : ℕ) (s : List ℕ) (at k : ℕ) (whole : Outcome) (n : ℕ) (r : Outcome) → numbersAt limit s at k ≡ whole → 0 < k → n ≡ u16At s at → limit ≤ n → r ≡ refusal 5 at → r ≡ whole
+numbers-stop limit s at k whole n r w h e l f =
+    stops-lt _ _ 5 at _ r n limit e refl l f ∙ sym (numbers-step limit s at k h) ∙ w
+
+pub numbers-next : (limit : ℕ) (s : List ℕ) (at k : ℕ) (whole : Outcome) (n : ℕ) → numbersAt limit s at k ≡ whole → 0 < k → n ≡ u16At s at → n < limit → numbersAt limit s (at + 2) (k - 1) ≡ whole
+numbers-next limit s at k whole n w h e l =
+    goes-lt _ _ 5 at _ _ n limit e refl l refl ∙ sym (numbers-step limit s at k h) ∙ w
+
+-- the numbers that are read: how many, and each
+pub numbers-length : (s : List ℕ) (at k : ℕ) → length (numbersFrom s at k) ≡ k
+unfolding numbersFrom
+numbers-length s at zero = refl
+numbers-length s at (suc k) = ap suc (numbers-length s (at + 2) k)
+
+pub numbers-entry : (s : List ℕ) (at k i : ℕ) → i < k → getD (numbersFrom s at k) i 0 ≡ u16At s (at + 2 * i)
+unfolding numbersFrom
+numbers-entry s at zero i h = absurd (omega arith)
+numbers-entry s at (suc k) zero h = ap (u16At s) (omega arith)
+numbers-entry s at (suc k) (suc i) h = numbers-entry s (at + 2) k i (omega arith) ∙ ap (u16At s) (omega arith)
+
+-- variables
+variables-step : (s : List ℕ) (at k : ℕ) → 0 < k → variablesAt s at k ≡ andThen (variableAt s at) (variablesAt s (at + 8) (k - 1))
+unfolding variablesAt
+variables-step s at k h = ap (variablesAt s at) (one-more k h)
+
+pub variables-none : (s : List ℕ) (at k : ℕ) (whole r : Outcome) → variablesAt s at k ≡ whole → k ≤ 0 → r ≡ done → r ≡ whole
+unfolding variablesAt
+variables-none s at k whole r w h e = e ∙ sym (ap (variablesAt s at) (none-left k h)) ∙ w
+
+pub variables-stop : (s : List ℕ) (at k : ℕ) (whole r : Outcome) → variablesAt s at k ≡ whole → 0 < k → r ≡ variableAt s at → (r .number ≡ 0 → ⊥) → r ≡ whole
+variables-stop s at k whole r w h e d = stops _ _ r e d ∙ sym (variables-step s at k h) ∙ w
+
+pub variables-next : (s : List ℕ) (at k : ℕ) (whole r : Outcome) → variablesAt s at k ≡ whole → 0 < k → r ≡ variableAt s at → r .number ≡ 0 → variablesAt s (at + 8) (k - 1) ≡ whole
+variables-next s at k whole r w h e z = goes-on _ _ _ r e z refl ∙ sym (variables-step s at k h) ∙ w
+
+-- pairs
+pairs-step : (s : List ℕ) (low at k : ℕ) → 0 < k → pairsAt s low at k ≡ andThen (pairAt s low at) (pairsAt s (u16At s at + 1) (at + 4) (k - 1))
+unfolding pairsAt
+pairs-step s low at k h = ap (pairsAt s low at) (one-more k h)
+
+pub pairs-none : (s : List ℕ) (low at k : ℕ) (whole r : Outcome) → pairsAt s low at k ≡ whole → k ≤ 0 → r ≡ done → r ≡ whole
+unfolding pairsAt
+pairs-none s low at k whole r w h e = e ∙ sym (ap (pairsAt s low at) (none-left k h)) ∙ w
+
+pub pairs-stop : (s : List ℕ) (low at k : ℕ) (whole r : Outcome) → pairsAt s low at k ≡ whole → 0 < k → r ≡ pairAt s low at → (r .number ≡ 0 → ⊥) → r ≡ whole
+pairs-stop s low at k whole r w h e d = stops _ _ r e d ∙ sym (pairs-step s low at k h) ∙ w
+
+pub pairs-next : (s : List ℕ) (low at k : ℕ) (whole r : Outcome) (variable : ℕ) → pairsAt s low at k ≡ whole → 0 < k → r ≡ pairAt s low at → r .number ≡ 0 → variable ≡ u16At s at → pairsAt s (variable + 1) (at + 4) (k - 1) ≡ whole
+pairs-next s low at k whole r variable w h e z f =
+    ap (λ (v : ℕ). pairsAt s (v + 1) (at + 4) (k - 1)) f
+    ∙ goes-on _ _ _ r e z refl
+    ∙ sym (pairs-step s low at k h)
+    ∙ w
+
+-- actions, and the sign-off behind them
+actions-step : (s : List ℕ) (at k : ℕ) → 0 < k → actionsAt s at k ≡ andThen (actionAt s at) (actionsAt s (recordEnd s at) (k - 1))
+unfolding actionsAt
+actions-step s at k h = ap (actionsAt s at) (one-more k h)
+
+pub actions-none : (s : List ℕ) (at k : ℕ) (whole r : Outcome) → actionsAt s at k ≡ whole → k ≤ 0 → r ≡ signOffAt s at → r ≡ whole
+unfolding actionsAt
+actions-none s at k whole r w h e = e ∙ sym (ap (actionsAt s at) (none-left k h)) ∙ w
+
+pub actions-stop : (s : List ℕ) (at k : ℕ) (whole r : Outcome) → actionsAt s at k ≡ whole → 0 < k → r ≡ actionAt s at → (r .number ≡ 0 → ⊥) → r ≡ whole
+actions-stop s at k whole r w h e d = stops _ _ r e d ∙ sym (actions-step s at k h) ∙ w
+
+pub actions-next : (s : List ℕ) (at k : ℕ) (whole r : Outcome) (next : ℕ) → actionsAt s at k ≡ whole → 0 < k → r ≡ actionAt s at → r .number ≡ 0 → next ≡ recordEnd s at → actionsAt s next (k - 1) ≡ whole
+actions-next s at k whole r next w h e z f =
+    ap (λ (p : ℕ). actionsAt s p (k - 1)) f
+    ∙ goes-on _ _ _ r e z refl
+    ∙ sym (actions-step s at k h)
+    ∙ w
+
+-- variable origins
+variable-origins-step : (s : List ℕ) (low at k : ℕ) → 0 < k → variableOriginsAt s low at k ≡ andThen (variableOriginAt s low at) (variableOriginsAt s (u16At s (at + 4) + 1) (recordEnd s at) (k - 1))
+unfolding variableOriginsAt
+variable-origins-step s low at k h = ap (variableOriginsAt s low at) (one-more k h)
+
+pub variable-origins-none : (s : List ℕ) (low at k : ℕ) (whole r : Outcome) → variableOriginsAt s low at k ≡ whole → k ≤ 0 → r ≡ done → r ≡ whole
+unfolding variableOriginsAt
+variable-origins-none s low at k whole r w h e = e ∙ sym (ap (variableOriginsAt s low at) (none-left k h)) ∙ w
+
+pub variable-origins-stop : (s : List ℕ) (low at k : ℕ) (whole r : Outcome) → variableOriginsAt s low at k ≡ whole → 0 < k → r ≡ variableOriginAt s low at → (r .number ≡ 0 → ⊥) → r ≡ whole
+variable-origins-stop s low at k whole r w h e d = stops _ _ r e d ∙ sym (variable-origins-step s low at k h) ∙ w
+
+pub variable-origins-next : (s : List ℕ) (low at k : ℕ) (whole r : Outcome) (variable next : ℕ) → variableOriginsAt s low at k ≡ whole → 0 < k → r ≡ variableOriginAt s low at → r .number ≡ 0 → variable ≡ u16At s (at + 4) → next ≡ recordEnd s at → variableOriginsAt s (variable + 1) next (k - 1) ≡ whole
+variable-origins-next s low at k whole r variable next w h e z f g =
+    ap (λ (v : ℕ). variableOriginsAt s (v + 1) next (k - 1)) f
+    ∙ ap (λ (p : ℕ). variableOriginsAt s (u16At s (at + 4) + 1) p (k - 1)) g
+    ∙ goes-on _ _ _ r e z refl
+    ∙ sym (variable-origins-step s low at k h)
+    ∙ w
+
+-- action origins: they fall, or stop at one that is too large
+action-origins-step : (s : List ℕ) (low at k : ℕ) → 0 < k → actionOriginsAt s low at k ≡ guard (leb low (u16At s at)) 6 at (guard (ltb (u16At s at) 512) 5 at (actionOriginsAt s (u16At s at + 1) (at + 2) (k - 1)))
+unfolding actionOriginsAt
+action-origins-step s low at k h = ap (actionOriginsAt s low at) (one-more k h)
+
+pub action-origins-none : (s : List ℕ) (low at k : ℕ) (whole r : Outcome) → actionOriginsAt s low at k ≡ whole → k ≤ 0 → r ≡ done → r ≡ whole
+unfolding actionOriginsAt
+action-origins-none s low at k whole r w h e = e ∙ sym (ap (actionOriginsAt s low at) (none-left k h)) ∙ w
+
+pub action-origins-fall : (s : List ℕ) (low at k : ℕ) (whole : Outcome) (n : ℕ) (r : Outcome) → actionOriginsAt s low at k ≡ whole → 0 < k → n ≡ u16At s at → n < low → r ≡ refusal 6 at → r ≡ whole
+action-origins-fall s low at k whole n r w h e l f =
+    stops-le _ _ 6 at _ r low n refl e l f ∙ sym (action-origins-step s low at k h) ∙ w
+
+pub action-origins-stop : (s : List ℕ) (low at k : ℕ) (whole : Outcome) (n : ℕ) (r : Outcome) → actionOriginsAt s low at k ≡ whole → 0 < k → n ≡ u16At s at → low ≤ n → 512 ≤ n → r ≡ refusal 5 at → r ≡ whole
+action-origins-stop s low at k whole n r w h e l m f =
+    goes-le _ _ 6 at _ r low n refl e l (stops-lt _ _ 5 at _ r n 512 e refl m f)
+    ∙ sym (action-origins-step s low at k h)
+    ∙ w
+
+pub action-origins-next : (s : List ℕ) (low at k : ℕ) (whole : Outcome) (n : ℕ) → actionOriginsAt s low at k ≡ whole → 0 < k → n ≡ u16At s at → low ≤ n → n < 512 → actionOriginsAt s (n + 1) (at + 2) (k - 1) ≡ whole
+action-origins-next s low at k whole n w h e l m =
+    ap (λ (v : ℕ). actionOriginsAt s (v + 1) (at + 2) (k - 1)) e
+    ∙ goes-le _ _ 6 at _ _ low n refl e l (goes-lt _ _ 5 at _ _ n 512 e refl m refl)
+    ∙ sym (action-origins-step s low at k h)
+    ∙ w
+
+-- how many variable origins stand in a row
+origins-counted-step : (s : List ℕ) (at k : ℕ) → 0 < k → variableOriginsFrom s at k ≡ cond (eqb (kindAt s at) 6) (suc (variableOriginsFrom s (recordEnd s at) (k - 1))) 0
+unfolding variableOriginsFrom
+origins-counted-step s at k h = ap (variableOriginsFrom s at) (one-more k h)
+
+pub origins-counted-none : (s : List ℕ) (at k found whole : ℕ) → found + variableOriginsFrom s at k ≡ whole → k ≤ 0 → found ≡ whole
+unfolding variableOriginsFrom
+origins-counted-none s at k found whole w h = omega (arith, ap (variableOriginsFrom s at) (none-left k h))
+
+pub origins-counted-stop : (s : List ℕ) (at k found whole kind : ℕ) → found + variableOriginsFrom s at k ≡ whole → 0 < k → kind ≡ kindAt s at → (kind ≡ 6 → ⊥) → found ≡ whole
+origins-counted-stop s at k found whole kind w h e d =
+    let none : variableOriginsFrom s at k ≡ 0 = origins-counted-step s at k h ∙ rw (ne-eqb (kindAt s at) 6 (λ q. d (e ∙ q))) in
+    omega arith
+
+pub origins-counted-next : (s : List ℕ) (at k found whole kind next : ℕ) → found + variableOriginsFrom s at k ≡ whole → 0 < k → kind ≡ kindAt s at → kind ≡ 6 → next ≡ recordEnd s at → found + 1 + variableOriginsFrom s next (k - 1) ≡ whole
+origins-counted-next s at k found whole kind next w h e z f =
+    let more : variableOriginsFrom s at k ≡ suc (variableOriginsFrom s next (k - 1)) =
+    origins-counted-step s at k h ∙ rw (eq-eqb (kindAt s at) 6 (sym e ∙ z), f) in
+    omega arith

@@ -158,7 +158,7 @@ pub fn effects_in(s: &[u8], at: usize) -> usize
 // Where the effects of the action record at `at` stand.
 pub fn effects_place(s: &[u8], at: usize) -> usize
     requires { ⌜ at < 274877906944 ⌝ }
-    ensures { λ r. ⌜ (r ≡ effectsPlace (now (s .entry)) at) × (r < at + 262152) ⌝ }
+    ensures { λ r. ⌜ (r ≡ effectsPlace (now (s .entry)) at) × (r ≤ at + 262152) ⌝ }
 {
     at + 12 + 4 * conditions_in(s, at)
 }

@@ -1,51 +1,46 @@
+-- The loop's invariant: what is found and what stands in a row from `place` on make the number from the start.
+use Prim.Native.Nat.{_+_, _*_, _≤_}
+use mathlib.Core.Path.{_≡_}
+use borrow.Author.Needs.{needs}
+use Rattle.files.specs.OriginFile.{variableOriginsFrom, originVariablesIn}
+use Rattle.files.proofs.Steps.{origins-counted-none, origins-counted-stop, origins-counted-next}
 use Rattle.files.proofs.origin.variables_in.Statement.{statement}
 use Rattle.files.proofs.origin.variables_in.Tie as tie
-use Rattle.files.proofs.origin.variables_in.Reads as reads
-use Rattle.files.proofs.origin.variables_in.Lts as lts
-use Rattle.files.proofs.records.kind_at.Reads as kind-at-reads
-use Rattle.files.proofs.records.record_end.Reads as record-end-reads
 
 abbrev Inv-loop : tie.InvT-loop
-Inv-loop s found₀ place₀ left₀ found place left = ?
+Inv-loop s found₀ place₀ left₀ found place left =
+    (found + variableOriginsFrom s place left ≡ originVariablesIn s) × (found + left ≤ 65) × (place + 65540 * left ≤ 4260100)
 
 abbrev μ-loop : tie.MeasureT-loop
-μ-loop s found₀ place₀ left₀ found place left = ?
+μ-loop s found₀ place₀ left₀ found place left = left
 
--- src/origin.rt:91:5
 loop-holds : tie.Need-loop-holds Inv-loop μ-loop
-loop-holds c = ?
+unfolding originVariablesIn
+loop-holds c = search needs
 
--- src/origin.rt:92:13
 kind-at-requires : tie.Need-kind-at-requires Inv-loop μ-loop
-kind-at-requires c κs = ?
+kind-at-requires c κs = search needs
 
--- src/origin.rt:94:13
 returns : tie.Need-returns Inv-loop μ-loop
-returns c = ?
+returns c = search (needs, origins-counted-stop)
 
--- src/origin.rt:96:9
 add-found : tie.Need-add-found Inv-loop μ-loop
-add-found c = ?
+add-found c = search needs
 
--- src/origin.rt:97:9
 record-end-requires : tie.Need-record-end-requires Inv-loop μ-loop
-record-end-requires c κs = ?
+record-end-requires c κs = search needs
 
--- src/origin.rt:98:9
 sub-left : tie.Need-sub-left Inv-loop μ-loop
-sub-left c = ?
+sub-left c = search needs
 
--- src/origin.rt:91:5
 loop-less : tie.Need-loop-less Inv-loop μ-loop
-loop-less c = ?
+loop-less c = search needs
 
--- src/origin.rt:91:5
 loop-again : tie.Need-loop-again Inv-loop μ-loop
-loop-again c = ?
+loop-again c = search (needs, origins-counted-next)
 
--- src/origin.rt:85:1
 returns-2 : tie.Need-returns-2 Inv-loop μ-loop
-returns-2 c = ?
+returns-2 c = search (needs, origins-counted-none)
 
 pub variables-in-spec : {M : Type 1} → statement M
 variables-in-spec =

@@ -1,15 +1,17 @@
+-- The test of the number decides the file on both sides.
+use mathlib.Core.Path.{refl}
+use Rattle.files.specs.Outcome.{inSecond}
+use Rattle.files.proofs.Guards.{is-done, is-refused}
 use Rattle.files.proofs.outcomes.in_second.Statement.{statement}
 use Rattle.files.proofs.outcomes.in_second.Tie as tie
-use Rattle.files.proofs.outcomes.in_second.Reads as reads
-use Rattle.files.proofs.outcomes.in_second.Lts as lts
 
--- src/outcomes.rt:31:9
 returns : tie.Need-returns
-returns c = ?
+unfolding inSecond
+returns c = rw (is-done (c .before .before .args .o) (c .if1 .taken)) refl
 
--- src/outcomes.rt:27:1
 returns-2 : tie.Need-returns-2
-returns-2 c = ?
+unfolding inSecond
+returns-2 c = rw (is-refused (c .before .before .args .o) (c .if1 .left)) refl
 
 pub in-second-spec : {M : Type 1} → statement M
 in-second-spec = tie.close (tie.spec returns returns-2)

@@ -1,24 +1,35 @@
+-- Step `i` is the number at byte 4 + 2i; a body has fewer than 65,536 bytes, so that `i` is below 32,768.
+use Prim.Native.Nat.{_<_}
+use mathlib.Core.Path.{sym, _∙_}
+use denote.Ref.{now}
+use native.Mathlib.Omega.{arith}
+use Rattle.files.specs.Bytes.{u16At}
+use Rattle.files.specs.PlanFile.{planOf, stepsIn}
+use Rattle.files.specs.Records.{bodyLength}
+use Rattle.files.proofs.Steps.{numbers-length, numbers-entry}
 use Rattle.files.proofs.plan.step.Statement.{statement}
 use Rattle.files.proofs.plan.step.Tie as tie
-use Rattle.files.proofs.plan.step.Reads as reads
-use Rattle.files.proofs.plan.step.Lts as lts
-use Rattle.files.proofs.bytes.u16_at.Reads as u16-at-reads
 
--- src/plan.rt:46:26
+few : (c : tie.After-shared-slice-known) → c .before .args .i < 32768
+unfolding planOf stepsIn bodyLength u16At
+few c =
+    let s = now (c .before .args .s) in
+    omega (arith, numbers-length s 4 (stepsIn s), c .shared-slice-known .given 0, c .shared-slice-known .given 1)
+
 mul-u16-at : tie.Need-mul-u16-at
-mul-u16-at c = ?
+mul-u16-at c = omega (arith, few c)
 
--- src/plan.rt:46:22
 add-u16-at : tie.Need-add-u16-at
-add-u16-at c = ?
+add-u16-at c = omega (arith, few c)
 
--- src/plan.rt:46:5
 u16-at-requires : tie.Need-u16-at-requires
-u16-at-requires c κs = ?
+u16-at-requires c κs = omega (arith, few c)
 
--- src/plan.rt:42:1
 returns : tie.Need-returns
-returns c = ?
+unfolding planOf
+returns c =
+    let s = now (c .before .before .args .s) in
+    (c .u16-at .ensures .0 ∙ sym (numbers-entry s 4 (stepsIn s) (c .before .before .args .i) (omega (arith, numbers-length s 4 (stepsIn s)))), c .u16-at .ensures .1)
 
 pub step-spec : {M : Type 1} → statement M
 step-spec = tie.close (tie.spec mul-u16-at add-u16-at u16-at-requires returns)

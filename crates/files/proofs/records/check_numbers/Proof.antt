@@ -1,56 +1,48 @@
+-- The loop's invariant: the check of `left` numbers from `place` on is the check from the start.
+use Prim.Native.Nat.{_+_, _*_, _<_}
+use mathlib.Core.Path.{_≡_}
+use borrow.Author.Needs.{needs}
+use Rattle.files.specs.Records.{numbersAt}
+use Rattle.files.proofs.Steps.{numbers-none, numbers-stop, numbers-next}
 use Rattle.files.proofs.records.check_numbers.Statement.{statement}
 use Rattle.files.proofs.records.check_numbers.Tie as tie
-use Rattle.files.proofs.records.check_numbers.Reads as reads
-use Rattle.files.proofs.records.check_numbers.Lts as lts
-use Rattle.files.proofs.bytes.u16_at.Reads as u16-at-reads
-use Rattle.files.proofs.outcomes.done.Reads as done-reads
-use Rattle.files.proofs.outcomes.refuse.Reads as refuse-reads
 
 abbrev Inv-loop : tie.InvT-loop
-Inv-loop limit s at count place₀ left₀ place left = ?
+Inv-loop limit s at count place₀ left₀ place left =
+    (numbersAt limit s place left ≡ numbersAt limit s at count) × (place + 2 * left < 549755813888)
 
 abbrev μ-loop : tie.MeasureT-loop
-μ-loop limit s at count place₀ left₀ place left = ?
+μ-loop limit s at count place₀ left₀ place left = left
 
--- src/records.rt:152:5
 loop-holds : tie.Need-loop-holds Inv-loop μ-loop
-loop-holds c = ?
+loop-holds c = search needs
 
--- src/records.rt:153:13
 u16-at-requires : tie.Need-u16-at-requires Inv-loop μ-loop
-u16-at-requires c κs = ?
+u16-at-requires c κs = search needs
 
--- src/records.rt:155:13
 refuse-requires : tie.Need-refuse-requires Inv-loop μ-loop
-refuse-requires c κs = ?
+refuse-requires c κs = search needs
 
--- src/records.rt:155:13
 returns : tie.Need-returns Inv-loop μ-loop
-returns c = ?
+returns c = search numbers-stop
 
--- src/records.rt:157:9
 add-place : tie.Need-add-place Inv-loop μ-loop
-add-place c = ?
+add-place c = search needs
 
--- src/records.rt:158:9
 sub-left : tie.Need-sub-left Inv-loop μ-loop
-sub-left c = ?
+sub-left c = search needs
 
--- src/records.rt:152:5
 loop-less : tie.Need-loop-less Inv-loop μ-loop
-loop-less c = ?
+loop-less c = search needs
 
--- src/records.rt:152:5
 loop-again : tie.Need-loop-again Inv-loop μ-loop
-loop-again c = ?
+loop-again c = search (needs, numbers-next)
 
--- src/records.rt:160:5
 done-requires : tie.Need-done-requires Inv-loop μ-loop
-done-requires c κs = ?
+done-requires c κs = search needs
 
--- src/records.rt:146:1
 returns-2 : tie.Need-returns-2 Inv-loop μ-loop
-returns-2 c = ?
+returns-2 c = search numbers-none
 
 pub check-numbers-spec : {M : Type 1} → statement M
 check-numbers-spec =

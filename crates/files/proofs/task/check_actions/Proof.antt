@@ -1,52 +1,45 @@
+-- The loop's invariant: the check of `left` actions from `place` on and of the sign-off behind them is the check from the start.
+use Prim.Native.Nat.{_+_, _*_, _<_}
+use mathlib.Core.Path.{_≡_}
+use borrow.Author.Needs.{needs}
+use Rattle.files.specs.TaskFile.{actionsAt}
+use Rattle.files.proofs.Steps.{actions-none, actions-stop, actions-next}
 use Rattle.files.proofs.task.check_actions.Statement.{statement}
 use Rattle.files.proofs.task.check_actions.Tie as tie
-use Rattle.files.proofs.task.check_actions.Reads as reads
-use Rattle.files.proofs.task.check_actions.Lts as lts
-use Rattle.files.proofs.records.check_sign_off.Reads as check-sign-off-reads
-use Rattle.files.proofs.records.record_end.Reads as record-end-reads
-use Rattle.files.proofs.task.check_action.Reads as check-action-reads
 
 abbrev Inv-loop : tie.InvT-loop
-Inv-loop s at count place₀ left₀ place left = ?
+Inv-loop s at count place₀ left₀ place left =
+    (actionsAt s place left ≡ actionsAt s at count) × (place + 65540 * left < 137438953472)
 
 abbrev μ-loop : tie.MeasureT-loop
-μ-loop s at count place₀ left₀ place left = ?
+μ-loop s at count place₀ left₀ place left = left
 
--- src/task.rt:225:5
 loop-holds : tie.Need-loop-holds Inv-loop μ-loop
-loop-holds c = ?
+loop-holds c = search needs
 
--- src/task.rt:226:13
 check-action-requires : tie.Need-check-action-requires Inv-loop μ-loop
-check-action-requires c κs = ?
+check-action-requires c κs = search needs
 
--- src/task.rt:228:13
 returns : tie.Need-returns Inv-loop μ-loop
-returns c = ?
+returns c = search actions-stop
 
--- src/task.rt:230:9
 record-end-requires : tie.Need-record-end-requires Inv-loop μ-loop
-record-end-requires c κs = ?
+record-end-requires c κs = search needs
 
--- src/task.rt:231:9
 sub-left : tie.Need-sub-left Inv-loop μ-loop
-sub-left c = ?
+sub-left c = search needs
 
--- src/task.rt:225:5
 loop-less : tie.Need-loop-less Inv-loop μ-loop
-loop-less c = ?
+loop-less c = search needs
 
--- src/task.rt:225:5
 loop-again : tie.Need-loop-again Inv-loop μ-loop
-loop-again c = ?
+loop-again c = search (needs, actions-next)
 
--- src/task.rt:233:5
 check-sign-off-requires : tie.Need-check-sign-off-requires Inv-loop μ-loop
-check-sign-off-requires c κs = ?
+check-sign-off-requires c κs = search needs
 
--- src/task.rt:219:1
 returns-2 : tie.Need-returns-2 Inv-loop μ-loop
-returns-2 c = ?
+returns-2 c = search actions-none
 
 pub check-actions-spec : {M : Type 1} → statement M
 check-actions-spec =

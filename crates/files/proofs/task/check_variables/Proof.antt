@@ -1,51 +1,45 @@
+-- The loop's invariant: the check of `left` variables from `place` on is the check from the start.
+use Prim.Native.Nat.{_+_, _*_, _<_}
+use mathlib.Core.Path.{_≡_}
+use borrow.Author.Needs.{needs}
+use Rattle.files.specs.TaskFile.{variablesAt}
+use Rattle.files.proofs.Steps.{variables-none, variables-stop, variables-next}
 use Rattle.files.proofs.task.check_variables.Statement.{statement}
 use Rattle.files.proofs.task.check_variables.Tie as tie
-use Rattle.files.proofs.task.check_variables.Reads as reads
-use Rattle.files.proofs.task.check_variables.Lts as lts
-use Rattle.files.proofs.outcomes.done.Reads as done-reads
-use Rattle.files.proofs.task.check_variable.Reads as check-variable-reads
 
 abbrev Inv-loop : tie.InvT-loop
-Inv-loop s at count place₀ left₀ place left = ?
+Inv-loop s at count place₀ left₀ place left =
+    (variablesAt s place left ≡ variablesAt s at count) × (place + 8 * left < 274877906944)
 
 abbrev μ-loop : tie.MeasureT-loop
-μ-loop s at count place₀ left₀ place left = ?
+μ-loop s at count place₀ left₀ place left = left
 
--- src/task.rt:71:5
 loop-holds : tie.Need-loop-holds Inv-loop μ-loop
-loop-holds c = ?
+loop-holds c = search needs
 
--- src/task.rt:72:13
 check-variable-requires : tie.Need-check-variable-requires Inv-loop μ-loop
-check-variable-requires c κs = ?
+check-variable-requires c κs = search needs
 
--- src/task.rt:74:13
 returns : tie.Need-returns Inv-loop μ-loop
-returns c = ?
+returns c = search variables-stop
 
--- src/task.rt:76:9
 add-place : tie.Need-add-place Inv-loop μ-loop
-add-place c = ?
+add-place c = search needs
 
--- src/task.rt:77:9
 sub-left : tie.Need-sub-left Inv-loop μ-loop
-sub-left c = ?
+sub-left c = search needs
 
--- src/task.rt:71:5
 loop-less : tie.Need-loop-less Inv-loop μ-loop
-loop-less c = ?
+loop-less c = search needs
 
--- src/task.rt:71:5
 loop-again : tie.Need-loop-again Inv-loop μ-loop
-loop-again c = ?
+loop-again c = search (needs, variables-next)
 
--- src/task.rt:79:5
 done-requires : tie.Need-done-requires Inv-loop μ-loop
-done-requires c κs = ?
+done-requires c κs = search needs
 
--- src/task.rt:65:1
 returns-2 : tie.Need-returns-2 Inv-loop μ-loop
-returns-2 c = ?
+returns-2 c = search variables-none
 
 pub check-variables-spec : {M : Type 1} → statement M
 check-variables-spec =

@@ -1,21 +1,18 @@
+-- The definition is the number at byte 8 of the record.
 use borrow.Author.Needs.{needs}
+use Rattle.files.specs.TaskFile.{conditionsIn}
 use Rattle.files.proofs.task.conditions_in.Statement.{statement}
 use Rattle.files.proofs.task.conditions_in.Tie as tie
-use Rattle.files.proofs.task.conditions_in.Reads as reads
-use Rattle.files.proofs.task.conditions_in.Lts as lts
-use Rattle.files.proofs.bytes.u16_at.Reads as u16-at-reads
 
--- src/task.rt:148:22
 add-u16-at : tie.Need-add-u16-at
 add-u16-at c = search needs
 
--- src/task.rt:148:5
 u16-at-requires : tie.Need-u16-at-requires
 u16-at-requires c κs = search needs
 
--- src/task.rt:144:1
 returns : tie.Need-returns
-returns c = ?
+unfolding conditionsIn
+returns c = search needs
 
 pub conditions-in-spec : {M : Type 1} → statement M
 conditions-in-spec = tie.close (tie.spec add-u16-at u16-at-requires returns)
