@@ -54,8 +54,7 @@ module _ (t : Task) (ok : acceptedTask t ≡ true) where
       let a = and-split (leb low (p .variable)) _ e in
       let b = and-split (ltb (p .variable) (variableCount t)) _ (a .1) in
       let c = and-split (ltb (p .value) (sizeOf t (p .variable))) _ (b .1) in
-      let below : p .variable < variableCount t = ltb-true (p .variable) (variableCount t) (b .0) in
-      (
+      let below : p .variable < variableCount t = ltb-true (p .variable) (variableCount t) (b .0) in (
         leb-true low (p .variable) (a .0),
         below,
         omega (arith, ltb-true (p .value) (sizeOf t (p .variable)) (c .0), valid-size (p .variable) below .0),
@@ -94,11 +93,11 @@ module _ (t : Task) (ok : acceptedTask t ≡ true) where
       tabulate-is _ (variableCount t) (t .variables) (variable 0 0) refl
       (λ v h.
       let size : getD (placed sizes 0 (map (λ x. x .size % 256) (t .variables))) v 0 ≡ sizeOf t v =
-          entry-placed (λ x. x .size % 256) (t .variables) (variable 0 0) sizes v refl (omega (arith, few-variables)) h
-          ∙ omega (arith, valid-size v h .0) in
+      entry-placed (λ x. x .size % 256) (t .variables) (variable 0 0) sizes v refl (omega (arith, few-variables)) h
+      ∙ omega (arith, valid-size v h .0) in
       let start : getD (placed starts 0 (map (λ x. x .start % 256) (t .variables))) v 0 ≡ variableOf t v .start =
-          entry-placed (λ x. x .start % 256) (t .variables) (variable 0 0) starts v refl (omega (arith, few-variables)) h
-          ∙ omega (arith, valid-size v h .0, valid-size v h .1) in
+      entry-placed (λ x. x .start % 256) (t .variables) (variable 0 0) starts v refl (omega (arith, few-variables)) h
+      ∙ omega (arith, valid-size v h .0, valid-size v h .1) in
       λ i. variable (size i) (start i))
 
   held-goal : (goal : List ℕ) → 64 ≤ length goal → rowPairs (filled (cleared goal 0 64) 0 (t .goal)) 0 0 (variableCount t) ≡ t .goal

@@ -126,6 +126,7 @@ filled-in n low row base (p ∷ ps) v b r o =
   where
     next : List ℕ
     next = stored row base (p .variable) (p .value)
+
     go : getD (filled next base ps) (base + v) 0 ≡ Option·getD (valueIn ps v) (getD next (base + v) 0) → (t : Bool) → eqb (p .variable) v ≡ t
         → getD (filled next base ps) (base + v) 0 ≡ Option·getD (valueIn (p ∷ ps) v) (getD row (base + v) 0)
     go rest true e =
@@ -198,7 +199,7 @@ rowPairs-is n row base v (suc count) (p ∷ ps) e o h =
     go rest more true q =
         let here : p .variable ≡ v = eqb-true (p .variable) v q in
         let entry : getD row (base + v) 0 ≡ p .value =
-            h v (omega arith) (omega (arith, o .1)) ∙ ap (λ (x : Option ℕ). Option·getD x 255) (valueIn-here p ps v here) in
+        h v (omega arith) (omega (arith, o .1)) ∙ ap (λ (x : Option ℕ). Option·getD x 255) (valueIn-here p ps v here) in
         rowPairs-take row base v count (p .value) entry (λ z. omega (arith, o .2))
         ∙ ap₂ (λ (w : ℕ) (l : List Pair). pair w (p .value) ∷ l) (sym here)
         (rest
@@ -208,7 +209,7 @@ rowPairs-is n row base v (suc count) (p ∷ ps) e o h =
         let past : p .variable ≡ v → ⊥ = eqb-false (p .variable) v q in
         let above : v + 1 ≤ p .variable = omega (arith, o .0) in
         let entry : getD row (base + v) 0 ≡ 255 =
-            h v (omega arith) (omega (arith, o .1))
-            ∙ ap (λ (x : Option ℕ). Option·getD x 255) (valueIn-past p ps v past ∙ valueIn-below n (p .variable + 1) ps v (o .3) (omega arith)) in
+        h v (omega arith) (omega (arith, o .1))
+        ∙ ap (λ (x : Option ℕ). Option·getD x 255) (valueIn-past p ps v past ∙ valueIn-below n (p .variable + 1) ps v (o .3) (omega arith)) in
         rowPairs-skip row base v count entry
         ∙ more (above, o .1, o .2, o .3) (λ w a b. h w (omega arith) b)

@@ -1,6 +1,6 @@
 -- The loop's invariant: clearing what is left of the row gives the whole row cleared.
-use Prim.Native.Nat.{ℕ, _+_, _*_, _-_, _≤_, _<_}
-use mathlib.Core.Path.{_≡_, refl, sym, ap, _∙_}
+use Prim.Native.Nat.{ℕ, _+_, _*_, _%_, _≤_, _<_}
+use mathlib.Core.Path.{_≡_, refl, _∙_}
 use native.Mathlib.Omega.{arith}
 use lib.ListN.{length, length-set}
 use Rattle.files.specs.Rows.{cleared}
@@ -18,7 +18,7 @@ abbrev μ-loop : tie.MeasureT-loop
     left
 
 loop-holds : tie.Need-loop-holds Inv-loop μ-loop
-loop-holds c = (refl, search needs, refl)
+loop-holds c = search needs
 
 slice-write-row : tie.Need-slice-write-row Inv-loop μ-loop
 slice-write-row c = search needs
@@ -33,13 +33,13 @@ loop-less : tie.Need-loop-less Inv-loop μ-loop
 loop-less c = search needs
 
 loop-again : tie.Need-loop-again Inv-loop μ-loop
-loop-again c = (cleared-next _ _ _ (c .loop-test .taken) ∙ c .before .loop .inv .0, omega (arith, length-set (c .before .loop .row) (c .before .loop .at) 255), length-set (c .before .loop .row) (c .before .loop .at) 255 ∙ c .before .loop .inv .2)
+loop-again c = (search cleared-next, omega (arith, length-set (c .before .loop .row) (c .before .loop .at) 255), length-set (c .before .loop .row) (c .before .loop .at) 255 ∙ c .before .loop .inv .2)
 
 same-length : tie.Need-same-length Inv-loop μ-loop
 same-length c = c .before .loop .inv .2
 
 returns : tie.Need-returns Inv-loop μ-loop
-returns c = cleared-none _ _ _ (c .loop-test .left) ∙ c .before .loop .inv .0
+returns c = search cleared-none
 
 pub clear-row-spec : {M : Type 1} → statement M
 clear-row-spec =

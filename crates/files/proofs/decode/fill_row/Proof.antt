@@ -1,8 +1,8 @@
 -- The loop's invariant: filling in the pairs that are left gives the row with all of them.
-use Prim.Native.Nat.{ℕ, _+_, _*_, _-_, _≤_, _<_}
-use mathlib.Core.Path.{_≡_, refl, sym, ap, _∙_}
+use Prim.Native.Nat.{ℕ, _+_, _*_, _%_, _≤_, _<_}
+use mathlib.Core.Path.{_≡_, refl, _∙_}
 use native.Mathlib.Omega.{arith}
-use lib.ListN.{length, length-set}
+use lib.ListN.{length}
 use Rattle.files.specs.TaskFile.{pairsFrom}
 use Rattle.files.specs.Rows.{filled}
 use Rattle.files.proofs.Decoding.{filled-next, filled-none}
@@ -19,7 +19,7 @@ abbrev μ-loop : tie.MeasureT-loop
     left
 
 loop-holds : tie.Need-loop-holds Inv-loop μ-loop
-loop-holds c = (refl, search needs, search needs, refl)
+loop-holds c = search needs
 
 u16-at-requires : tie.Need-u16-at-requires Inv-loop μ-loop
 u16-at-requires c κs = search needs
@@ -43,15 +43,13 @@ loop-less : tie.Need-loop-less Inv-loop μ-loop
 loop-less c = search needs
 
 loop-again : tie.Need-loop-again Inv-loop μ-loop
-loop-again c =
-    let v = c .before .before .before .before .before .before .before .loop in
-    (filled-next _ _ _ _ _ _ _ _ (c .before .before .before .before .before .before .loop-test .taken) (c .before .before .before .before .before .u16-at .ensures .0) (c .before .before .before .before .u16-at2 .ensures .0) (c .before .before .store .ensures) ∙ v .inv .0, omega arith, omega arith, omega arith)
+loop-again c = search (needs, filled-next)
 
 same-length : tie.Need-same-length Inv-loop μ-loop
 same-length c = c .before .loop .inv .3
 
 returns : tie.Need-returns Inv-loop μ-loop
-returns c = filled-none _ _ _ _ _ (c .loop-test .left) ∙ c .before .loop .inv .0
+returns c = search filled-none
 
 pub fill-row-spec : {M : Type 1} → statement M
 fill-row-spec =

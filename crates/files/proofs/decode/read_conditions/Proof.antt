@@ -1,65 +1,62 @@
+-- The loop's invariant: filling in the rows that are left gives all of them.
+use Prim.Native.Nat.{ℕ, _+_, _*_, _%_, _≤_, _<_}
+use mathlib.Core.Path.{_≡_, refl, _∙_}
+use native.Mathlib.Omega.{arith}
+use lib.ListN.{length}
+use Rattle.files.specs.TaskFile.{actionsFrom}
+use Rattle.files.specs.Rows.{filledRows, conditionLists}
+use Rattle.files.proofs.Decoding.{conditions-next, conditions-none}
+use borrow.Author.Needs.{needs}
+use Prim.Native.Nat.{ℕ, _+_, _*_, _≤_, _<_}
 use Rattle.files.proofs.decode.read_conditions.Statement.{statement}
 use Rattle.files.proofs.decode.read_conditions.Tie as tie
-use Rattle.files.proofs.decode.read_conditions.Reads as reads
-use Rattle.files.proofs.decode.read_conditions.Lts as lts
-use Rattle.files.proofs.decode.clear_row.Reads as clear-row-reads
-use Rattle.files.proofs.decode.fill_row.Reads as fill-row-reads
-use Rattle.files.proofs.records.record_end.Reads as record-end-reads
-use Rattle.files.proofs.task.conditions_in.Reads as conditions-in-reads
 
 abbrev Inv-loop : tie.InvT-loop
-Inv-loop rows₀ s at count base₀ place₀ left₀ rows base place left = ?
+Inv-loop rows₀ s at count base₀ place₀ left₀ rows base place left =
+    (filledRows rows base (conditionLists (actionsFrom s place left)) ≡ filledRows rows₀ 0 (conditionLists (actionsFrom s at count))) × (base + 64 * left ≤ length rows) × (place + 65540 * left < 137438953472) × (length rows ≡ length rows₀)
 
 abbrev μ-loop : tie.MeasureT-loop
-μ-loop rows₀ s at count base₀ place₀ left₀ rows base place left = ?
+μ-loop rows₀ s at count base₀ place₀ left₀ rows base place left =
+    left
 
--- src/decode.rt:96:5
 loop-holds : tie.Need-loop-holds Inv-loop μ-loop
-loop-holds c = ?
+loop-holds c = search needs
 
--- src/decode.rt:97:13
 conditions-in-requires : tie.Need-conditions-in-requires Inv-loop μ-loop
-conditions-in-requires c κs = ?
+conditions-in-requires c κs = search needs
 
--- src/decode.rt:98:9
 clear-row-requires : tie.Need-clear-row-requires Inv-loop μ-loop
-clear-row-requires c κs = ?
+clear-row-requires c κs = search needs
 
--- src/decode.rt:99:33
 add-fill-row : tie.Need-add-fill-row Inv-loop μ-loop
-add-fill-row c = ?
+add-fill-row c = search needs
 
--- src/decode.rt:99:9
 fill-row-requires : tie.Need-fill-row-requires Inv-loop μ-loop
-fill-row-requires c κs = ?
+fill-row-requires c κs = search needs
 
--- src/decode.rt:100:9
 add-base : tie.Need-add-base Inv-loop μ-loop
-add-base c = ?
+add-base c = search needs
 
--- src/decode.rt:101:9
 record-end-requires : tie.Need-record-end-requires Inv-loop μ-loop
-record-end-requires c κs = ?
+record-end-requires c κs = search needs
 
--- src/decode.rt:102:9
 sub-left : tie.Need-sub-left Inv-loop μ-loop
-sub-left c = ?
+sub-left c = search needs
 
--- src/decode.rt:96:5
 loop-less : tie.Need-loop-less Inv-loop μ-loop
-loop-less c = ?
+loop-less c = search needs
 
--- src/decode.rt:96:5
 loop-again : tie.Need-loop-again Inv-loop μ-loop
-loop-again c = ?
+loop-again c =
+    let v = c .before .before .before .before .before .before .before .before .before .before .before .loop in
+    let next = conditions-next _ _ _ _ _ _ _ _ _ _ (v .inv .0) (c .before .before .before .before .before .before .before .before .before .before .loop-test .taken) (c .before .before .before .before .before .before .before .before .before .conditions-in .ensures .0) (c .record-end .ensures .0) (c .before .before .before .before .before .before .before .clear-row .ensures) (c .before .before .before .fill-row .ensures) in
+    (next, omega arith, omega arith, omega arith)
 
--- src/decode.rt:89:1
 same-length : tie.Need-same-length Inv-loop μ-loop
-same-length c = ?
+same-length c = c .before .loop .inv .3
 
--- src/decode.rt:89:1
 returns : tie.Need-returns Inv-loop μ-loop
-returns c = ?
+returns c = search conditions-none
 
 pub read-conditions-spec : {M : Type 1} → statement M
 read-conditions-spec =

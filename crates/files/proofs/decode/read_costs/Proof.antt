@@ -1,6 +1,6 @@
 -- The loop's invariant: placing the costs that are left gives all of them placed.
-use Prim.Native.Nat.{ℕ, _+_, _*_, _-_, _≤_, _<_}
-use mathlib.Core.Path.{_≡_, refl, sym, ap, _∙_}
+use Prim.Native.Nat.{ℕ, _+_, _*_, _%_, _≤_, _<_}
+use mathlib.Core.Path.{_≡_, refl, _∙_}
 use native.Mathlib.Omega.{arith}
 use lib.ListN.{length, length-set}
 use Rattle.files.specs.Bytes.{placed}
@@ -20,7 +20,7 @@ abbrev μ-loop : tie.MeasureT-loop
     left
 
 loop-holds : tie.Need-loop-holds Inv-loop μ-loop
-loop-holds c = (refl, search needs, search needs, refl)
+loop-holds c = search needs
 
 add-u32-at : tie.Need-add-u32-at Inv-loop μ-loop
 add-u32-at c = search needs
@@ -53,13 +53,13 @@ loop-again : tie.Need-loop-again Inv-loop μ-loop
 loop-again c =
     let v = c .before .before .before .loop in
     let same = length-set (v .costs) (v .i) (c .before .u32-at .result) in
-    (costs-next _ _ _ _ _ _ _ (c .before .before .loop-test .taken) (c .before .u32-at .ensures .0) (c .record-end .ensures .0) ∙ v .inv .0, omega arith, omega arith, same ∙ v .inv .3)
+    (search costs-next, omega arith, omega arith, same ∙ v .inv .3)
 
 same-length : tie.Need-same-length Inv-loop μ-loop
 same-length c = c .before .loop .inv .3
 
 returns : tie.Need-returns Inv-loop μ-loop
-returns c = costs-none _ _ _ _ _ (c .loop-test .left) ∙ c .before .loop .inv .0
+returns c = search costs-none
 
 pub read-costs-spec : {M : Type 1} → statement M
 read-costs-spec =

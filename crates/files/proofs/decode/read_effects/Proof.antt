@@ -1,66 +1,62 @@
+-- The loop's invariant: filling in the rows that are left gives all of them.
+use Prim.Native.Nat.{ℕ, _+_, _*_, _%_, _≤_, _<_}
+use mathlib.Core.Path.{_≡_, refl, _∙_}
+use native.Mathlib.Omega.{arith}
+use lib.ListN.{length}
+use Rattle.files.specs.TaskFile.{actionsFrom}
+use Rattle.files.specs.Rows.{filledRows, effectLists}
+use Rattle.files.proofs.Decoding.{effects-next, effects-none}
+use borrow.Author.Needs.{needs}
+use Prim.Native.Nat.{ℕ, _+_, _*_, _≤_, _<_}
 use Rattle.files.proofs.decode.read_effects.Statement.{statement}
 use Rattle.files.proofs.decode.read_effects.Tie as tie
-use Rattle.files.proofs.decode.read_effects.Reads as reads
-use Rattle.files.proofs.decode.read_effects.Lts as lts
-use Rattle.files.proofs.decode.clear_row.Reads as clear-row-reads
-use Rattle.files.proofs.decode.fill_row.Reads as fill-row-reads
-use Rattle.files.proofs.records.record_end.Reads as record-end-reads
-use Rattle.files.proofs.task.effects_in.Reads as effects-in-reads
-use Rattle.files.proofs.task.effects_place.Reads as effects-place-reads
 
 abbrev Inv-loop : tie.InvT-loop
-Inv-loop rows₀ s at count base₀ place₀ left₀ rows base place left = ?
+Inv-loop rows₀ s at count base₀ place₀ left₀ rows base place left =
+    (filledRows rows base (effectLists (actionsFrom s place left)) ≡ filledRows rows₀ 0 (effectLists (actionsFrom s at count))) × (base + 64 * left ≤ length rows) × (place + 65540 * left < 137438953472) × (length rows ≡ length rows₀)
 
 abbrev μ-loop : tie.MeasureT-loop
-μ-loop rows₀ s at count base₀ place₀ left₀ rows base place left = ?
+μ-loop rows₀ s at count base₀ place₀ left₀ rows base place left =
+    left
 
--- src/decode.rt:114:5
 loop-holds : tie.Need-loop-holds Inv-loop μ-loop
-loop-holds c = ?
+loop-holds c = search needs
 
--- src/decode.rt:115:13
 effects-in-requires : tie.Need-effects-in-requires Inv-loop μ-loop
-effects-in-requires c κs = ?
+effects-in-requires c κs = search needs
 
--- src/decode.rt:116:13
 effects-place-requires : tie.Need-effects-place-requires Inv-loop μ-loop
-effects-place-requires c κs = ?
+effects-place-requires c κs = search needs
 
--- src/decode.rt:117:9
 clear-row-requires : tie.Need-clear-row-requires Inv-loop μ-loop
-clear-row-requires c κs = ?
+clear-row-requires c κs = search needs
 
--- src/decode.rt:118:9
 fill-row-requires : tie.Need-fill-row-requires Inv-loop μ-loop
-fill-row-requires c κs = ?
+fill-row-requires c κs = search needs
 
--- src/decode.rt:119:9
 add-base : tie.Need-add-base Inv-loop μ-loop
-add-base c = ?
+add-base c = search needs
 
--- src/decode.rt:120:9
 record-end-requires : tie.Need-record-end-requires Inv-loop μ-loop
-record-end-requires c κs = ?
+record-end-requires c κs = search needs
 
--- src/decode.rt:121:9
 sub-left : tie.Need-sub-left Inv-loop μ-loop
-sub-left c = ?
+sub-left c = search needs
 
--- src/decode.rt:114:5
 loop-less : tie.Need-loop-less Inv-loop μ-loop
-loop-less c = ?
+loop-less c = search needs
 
--- src/decode.rt:114:5
 loop-again : tie.Need-loop-again Inv-loop μ-loop
-loop-again c = ?
+loop-again c =
+    let v = c .before .before .before .before .before .before .before .before .before .before .before .before .loop in
+    let next = effects-next _ _ _ _ _ _ _ _ _ _ _ (v .inv .0) (c .before .before .before .before .before .before .before .before .before .before .before .loop-test .taken) (c .before .before .before .before .before .before .before .before .before .before .effects-in .ensures .0) (c .before .before .before .before .before .before .before .before .before .effects-place .ensures .0) (c .record-end .ensures .0) (c .before .before .before .before .before .before .before .clear-row .ensures) (c .before .before .before .fill-row .ensures) in
+    (next, omega arith, omega arith, omega arith)
 
--- src/decode.rt:107:1
 same-length : tie.Need-same-length Inv-loop μ-loop
-same-length c = ?
+same-length c = c .before .loop .inv .3
 
--- src/decode.rt:107:1
 returns : tie.Need-returns Inv-loop μ-loop
-returns c = ?
+returns c = search effects-none
 
 pub read-effects-spec : {M : Type 1} → statement M
 read-effects-spec =

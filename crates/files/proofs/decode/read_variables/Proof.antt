@@ -1,6 +1,6 @@
 -- The loop's invariant: placing what is left of the sizes and the starts gives all of them placed.
-use Prim.Native.Nat.{ℕ, _+_, _*_, _-_, _≤_, _<_}
-use mathlib.Core.Path.{_≡_, refl, sym, ap, _∙_}
+use Prim.Native.Nat.{ℕ, _+_, _*_, _%_, _≤_, _<_}
+use mathlib.Core.Path.{_≡_, refl, _∙_}
 use native.Mathlib.Omega.{arith}
 use lib.ListN.{length, length-set}
 use Rattle.files.specs.Bytes.{placed}
@@ -24,7 +24,7 @@ abbrev μ-loop : tie.MeasureT-loop
     left
 
 loop-holds : tie.Need-loop-holds Inv-loop μ-loop
-loop-holds c = (refl, refl, search needs, refl, refl)
+loop-holds c = search needs
 
 add-u16-at : tie.Need-add-u16-at Inv-loop μ-loop
 add-u16-at c = search needs
@@ -65,10 +65,7 @@ loop-less c = search needs
 loop-again : tie.Need-loop-again Inv-loop μ-loop
 loop-again c =
     let v = c .before .before .before .loop in
-    let t = c .before .before .loop-test .taken in
-    let size = length-set (v .sizes) (v .i) (c .before .u16-at .result % 256) in
-    let start = length-set (v .starts) (v .i) (c .u16-at2 .result % 256) in
-    (sizes-next _ _ _ _ _ _ t (c .before .u16-at .ensures .0) ∙ v .inv .0, starts-next _ _ _ _ _ _ t (c .u16-at2 .ensures .0) ∙ v .inv .1, omega arith, size ∙ v .inv .3, start ∙ v .inv .4)
+    (search sizes-next, search starts-next, omega arith, length-set (v .sizes) (v .i) (c .before .u16-at .result % 256) ∙ v .inv .3, length-set (v .starts) (v .i) (c .u16-at2 .result % 256) ∙ v .inv .4)
 
 same-length : tie.Need-same-length Inv-loop μ-loop
 same-length c = c .before .loop .inv .3
@@ -77,7 +74,7 @@ same-length-2 : tie.Need-same-length-2 Inv-loop μ-loop
 same-length-2 c = c .before .loop .inv .4
 
 returns : tie.Need-returns Inv-loop μ-loop
-returns c = (sizes-none _ _ _ _ _ (c .loop-test .left) ∙ c .before .loop .inv .0, starts-none _ _ _ _ _ (c .loop-test .left) ∙ c .before .loop .inv .1)
+returns c = (search sizes-none, search starts-none)
 
 pub read-variables-spec : {M : Type 1} → statement M
 read-variables-spec =
