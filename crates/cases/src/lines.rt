@@ -1,0 +1,44 @@
+// Lines of the input, and numbers and texts of the output.
+ghost use Prim.Native.Nat.{_≤_, _<_};
+
+// Where the line that begins at `from` ends: at a line feed, or at `to`.
+pub fn line_end(text: &[u8], from: usize, to: usize) -> usize
+    requires { ⌜ from < to ⌝ }
+    ensures { λ r. ⌜ (from ≤ r) × (r ≤ to) ⌝ }
+{
+    let mut at = from;
+    while at < to {
+        if files::bytes::byte_at(text, at) == 10 {
+            return at;
+        }
+        at += 1;
+    }
+    at
+}
+
+// Prints the bytes from `from` up to `to`.
+pub fn print_part(text: &[u8], from: usize, to: usize) {
+    let mut at = from;
+    while at < to {
+        print_byte((files::bytes::byte_at(text, at) % 256) as u8);
+        at += 1;
+    }
+}
+
+pub fn print_byte(byte: u8) {
+    let one = [byte];
+    io::write_all(1, &one);
+}
+
+pub fn print_number(n: usize) {
+    io::print_decimal(1, n as u64);
+}
+
+// Prints an outcome: number, file, place.
+pub fn print_outcome(o: files::Outcome) {
+    print_number(o.number as usize);
+    print_byte(b' ');
+    print_number(o.file as usize);
+    print_byte(b' ');
+    print_number(o.place);
+}

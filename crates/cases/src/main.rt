@@ -1,0 +1,27 @@
+// Runs the cases of its standard input, a line each, and prints a line for each. A line that
+// begins with # is printed as it stands; in any other the first letter says what is called, and
+// bytes in hexadecimal follow, of which XX*N stands for N times XX.
+mod hex;
+mod lines;
+mod run;
+
+ghost use Prim.Native.Nat.{_≤_};
+ghost use lib.ListN.{length};
+
+fn main() {
+    let mut text = [0u8; 524288];
+    let read = io::read_full(0, &mut text);
+    let mut file = [0u8; 70000];
+    let mut written = [0u8; 70000];
+    run_all(&text, read, &mut file, &mut written);
+}
+
+// The lines of the first `read` bytes.
+fn run_all(text: &[u8], read: usize, file: &mut [u8; 70000], written: &mut [u8; 70000]) {
+    let mut at: usize = 0;
+    while at < read {
+        let end = lines::line_end(text, at, read);
+        run::run_line(text, at, end, file, written);
+        at = end + 1;
+    }
+}
