@@ -1,2 +1,4 @@
 -- Laws about the crate's definitions.
 pub mod Computes
+pub mod OrderLaws
+pub mod RunLaws
