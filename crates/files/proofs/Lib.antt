@@ -5,7 +5,12 @@ pub mod Countdown
 pub mod Placed
 pub mod Steps
 pub mod Writing
+pub mod Done
+pub mod Whole
 pub mod Stands
+pub mod RecordStands
+pub mod Numbers
+pub mod SignOff
 pub mod TaskRoundTrip
 pub mod OriginRoundTrip
 pub mod PlanRoundTrip
