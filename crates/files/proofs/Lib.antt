@@ -7,6 +7,7 @@ pub mod Steps
 pub mod Writing
 pub mod Done
 pub mod Whole
+pub mod ReadAs
 pub mod Stands
 pub mod RecordStands
 pub mod Numbers

@@ -60,8 +60,8 @@ module _ (signer : ℕ) (records : List ℕ) where
     pub signed-signer : signerOf (signed signer records) ≡ signer
     signed-signer = sign-off-signer signer sign-off-behind (signed-length signer records) small valid
 
-    pub signed-done : signOffAt (signed signer records) (length records) .number ≡ 0
-    signed-done = sign-off-done signer sign-off-behind (signed-length signer records) small valid
+    pub signed-done : (at : ℕ) → length records ≡ at → signOffAt (signed signer records) at .number ≡ 0
+    signed-done at e = rw (← e) (sign-off-done signer sign-off-behind (signed-length signer records) small valid)
 
 -- a check that has found the sign-off
 pub record SignedOff (f : List ℕ) (at : ℕ) : Type 0 where
@@ -89,10 +89,10 @@ signed-off f at o e =
     }
 
 -- so the file is its records, signed
-pub file-signed : (f records : List ℕ) → Octets f → Stands f 0 records → signOffAt f (length records) .number ≡ 0 → f ≡ signed (signerOf f) records
+pub file-signed : (f records : List ℕ) (at : ℕ) → Octets f → Stands f 0 records → length records ≡ at → signOffAt f at .number ≡ 0 → f ≡ signed (signerOf f) records
 unfolding signed
-file-signed f records o s e =
-    let off = signed-off f (length records) o e in
+file-signed f records at o s l e =
+    let off = signed-off f (length records) o (rw l e) in
     stands-whole f (records ++ signOffBytes (signerOf f) (length records))
     (stands-join records (signOffBytes (signerOf f) (length records)) (omega arith) s (off .stands))
     (omega (arith, off .end, signed-length (signerOf f) records))
