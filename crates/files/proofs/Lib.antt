@@ -12,6 +12,7 @@ pub mod Stands
 pub mod RecordStands
 pub mod Numbers
 pub mod SignOff
+pub mod Valid
 pub mod TaskRoundTrip
 pub mod OriginRoundTrip
 pub mod PlanRoundTrip
