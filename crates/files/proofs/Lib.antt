@@ -13,6 +13,8 @@ pub mod RecordStands
 pub mod Numbers
 pub mod SignOff
 pub mod Valid
+pub mod Variables
+pub mod Pairs
 pub mod TaskRoundTrip
 pub mod OriginRoundTrip
 pub mod PlanRoundTrip
