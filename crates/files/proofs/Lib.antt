@@ -15,6 +15,7 @@ pub mod SignOff
 pub mod Valid
 pub mod Variables
 pub mod Pairs
+pub mod Actions
 pub mod TaskRoundTrip
 pub mod OriginRoundTrip
 pub mod PlanRoundTrip
