@@ -16,6 +16,7 @@ pub mod Valid
 pub mod Variables
 pub mod Pairs
 pub mod Actions
+pub mod TaskLaid
 pub mod TaskRoundTrip
 pub mod OriginRoundTrip
 pub mod PlanRoundTrip

@@ -105,12 +105,14 @@ action-valid t a h =
 pub record Valid (t : Task) : Type 0 where
   pub variables-few : variableCount t ≤ 64
   pub actions-few : actionCount t ≤ 512
+  pub variables : allOf validVariable (t .variables) ≡ true
   pub size-least : (v : ℕ) → v < variableCount t → 1 ≤ sizeOf t v
   pub size-most : (v : ℕ) → sizeOf t v ≤ 32
   pub start : (v : ℕ) → v < variableCount t → startOf t v < sizeOf t v
   pub goal-few : length (t .goal) ≤ 64
   pub goal : validPairs t 0 (t .goal) ≡ true
-  pub actions : (a : ℕ) → ValidAction t (actionOf t a)
+  pub actions : allOf (validAction t) (t .actions) ≡ true
+  pub action : (a : ℕ) → ValidAction t (actionOf t a)
   pub file : length (taskFile t 1) ≤ 65536
 
 sizes-most : (vs : List Variable) (v : ℕ) → allOf validVariable vs ≡ true → getD vs v (variable 0 0) .size ≤ 32
@@ -126,11 +128,13 @@ task-valid t h =
     record {
       variables-few = parts .0;
       actions-few = parts .1 .0;
+      variables = parts .1 .1 .0;
       size-least = λ v l. simp facts at (all-at validVariable (t .variables) (variable 0 0) v (parts .1 .1 .0) l) .0;
       size-most = λ v. sizes-most (t .variables) v (parts .1 .1 .0);
       start = λ v l. simp facts at (all-at validVariable (t .variables) (variable 0 0) v (parts .1 .1 .0) l) .1 .1;
       goal-few = parts .1 .1 .1 .0;
       goal = parts .1 .1 .1 .1 .0;
-      actions = λ a. action-valid t (actionOf t a) (all-anywhere (validAction t) (t .actions) (action 0 [] []) a (parts .1 .1 .1 .1 .1 .0) refl);
+      actions = parts .1 .1 .1 .1 .1 .0;
+      action = λ a. action-valid t (actionOf t a) (all-anywhere (validAction t) (t .actions) (action 0 [] []) a (parts .1 .1 .1 .1 .1 .0) refl);
       file = parts .1 .1 .1 .1 .1 .1;
     }
