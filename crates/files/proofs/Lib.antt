@@ -17,6 +17,7 @@ pub mod Variables
 pub mod Pairs
 pub mod Actions
 pub mod TaskLaid
+pub mod TaskChecked
 pub mod TaskRoundTrip
 pub mod OriginRoundTrip
 pub mod PlanRoundTrip

@@ -18,7 +18,7 @@ use Rattle.files.proofs.Pairs.{pair-bytes-length, pairs-read, pairs-pas
 use Rattle.files.proofs.Actions.{actions-read, actions-pass}
 
 module _ (t : Task) where
-  abbrev headerBody : List ℕ
+  abbrev pub headerBody : List ℕ
   headerBody = u16Bytes (variableCount t) ++ u16Bytes (actionCount t)
 
   -- the records up to the variables, and up to the goal
@@ -28,10 +28,10 @@ module _ (t : Task) where
   abbrev toGoal : List ℕ
   toGoal = toVariables ++ recordBytes 3 (pairBytes (t .goal))
 
-  abbrev goalStart : ℕ
+  abbrev pub goalStart : ℕ
   goalStart = 8 + 8 * variableCount t
 
-  abbrev actionsStart : ℕ
+  abbrev pub actionsStart : ℕ
   actionsStart = 12 + 8 * variableCount t + 4 * length (t .goal)
 
   to-variables-length : length toVariables ≡ goalStart
