@@ -19,6 +19,8 @@ pub mod Actions
 pub mod TaskLaid
 pub mod TaskChecked
 pub mod TaskRoundTrip
+pub mod Rising
+pub mod Origins
 pub mod OriginRoundTrip
 pub mod PlanRoundTrip
 pub mod Tabulate
