@@ -96,3 +96,74 @@ module _ (f : List ℕ) where
         let long = record-length 6 first in
         stands-join (recordBytes 6 first) (variableOriginBytes (originsFrom f (recordEnd f at) count)) (omega (arith, r .long)) (record-stands o r)
         (origins-stand (u16At f (at + 4) + 1) (recordEnd f at) count (omega (arith, r .long, r .stands .room)) (found .1))
+
+  -- a variable origin that stands
+  record OriginRead (low at : ℕ) (v : VariableOrigin) : Type 0 where
+    pass : variableOriginAt f low at .number ≡ 0
+    same : originRead f at ≡ v
+    kind : kindAt f at ≡ 6
+    end : recordEnd f at ≡ at + length (recordBytes 6 (originBody v))
+
+  origin-read : (low at : ℕ) (v : VariableOrigin) → Stands f at (recordBytes 6 (originBody v)) → low ≤ v .variable → v .variable < 64 → validValues v ≡ true → OriginRead low at v
+  unfolding variableOriginAt headAt bodyFits bodyRule recordEnd valuesIn originBody validValues u16Bytes
+  origin-read low at v s l k h =
+      let valid = simp facts at h in
+      let long = origin-body-length v in
+      let r = recorded 6 (originBody v) s (omega arith) (omega arith) in
+      let variable : u16At f (at + 4) ≡ v .variable =
+          stands-u16 (v .variable) (stands-left (u16Bytes (v .variable)) (numberBytes (v .values)) (r .stands)) (omega arith) in
+      let count : valuesIn f at ≡ length (v .values) = omega (arith, r .long) in
+      let values : numbersFrom f (at + 6) (valuesIn f at) ≡ v .values =
+          rw count
+          (numbers-read 32 f (v .values) (at + 6) (omega arith)
+          (stands-right (u16Bytes (v .variable)) (numberBytes (v .values)) (omega arith) (r .stands))
+          (valid .1 .1)) in
+      record {
+        pass =
+            simp facts
+            (omega (arith, r .long, r .named, r .stands .room),
+            (omega arith,
+            (omega arith,
+            under-numbers 32 f (at + 6) (valuesIn f at) (rw values (valid .1 .1)))));
+        same = λ i. record { variable = variable i; values = values i };
+        kind = r .named;
+        end = omega (arith, record-length 6 (originBody v), r .long);
+      }
+
+  -- records of kind 6 are counted up to the first of another kind
+  none-counted : (at bound : ℕ) → (kindAt f at ≡ 6 → ⊥) → variableOriginsFrom f at bound ≡ 0
+  unfolding variableOriginsFrom
+  none-counted at zero d = refl
+  none-counted at (suc bound) d = rw (ne-eqb (kindAt f at) 6 d) refl
+
+  one-counted : (at bound n : ℕ) → kindAt f at ≡ 6 → suc n < bound → ((b : ℕ) → n < b → variableOriginsFrom f (recordEnd f at) b ≡ n) → variableOriginsFrom f at bound ≡ suc n
+  unfolding variableOriginsFrom
+  one-counted at zero n k l rest = absurd (omega arith)
+  one-counted at (suc bound) n k l rest = rw (eq-eqb (kindAt f at) 6 k) (ap suc (rest bound (omega arith)))
+
+  -- variable origins that stand in a row, with another kind of record behind them
+  pub record OriginsRead (low at : ℕ) (vs : List VariableOrigin) : Type 0 where
+    pub pass : variableOriginsAt f low at (length vs) .number ≡ 0
+    pub same : originsFrom f at (length vs) ≡ vs
+    pub end : recordsEnd f at (length vs) ≡ at + length (variableOriginBytes vs)
+    pub counted : (bound : ℕ) → length vs < bound → (kindAt f (recordsEnd f at (length vs)) ≡ 6 → ⊥) → variableOriginsFrom f at bound ≡ length vs
+
+  pub origins-read : (low : ℕ) (vs : List VariableOrigin) (at : ℕ) → Stands f at (variableOriginBytes vs) → rising 64 low (numbersOf vs) ≡ true → allOf validValues vs ≡ true → OriginsRead low at vs
+  unfolding variableOriginsAt originsFrom recordsEnd variableOriginBytes rising
+  origins-read low [] at s h g = record { pass = refl; same = refl; end = omega arith; counted = λ bound l d. none-counted at bound d }
+  origins-read low (v ∷ vs) at s h g =
+      let rises = simp facts at h in
+      let valid = simp facts at g in
+      let first = origin-read low at v (stands-left (recordBytes 6 (originBody v)) (variableOriginBytes vs) s) (rises .0) (rises .1 .0) (valid .0) in
+      let next : u16At f (at + 4) ≡ v .variable = ap (λ (w : VariableOrigin). w .variable) (first .same) in
+      let rest =
+          origins-read (v .variable + 1) vs (recordEnd f at)
+          (stands-right (recordBytes 6 (originBody v)) (variableOriginBytes vs) (first .end) s)
+          (rises .1 .1)
+          (valid .1) in
+      record {
+        pass = simp facts (first .pass, rw next (rest .pass));
+        same = λ i. first .same i ∷ rest .same i;
+        end = rest .end ∙ omega (arith, first .end, length-append (recordBytes 6 (originBody v)) (variableOriginBytes vs));
+        counted = λ bound l d. one-counted at bound (length vs) (first .kind) l (λ b m. rest .counted b m d);
+      }
