@@ -1,17 +1,17 @@
 -- Actions that stand in a row: what is read there, what was written there, and that they are the task's.
-use Prim.Native.Nat.{ℕ, zero, suc, _+_, _*_, _≤_, _<_}
-use mathlib.Core.Path.{_≡_, refl, sym, ap, _∙_}
-use mathlib.Core.Bool.{Bool, true, false, _&&_}
+use Prim.Native.Nat.{ℕ, zero, suc, _+_, _*_, _≤_}
+use mathlib.Core.Path.{_≡_, refl, ap}
+use mathlib.Core.Bool.{true}
 use mathlib.Core.List.{List, [], _∷_, _++_}
 use native.Mathlib.Omega.{arith}
 use native.Mathlib.Nat.{add-zero}
 use lib.ListN.{length, length-append}
 use Rattle.files.specs.Below.{allOf}
-use Rattle.files.specs.Bytes.{u16At, u32At, u16Bytes, u32Bytes}
-use Rattle.files.specs.Records.{bodyLength, recordEnd, recordsEnd, bodyRule, bodyFits, headAt, signOffAt, recordBytes}
+use Rattle.files.specs.Bytes.{u16Bytes, u32Bytes}
+use Rattle.files.specs.Records.{recordEnd, recordsEnd, bodyRule, bodyFits, headAt, signOffAt, recordBytes}
 use Rattle.files.specs.Task.{Action, Task, action}
-use Rattle.files.specs.TaskFile.{conditionsIn, effectsIn, actionLength, effectsPlace, actionFormAt, actionAt, actionsAt, pairsAt, pairsFrom, actionFrom, actionsFrom, pairBytes, actionBody, actionBytes}
-use Rattle.files.specs.Accepted.{validPairs, validAction}
+use Rattle.files.specs.TaskFile.{conditionsIn, effectsIn, actionLength, effectsPlace, actionFormAt, actionAt, actionsAt, pairsFrom, actionFrom, actionsFrom, pairBytes, actionBody, actionBytes}
+use Rattle.files.specs.Accepted.{validAction}
 use Rattle.files.proofs.Done.{facts}
 use Rattle.files.proofs.Stands.{Octets, Stands, stands-none, stands-left, stands-right, stands-join, stands-u16, stands-u32, u16-stands, u32-stands}
 use Rattle.files.proofs.RecordStands.{record-length, Recorded, recorded, record-stands}
@@ -111,12 +111,19 @@ module _ (f : List ℕ) where
         let found = simp facts at e in
         let conditions = pairs-length f (at + 12) (conditionsIn f at) in
         let effects = pairs-length f (effectsPlace f at) (effectsIn f at) in
-        simp facts
-        (omega arith,
-        (omega arith,
-        (omega arith,
-        (pairs-checked f t states 0 (at + 12) (conditionsIn f at) (found .1 .1 .0),
-        pairs-checked f t states 0 (effectsPlace f at) (effectsIn f at) (found .1 .1 .1)))))
+        simp facts (
+          omega arith,
+          (
+            omega arith,
+            (
+              omega arith,
+              (
+                pairs-checked f t states 0 (at + 12) (conditionsIn f at) (found .1 .1 .0),
+                pairs-checked f t states 0 (effectsPlace f at) (effectsIn f at) (found .1 .1 .1),
+              ),
+            ),
+          ),
+        )
 
   pub actions-checked : (t : Task) → States f t → (at count : ℕ) → actionsAt f at count .number ≡ 0 → allOf (validAction t) (actionsFrom f at count) ≡ true
   unfolding actionsAt actionsFrom
@@ -137,11 +144,13 @@ module _ (f : List ℕ) where
     actions-end at (suc count) e =
         let found = simp facts at e in
         let first = actionBody (actionFrom f at) in
-        omega (arith,
-        action-recorded at (found .0) o .long,
-        record-length 4 first,
-        length-append (recordBytes 4 first) (actionBytes (actionsFrom f (recordEnd f at) count)),
-        actions-end (recordEnd f at) count (found .1))
+        omega (
+          arith,
+          action-recorded at (found .0) o .long,
+          record-length 4 first,
+          length-append (recordBytes 4 first) (actionBytes (actionsFrom f (recordEnd f at) count)),
+          actions-end (recordEnd f at) count (found .1),
+        )
 
     pub actions-stand : (at count : ℕ) → at ≤ length f → actionsAt f at count .number ≡ 0 → Stands f at (actionBytes (actionsFrom f at count))
     unfolding actionsAt actionsFrom actionBytes recordEnd
@@ -172,16 +181,21 @@ module _ (f : List ℕ) where
         let condition-count = stands-u16 (length (a .conditions)) (p .condition-count) (omega (arith, v .conditions-few)) in
         let effect-count = stands-u16 (length (a .effects)) (p .effect-count) (omega (arith, v .effects-few)) in
         let conditions : pairsFrom f (at + 12) (conditionsIn f at) ≡ a .conditions =
-            rw condition-count (pairs-read f t valid 0 (a .conditions) (at + 12) (p .conditions) (v .conditions)) in
+        rw condition-count (pairs-read f t valid 0 (a .conditions) (at + 12) (p .conditions) (v .conditions)) in
         let effects : pairsFrom f (effectsPlace f at) (effectsIn f at) ≡ a .effects =
-            rw (condition-count, effect-count) (pairs-read f t valid 0 (a .effects) (at + 12 + 4 * length (a .conditions)) (p .effects) (v .effects)) in
+        rw (condition-count, effect-count) (pairs-read f t valid 0 (a .effects) (at + 12 + 4 * length (a .conditions)) (p .effects) (v .effects)) in
         record {
           pass =
-              simp facts
-              (omega (arith, r .long, r .named, r .stands .room),
-              (omega (arith, v .cost, v .conditions-few, v .effects-few, r .long),
-              (pairs-pass f t states 0 (at + 12) (conditionsIn f at) (rw conditions (v .conditions)),
-              pairs-pass f t states 0 (effectsPlace f at) (effectsIn f at) (rw effects (v .effects)))));
+              simp facts (
+                omega (arith, r .long, r .named, r .stands .room),
+                (
+                  omega (arith, v .cost, v .conditions-few, v .effects-few, r .long),
+                  (
+                    pairs-pass f t states 0 (at + 12) (conditionsIn f at) (rw conditions (v .conditions)),
+                    pairs-pass f t states 0 (effectsPlace f at) (effectsIn f at) (rw effects (v .effects)),
+                  ),
+                ),
+              );
           same = λ i. action (cost i) (conditions i) (effects i);
           end = omega (arith, record-length 4 (actionBody a), r .long);
         }
@@ -203,8 +217,9 @@ module _ (f : List ℕ) where
     actions-pass (a ∷ actions) at end s h l e =
         let v = simp facts at h in
         let first = action-read at a (stands-left (recordBytes 4 (actionBody a)) (actionBytes actions) s) (v .0) in
-        simp facts
-        (first .pass,
-        actions-pass actions (recordEnd f at) end (stands-right (recordBytes 4 (actionBody a)) (actionBytes actions) (first .end) s) (v .1)
-        (omega (arith, first .end, length-append (recordBytes 4 (actionBody a)) (actionBytes actions)))
-        e)
+        simp facts (
+          first .pass,
+          actions-pass actions (recordEnd f at) end (stands-right (recordBytes 4 (actionBody a)) (actionBytes actions) (first .end) s) (v .1)
+              (omega (arith, first .end, length-append (recordBytes 4 (actionBody a)) (actionBytes actions)))
+              e,
+        )

@@ -20,6 +20,7 @@ pub mod TaskLaid
 pub mod TaskChecked
 pub mod TaskRoundTrip
 pub mod Rising
+pub mod ValidOrigin
 pub mod Origins
 pub mod OriginRoundTrip
 pub mod PlanRoundTrip

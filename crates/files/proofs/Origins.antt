@@ -1,29 +1,25 @@
 -- Variable origins that stand in a row: what is read there, what was written there, and that they are valid.
-use Prim.Native.Nat.{ℕ, zero, suc, _+_, _*_, _-_, _/_, _≤_, _<_}
-use mathlib.Core.Path.{_≡_, refl, sym, ap, _∙_}
-use mathlib.Core.Bool.{Bool, true, false, cond, _&&_}
-use mathlib.Core.List.{List, [], _∷_, _++_, map}
+use Prim.Native.Nat.{ℕ, zero, suc, _+_, _*_, _≤_, _<_}
+use mathlib.Core.Path.{_≡_, refl, ap, _∙_}
+use mathlib.Core.Bool.{true}
+use mathlib.Core.List.{List, [], _∷_}
 use native.Mathlib.Omega.{arith}
 use native.Mathlib.Nat.{add-zero}
 use lib.ListN.{length, length-append}
-use lib.Dec.{eqb}
 use borrow.Author.Tests.{eq-eqb, ne-eqb}
 use Rattle.files.specs.Below.{allOf}
 use Rattle.files.specs.Bytes.{u16At, u16Bytes}
-use Rattle.files.specs.Records.{bodyLength, kindAt, recordEnd, recordsEnd, bodyRule, bodyFits, headAt, numbersAt, numbersFrom, numberBytes, recordBytes}
+use Rattle.files.specs.Records.{kindAt, recordEnd, recordsEnd, bodyRule, bodyFits, headAt, numbersFrom, numberBytes, recordBytes}
 use Rattle.files.specs.OriginFile.{VariableOrigin, valuesIn, variableOriginAt, variableOriginsAt, variableOriginsFrom, originsFrom, originBody, variableOriginBytes}
 use Rattle.files.specs.Accepted.{rising, validValues}
 use Rattle.files.proofs.Done.{facts}
 use Rattle.files.proofs.Stands.{Octets, Stands, stands-none, stands-left, stands-right, stands-join, stands-u16, u16-stands}
 use Rattle.files.proofs.RecordStands.{record-length, Recorded, recorded, record-stands}
+use Rattle.files.proofs.ValidOrigin.{numbersOf}
 use Rattle.files.proofs.Numbers.{numbers-length, number-bytes-length, numbers-read, numbers-under, under-numbers, numbers-stand}
 
 abbrev originRead : List ℕ → ℕ → VariableOrigin
 originRead f at = record { variable = u16At f (at + 4); values = numbersFrom f (at + 6) (valuesIn f at) }
-
--- the original numbers of variables
-abbrev pub numbersOf : List VariableOrigin → List ℕ
-numbersOf vs = map (λ v. v .variable) vs
 
 pub origins-length : (s : List ℕ) (at count : ℕ) → length (originsFrom s at count) ≡ count
 unfolding originsFrom
@@ -33,6 +29,20 @@ origins-length s at (suc count) = ap suc (origins-length s (recordEnd s at) coun
 pub origin-body-length : (v : VariableOrigin) → length (originBody v) ≡ 2 + 2 * length (v .values)
 unfolding originBody u16Bytes
 origin-body-length v = omega (arith, number-bytes-length (v .values))
+
+-- each record has at most 32 values
+pub origin-bytes-few : (vs : List VariableOrigin) → allOf validValues vs ≡ true → length (variableOriginBytes vs) ≤ 70 * length vs
+unfolding variableOriginBytes validValues
+origin-bytes-few [] h = omega arith
+origin-bytes-few (v ∷ vs) h =
+    let valid = simp facts at h in
+    omega (
+      arith,
+      origin-body-length v,
+      record-length 6 (originBody v),
+      length-append (recordBytes 6 (originBody v)) (variableOriginBytes vs),
+      origin-bytes-few vs (valid .1),
+    )
 
 module _ (f : List ℕ) where
   -- a variable origin whose check is done
@@ -80,11 +90,13 @@ module _ (f : List ℕ) where
     origins-end low at (suc count) e =
         let found = simp facts at e in
         let first = originBody (originRead f at) in
-        omega (arith,
-        origin-recorded low at (found .0) o .long,
-        record-length 6 first,
-        length-append (recordBytes 6 first) (variableOriginBytes (originsFrom f (recordEnd f at) count)),
-        origins-end (u16At f (at + 4) + 1) (recordEnd f at) count (found .1))
+        omega (
+          arith,
+          origin-recorded low at (found .0) o .long,
+          record-length 6 first,
+          length-append (recordBytes 6 first) (variableOriginBytes (originsFrom f (recordEnd f at) count)),
+          origins-end (u16At f (at + 4) + 1) (recordEnd f at) count (found .1),
+        )
 
     pub origins-stand : (low at count : ℕ) → at ≤ length f → variableOriginsAt f low at count .number ≡ 0 → Stands f at (variableOriginBytes (originsFrom f at count))
     unfolding variableOriginsAt originsFrom variableOriginBytes recordEnd
@@ -111,20 +123,25 @@ module _ (f : List ℕ) where
       let long = origin-body-length v in
       let r = recorded 6 (originBody v) s (omega arith) (omega arith) in
       let variable : u16At f (at + 4) ≡ v .variable =
-          stands-u16 (v .variable) (stands-left (u16Bytes (v .variable)) (numberBytes (v .values)) (r .stands)) (omega arith) in
+      stands-u16 (v .variable) (stands-left (u16Bytes (v .variable)) (numberBytes (v .values)) (r .stands)) (omega arith) in
       let count : valuesIn f at ≡ length (v .values) = omega (arith, r .long) in
       let values : numbersFrom f (at + 6) (valuesIn f at) ≡ v .values =
-          rw count
-          (numbers-read 32 f (v .values) (at + 6) (omega arith)
-          (stands-right (u16Bytes (v .variable)) (numberBytes (v .values)) (omega arith) (r .stands))
-          (valid .1 .1)) in
+      rw count
+      (numbers-read 32 f (v .values) (at + 6) (omega arith)
+      (stands-right (u16Bytes (v .variable)) (numberBytes (v .values)) (omega arith) (r .stands))
+      (valid .1 .1)) in
       record {
         pass =
-            simp facts
-            (omega (arith, r .long, r .named, r .stands .room),
-            (omega arith,
-            (omega arith,
-            under-numbers 32 f (at + 6) (valuesIn f at) (rw values (valid .1 .1)))));
+            simp facts (
+              omega (arith, r .long, r .named, r .stands .room),
+              (
+                omega arith,
+                (
+                  omega arith,
+                  under-numbers 32 f (at + 6) (valuesIn f at) (rw values (valid .1 .1)),
+                ),
+              ),
+            );
         same = λ i. record { variable = variable i; values = values i };
         kind = r .named;
         end = omega (arith, record-length 6 (originBody v), r .long);
@@ -157,10 +174,10 @@ module _ (f : List ℕ) where
       let first = origin-read low at v (stands-left (recordBytes 6 (originBody v)) (variableOriginBytes vs) s) (rises .0) (rises .1 .0) (valid .0) in
       let next : u16At f (at + 4) ≡ v .variable = ap (λ (w : VariableOrigin). w .variable) (first .same) in
       let rest =
-          origins-read (v .variable + 1) vs (recordEnd f at)
-          (stands-right (recordBytes 6 (originBody v)) (variableOriginBytes vs) (first .end) s)
-          (rises .1 .1)
-          (valid .1) in
+      origins-read (v .variable + 1) vs (recordEnd f at)
+      (stands-right (recordBytes 6 (originBody v)) (variableOriginBytes vs) (first .end) s)
+      (rises .1 .1)
+      (valid .1) in
       record {
         pass = simp facts (first .pass, rw next (rest .pass));
         same = λ i. first .same i ∷ rest .same i;

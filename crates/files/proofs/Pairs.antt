@@ -1,7 +1,7 @@
 -- Pairs that stand in a row: what is read there, what was written there, and that they are the task's.
 use Prim.Native.Nat.{ℕ, zero, suc, _+_, _*_, _≤_, _<_}
-use mathlib.Core.Path.{_≡_, refl, sym, ap, _∙_}
-use mathlib.Core.Bool.{Bool, true, false, _&&_}
+use mathlib.Core.Path.{_≡_, refl, ap}
+use mathlib.Core.Bool.{true}
 use mathlib.Core.List.{List, [], _∷_, _++_}
 use native.Mathlib.Omega.{arith}
 use lib.ListN.{length}
@@ -45,11 +45,11 @@ module _ (f : List ℕ) (t : Task) where
       let size = valid .size-most (p .variable) in
       let variable = stands-u16 (p .variable) (stands-left (u16Bytes (p .variable)) (u16Bytes (p .value)) both) (omega arith) in
       let value : u16At f (at + 2) ≡ p .value =
-          stands-u16 (p .value) (stands-right (u16Bytes (p .variable)) (u16Bytes (p .value)) (omega arith) both) (omega arith) in
+      stands-u16 (p .value) (stands-right (u16Bytes (p .variable)) (u16Bytes (p .value)) (omega arith) both) (omega arith) in
       let rest =
-          pairs-read valid (p .variable + 1) ps (at + 4)
-          (stands-right (u16Bytes (p .variable) ++ u16Bytes (p .value)) (pairBytes ps) (omega arith) s)
-          (first .1 .1 .1) in
+      pairs-read valid (p .variable + 1) ps (at + 4)
+      (stands-right (u16Bytes (p .variable) ++ u16Bytes (p .value)) (pairBytes ps) (omega arith) s)
+      (first .1 .1 .1) in
       λ i. pair (variable i) (value i) ∷ rest i
 
   -- the check is done where the pairs read are the task's, and only there

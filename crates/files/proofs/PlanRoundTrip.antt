@@ -1,19 +1,19 @@
 -- A plan file that is written reads back, and a file that reads as a plan is the one written for it.
-use Prim.Native.Nat.{ℕ, suc, _+_, _*_, _/_, _≤_, _<_}
-use mathlib.Core.Path.{_≡_, refl, sym, ap, _∙_}
-use mathlib.Core.Bool.{Bool, true, false, _&&_}
+use Prim.Native.Nat.{ℕ, _+_, _*_, _/_, _≤_}
+use mathlib.Core.Path.{_≡_, refl, _∙_}
+use mathlib.Core.Bool.{true}
 use mathlib.Core.List.{List}
 use native.Mathlib.Omega.{arith}
 use lib.ListN.{length}
 use Rattle.files.specs.Outcome.{done}
-use Rattle.files.specs.Records.{bodyLength, recordEnd, bodyRule, bodyFits, headAt, numbersAt, signOffAt, sizeFits, signerOf, numbersFrom, numberBytes, recordBytes, signed}
+use Rattle.files.specs.Records.{bodyLength, recordEnd, bodyRule, bodyFits, headAt, sizeFits, signerOf, numberBytes, recordBytes}
 use Rattle.files.specs.PlanFile.{stepsIn, checkPlanFile, planOf, planFile}
 use Rattle.files.specs.Reading.{under, readPlan}
 use Rattle.files.specs.Accepted.{validSigner, acceptedPlan}
 use Rattle.files.proofs.Done.{facts}
 use Rattle.files.proofs.Whole.{plan-check-done}
 use Rattle.files.proofs.ReadAs.{reads-as, read-as}
-use Rattle.files.proofs.Stands.{Octets, Stands}
+use Rattle.files.proofs.Stands.{Octets}
 use Rattle.files.proofs.RecordStands.{record-length, Recorded, recorded, record-stands}
 use Rattle.files.proofs.Numbers.{allUnder, numbers-length, number-bytes-length, numbers-read, numbers-under, under-numbers, numbers-stand}
 use Rattle.files.proofs.SignOff.{records-stand, signed-length, signed-signer, signed-done, signed-off, file-signed}
@@ -72,11 +72,16 @@ module _ (actions : ℕ) (plan : List ℕ) (signer : ℕ) (few : actions ≤ 655
       let short = records-length in
       let long = number-bytes-length plan in
       let r = plan-recorded in
-      simp facts
-      (omega (arith, signed-length signer records),
-      (omega (arith, r .stands .room),
-      (under-numbers actions written 4 (stepsIn written) (rw plan-read steps-under),
-      signed-done signer records (omega arith) v (recordEnd written 0) (omega arith))))
+      simp facts (
+        omega (arith, signed-length signer records),
+        (
+          omega (arith, r .stands .room),
+          (
+            under-numbers actions written 4 (stepsIn written) (rw plan-read steps-under),
+            signed-done signer records (omega arith) v (recordEnd written 0) (omega arith),
+          ),
+        ),
+      )
 
   pub plan-reads-back : readPlan actions (planFile plan signer) ≡ under plan signer
   unfolding readPlan planFile
@@ -103,7 +108,7 @@ module _ (actions : ℕ) (f : List ℕ) (o : Octets f) (e : checkPlanFile action
       let steps = plan-length f in
       let long = number-bytes-length (planOf f) in
       let r : Recorded f 0 8 (numberBytes (planOf f)) =
-          record { long = omega arith; named = omega arith; stands = numbers-stand f o 4 (stepsIn f) (omega arith) } in
+      record { long = omega arith; named = omega arith; stands = numbers-stand f o 4 (stepsIn f) (omega arith) } in
       file-signed f (recordBytes 8 (numberBytes (planOf f))) (recordEnd f 0) o (record-stands o r)
       (omega (arith, record-length 8 (numberBytes (planOf f)))) (found .1 .1 .1)
 

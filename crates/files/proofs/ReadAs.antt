@@ -1,11 +1,11 @@
 -- A file reads as its content under its signer exactly where its check is done.
 use Prim.Native.Nat.{ℕ}
-use mathlib.Core.Path.{_≡_, refl, sym, ap, _∙_}
+use mathlib.Core.Path.{_≡_, refl}
 use mathlib.Core.Bool.{Bool, true, false, cond}
 use native.Mathlib.Omega.{arith}
 use Rattle.files.specs.declared.Outcome.{Outcome}
 use Rattle.files.specs.Outcome.{isDone}
-use Rattle.files.specs.Reading.{Reading, refused, under, reading}
+use Rattle.files.specs.Reading.{refused, under, reading}
 use Rattle.files.proofs.Guards.{is-done, done-number}
 
 module _ {A : Type 0} (o : Outcome) (content : A) (signer : ℕ) where

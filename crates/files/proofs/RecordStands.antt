@@ -1,24 +1,12 @@
 -- Records that stand at a place of a file: what is read there, and what was written there.
-use Prim.Native.Nat.{ℕ, zero, suc, _+_, _*_, _-_, _^_, _≤_, _<_}
-use mathlib.Core.Path.{_≡_, refl, sym, ap, _∙_}
-use mathlib.Core.Bool.{Bool, true, false}
-use mathlib.Core.List.{List, [], _∷_, _++_}
+use Prim.Native.Nat.{ℕ, _+_, _<_}
+use mathlib.Core.Path.{_≡_}
+use mathlib.Core.List.{List, _++_}
 use native.Mathlib.Omega.{arith}
-use lib.ListN.{length, getD, length-append}
-use Rattle.files.specs.Bytes.{u16At, u32At, u16Bytes, u32Bytes}
-use Rattle.files.specs.Records.{bodyLength, kindAt, recordEnd, bodyRule, bodyFits, headAt, numbersAt, signOffAt, signerOf, numbersFrom, numberBytes, recordBytes, signed}
-use Rattle.files.specs.Accepted.{validSigner}
-use Rattle.files.proofs.Done.{facts}
-use Rattle.files.proofs.Stands.{Octets, Stands, stands-none, stands-left, stands-right, stands-join, stands-whole, stands-u16, stands-u32, u16-stands, u32-stands, u32-below}
-
--- two and four bytes
-pub u16-length : (n : ℕ) → length (u16Bytes n) ≡ 2
-unfolding u16Bytes
-u16-length n = refl
-
-pub u32-length : (n : ℕ) → length (u32Bytes n) ≡ 4
-unfolding u32Bytes u16Bytes
-u32-length n = refl
+use lib.ListN.{length}
+use Rattle.files.specs.Bytes.{u16Bytes}
+use Rattle.files.specs.Records.{bodyLength, kindAt, recordBytes}
+use Rattle.files.proofs.Stands.{Octets, Stands, stands-left, stands-right, stands-join, stands-u16, u16-stands}
 
 pub record-length : (kind : ℕ) (body : List ℕ) → length (recordBytes kind body) ≡ 4 + length body
 unfolding recordBytes u16Bytes

@@ -1,16 +1,16 @@
 -- Signed files: the sign-off that stands behind the records, what is read there, and what a check has found there.
-use Prim.Native.Nat.{ℕ, _+_, _-_, _≤_, _<_}
-use mathlib.Core.Path.{_≡_, refl, sym, ap, _∙_}
-use mathlib.Core.Bool.{Bool, true, false, _&&_}
+use Prim.Native.Nat.{ℕ, _+_, _≤_}
+use mathlib.Core.Path.{_≡_, refl, ap, _∙_}
+use mathlib.Core.Bool.{true}
 use mathlib.Core.List.{List, _++_}
 use native.Mathlib.Omega.{arith}
 use lib.ListN.{length, length-append}
 use Rattle.files.specs.Bytes.{u32At, u16Bytes, u32Bytes}
-use Rattle.files.specs.Records.{bodyLength, recordEnd, bodyRule, bodyFits, headAt, signOffAt, signerOf, recordBytes, signed}
+use Rattle.files.specs.Records.{recordEnd, bodyRule, bodyFits, headAt, signOffAt, signerOf, recordBytes, signed}
 use Rattle.files.specs.Accepted.{validSigner}
 use Rattle.files.proofs.Done.{facts}
 use Rattle.files.proofs.Stands.{Octets, Stands, whole-stands, stands-whole, stands-left, stands-right, stands-join, stands-u32, u32-stands, u32-below}
-use Rattle.files.proofs.RecordStands.{u32-length, record-length, Recorded, recorded, record-stands}
+use Rattle.files.proofs.RecordStands.{recorded, record-stands}
 
 -- the sign-off of records of so many bytes
 abbrev pub signOffBytes : ℕ → ℕ → List ℕ

@@ -1,20 +1,20 @@
 -- A file whose check as a task is done: the task's records stand in it, and the task is accepted.
-use Prim.Native.Nat.{ℕ, _+_, _*_, _/_, _≤_, _<_}
-use mathlib.Core.Path.{_≡_, refl, sym, ap, _∙_}
-use mathlib.Core.Bool.{Bool, true, false, _&&_}
-use mathlib.Core.List.{List, _++_}
+use Prim.Native.Nat.{ℕ, _+_, _*_, _/_, _≤_}
+use mathlib.Core.Path.{_≡_, refl, sym}
+use mathlib.Core.Bool.{true}
+use mathlib.Core.List.{List}
 use native.Mathlib.Omega.{arith}
 use lib.ListN.{length}
-use Rattle.files.specs.Bytes.{u16At, u16Bytes}
+use Rattle.files.specs.Bytes.{u16Bytes}
 use Rattle.files.specs.Records.{bodyLength, kindAt, recordEnd, recordsEnd, bodyRule, bodyFits, headAt, signOffAt, sizeFits, signerOf, recordBytes}
-use Rattle.files.specs.Task.{Task, variableCount, actionCount}
-use Rattle.files.specs.TaskFile.{headerAt, variablesIn, actionsIn, variablesAt, variablePlace, pairsAt, goalAt, actionsAt, goalPlace, actionsPlace, checkTask, pairsFrom, variablesFrom, actionsFrom, taskOf, pairBytes, variableBytes, actionBytes, taskRecords, taskFile}
-use Rattle.files.specs.Accepted.{validSigner, validVariable, validPairs, validAction, acceptedTask}
+use Rattle.files.specs.Task.{variableCount, actionCount}
+use Rattle.files.specs.TaskFile.{headerAt, variablesIn, actionsIn, variablesAt, variablePlace, pairsAt, goalAt, actionsAt, goalPlace, actionsPlace, checkTask, taskOf, pairBytes, taskRecords, taskFile}
+use Rattle.files.specs.Accepted.{validSigner, acceptedTask}
 use Rattle.files.proofs.Done.{facts}
 use Rattle.files.proofs.Stands.{Octets, Stands, stands-at, stands-join, u16-stands}
-use Rattle.files.proofs.RecordStands.{record-length, Recorded, record-stands}
+use Rattle.files.proofs.RecordStands.{record-stands}
 use Rattle.files.proofs.SignOff.{signed-length, signed-off, file-signed}
-use Rattle.files.proofs.Variables.{variables-length, variable-bytes-length, variables-stand, variables-checked, States, states}
+use Rattle.files.proofs.Variables.{variables-length, variables-stand, variables-checked, States, states}
 use Rattle.files.proofs.Pairs.{pairs-length, pair-bytes-length, pairs-stand, pairs-checked}
 use Rattle.files.proofs.Actions.{actions-length, actions-stand, actions-end, actions-signed, actions-checked}
 use Rattle.files.proofs.TaskLaid.{Laid, laid-records, task-records-length, headerBody, goalStart, actionsStart}
@@ -82,9 +82,9 @@ module _ (f : List ℕ) (o : Octets f) (e : checkTask f .number ≡ 0) where
   header-stands =
       let c = checked in
       let first : Stands f 4 (u16Bytes (variableCount (taskOf f))) =
-          rw (variable-count f) (u16-stands f o 4 (omega (arith, c .header-room))) in
+      rw (variable-count f) (u16-stands f o 4 (omega (arith, c .header-room))) in
       let second : Stands f 6 (u16Bytes (actionCount (taskOf f))) =
-          rw (action-count f) (u16-stands f o 6 (omega (arith, c .header-room))) in
+      rw (action-count f) (u16-stands f o 6 (omega (arith, c .header-room))) in
       record-stands o
       (record {
         long = omega (arith, c .header-long);
@@ -125,10 +125,12 @@ module _ (f : List ℕ) (o : Octets f) (e : checkTask f .number ≡ 0) where
   records-end : length (taskRecords (taskOf f)) ≡ recordsEnd f (actionsPlace f) (actionsIn f)
   unfolding taskOf
   records-end =
-      omega (arith,
-      task-records-length (taskOf f),
-      actions-place,
-      actions-end f o (actionsPlace f) (actionsIn f) (checked .actions))
+      omega (
+        arith,
+        task-records-length (taskOf f),
+        actions-place,
+        actions-end f o (actionsPlace f) (actionsIn f) (checked .actions),
+      )
 
   signs-off : signOffAt f (recordsEnd f (actionsPlace f) (actionsIn f)) .number ≡ 0
   signs-off = actions-signed f (actionsPlace f) (actionsIn f) (checked .actions)
@@ -144,21 +146,34 @@ module _ (f : List ℕ) (o : Octets f) (e : checkTask f .number ≡ 0) where
   file-small : length (taskFile (taskOf f) 1) ≤ 65536
   unfolding taskFile
   file-small =
-      omega (arith,
-      signed-length 1 (taskRecords (taskOf f)),
-      records-end,
-      signed-off f (recordsEnd f (actionsPlace f) (actionsIn f)) o signs-off .end,
-      checked .small)
+      omega (
+        arith,
+        signed-length 1 (taskRecords (taskOf f)),
+        records-end,
+        signed-off f (recordsEnd f (actionsPlace f) (actionsIn f)) o signs-off .end,
+        checked .small,
+      )
 
   pub task-accepted : acceptedTask (taskOf f) ≡ true
   unfolding acceptedTask taskOf
   task-accepted =
       let c = checked in
-      simp facts
-      (omega (arith, variable-count f, c .variables-few),
-      (omega (arith, action-count f, c .actions-few),
-      (variables-checked f 8 (variablesIn f) (c .variables),
-      (omega (arith, goal-count f, c .goal-few),
-      (pairs-checked f (taskOf f) (stated f) 0 (goalPlace f + 4) (bodyLength f (goalPlace f) / 4) (c .goal),
-      (actions-checked f (taskOf f) (stated f) (actionsPlace f) (actionsIn f) (c .actions),
-      file-small))))))
+      simp facts (
+        omega (arith, variable-count f, c .variables-few),
+        (
+          omega (arith, action-count f, c .actions-few),
+          (
+            variables-checked f 8 (variablesIn f) (c .variables),
+            (
+              omega (arith, goal-count f, c .goal-few),
+              (
+                pairs-checked f (taskOf f) (stated f) 0 (goalPlace f + 4) (bodyLength f (goalPlace f) / 4) (c .goal),
+                (
+                  actions-checked f (taskOf f) (stated f) (actionsPlace f) (actionsIn f) (c .actions),
+                  file-small,
+                ),
+              ),
+            ),
+          ),
+        ),
+      )

@@ -1,17 +1,16 @@
 -- The records of a task as they stand in a file, each at its place.
-use Prim.Native.Nat.{ℕ, zero, suc, _+_, _*_, _/_, _≤_, _<_}
-use mathlib.Core.Path.{_≡_, refl, sym, ap, _∙_}
-use mathlib.Core.Bool.{Bool, true, false, _&&_}
-use mathlib.Core.List.{List, [], _∷_, _++_}
+use Prim.Native.Nat.{ℕ, _+_, _*_, _/_, _≤_}
+use mathlib.Core.Path.{_≡_}
+use mathlib.Core.List.{List, _++_}
 use native.Mathlib.Omega.{arith}
 use lib.ListN.{length, length-append}
-use Rattle.files.specs.Bytes.{u16At, u16Bytes}
+use Rattle.files.specs.Bytes.{u16Bytes}
 use Rattle.files.specs.Records.{bodyLength, recordEnd, bodyRule, bodyFits, headAt, signOffAt, sizeFits, recordBytes}
 use Rattle.files.specs.Task.{Task, variableCount, actionCount}
 use Rattle.files.specs.TaskFile.{headerAt, variablesIn, actionsIn, variablePlace, goalAt, goalPlace, actionsPlace, checkTask, pairsFrom, variablesFrom, actionsFrom, taskOf, pairBytes, variableBytes, actionBytes, taskRecords}
 use Rattle.files.proofs.Done.{facts}
-use Rattle.files.proofs.Stands.{Octets, Stands, stands-left, stands-right, stands-join, stands-u16, u16-stands}
-use Rattle.files.proofs.RecordStands.{record-length, Recorded, recorded, record-stands}
+use Rattle.files.proofs.Stands.{Stands, stands-left, stands-right, stands-join, stands-u16}
+use Rattle.files.proofs.RecordStands.{record-length, Recorded, recorded}
 use Rattle.files.proofs.Valid.{Valid}
 use Rattle.files.proofs.Variables.{variable-bytes-length, variables-read, variables-pass, States, states}
 use Rattle.files.proofs.Pairs.{pair-bytes-length, pairs-read, pairs-pass}
@@ -40,11 +39,13 @@ module _ (t : Task) where
 
   to-goal-length : length toGoal ≡ actionsStart
   to-goal-length =
-      omega (arith,
-      length-append toVariables (recordBytes 3 (pairBytes (t .goal))),
-      to-variables-length,
-      record-length 3 (pairBytes (t .goal)),
-      pair-bytes-length (t .goal))
+      omega (
+        arith,
+        length-append toVariables (recordBytes 3 (pairBytes (t .goal))),
+        to-variables-length,
+        record-length 3 (pairBytes (t .goal)),
+        pair-bytes-length (t .goal),
+      )
 
   pub task-records-length : length (taskRecords t) ≡ actionsStart + length (actionBytes (t .actions))
   unfolding taskRecords
@@ -129,11 +130,20 @@ module _ (f : List ℕ) (t : Task) (l : Laid f t) (v : Valid t) where
   pub laid-done : length f ≤ 65536 → signOffAt f (length (taskRecords t)) .number ≡ 0 → checkTask f .number ≡ 0
   unfolding checkTask sizeFits headerAt goalAt headAt bodyFits bodyRule recordEnd variablesIn actionsIn u16Bytes
   laid-done small e =
-      simp facts
-      (small,
-      (omega (arith, header-recorded .long, header-recorded .named, header-recorded .stands .room, variables-in, actions-in, v .variables-few, v .actions-few),
-      (rw variables-in (variables-pass f (t .variables) 8 (l .variables) (v .variables)),
-      ((omega (arith, goal-recorded .long, goal-recorded .named, goal-recorded .stands .room, pair-bytes-length (t .goal), v .goal-few),
-      pairs-pass f t stated 0 (goalPlace f + 4) (bodyLength f (goalPlace f) / 4) (rw goal-same (v .goal))),
-      rw (actions-place, actions-in)
-      (actions-pass f t stated v (t .actions) (actionsStart t) (length (taskRecords t)) (l .actions) (v .actions) (omega (arith, task-records-length t)) e)))))
+      simp facts (
+        small,
+        (
+          omega (arith, header-recorded .long, header-recorded .named, header-recorded .stands .room, variables-in, actions-in, v .variables-few, v .actions-few),
+          (
+            rw variables-in (variables-pass f (t .variables) 8 (l .variables) (v .variables)),
+            (
+              (
+                omega (arith, goal-recorded .long, goal-recorded .named, goal-recorded .stands .room, pair-bytes-length (t .goal), v .goal-few),
+                pairs-pass f t stated 0 (goalPlace f + 4) (bodyLength f (goalPlace f) / 4) (rw goal-same (v .goal)),
+              ),
+              rw (actions-place, actions-in)
+                  (actions-pass f t stated v (t .actions) (actionsStart t) (length (taskRecords t)) (l .actions) (v .actions) (omega (arith, task-records-length t)) e),
+            ),
+          ),
+        ),
+      )

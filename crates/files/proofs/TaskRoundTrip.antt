@@ -1,12 +1,12 @@
 -- A task file that is written reads back, and a file that reads as a task is the one written for it.
 use Prim.Native.Nat.{ℕ, _+_, _≤_}
-use mathlib.Core.Path.{_≡_, refl, sym, _∙_}
-use mathlib.Core.Bool.{Bool, true, false}
+use mathlib.Core.Path.{_≡_, refl, _∙_}
+use mathlib.Core.Bool.{true}
 use mathlib.Core.List.{List}
 use native.Mathlib.Omega.{arith}
 use lib.ListN.{length}
 use Rattle.files.specs.Outcome.{done}
-use Rattle.files.specs.Records.{signerOf, signed}
+use Rattle.files.specs.Records.{signerOf}
 use Rattle.files.specs.Task.{Task}
 use Rattle.files.specs.TaskFile.{checkTask, taskOf, taskRecords, taskFile}
 use Rattle.files.specs.Reading.{under, readTask}
@@ -15,8 +15,8 @@ use Rattle.files.proofs.Whole.{task-check-done}
 use Rattle.files.proofs.ReadAs.{reads-as, read-as}
 use Rattle.files.proofs.Stands.{Octets}
 use Rattle.files.proofs.SignOff.{records-stand, signed-length, signed-signer, signed-done}
-use Rattle.files.proofs.Valid.{Valid, task-valid}
-use Rattle.files.proofs.TaskLaid.{Laid, records-laid, laid-task, laid-done}
+use Rattle.files.proofs.Valid.{task-valid}
+use Rattle.files.proofs.TaskLaid.{records-laid, laid-task, laid-done}
 use Rattle.files.proofs.TaskChecked.{task-written}
 
 module _ (f : List ℕ) where

@@ -1,19 +1,19 @@
 -- Variables that stand in a row: what is read there, what was written there, and that they are valid.
 use Prim.Native.Nat.{ℕ, zero, suc, _+_, _*_, _≤_, _<_}
-use mathlib.Core.Path.{_≡_, refl, sym, ap, _∙_}
-use mathlib.Core.Bool.{Bool, true, false, _&&_}
+use mathlib.Core.Path.{_≡_, refl, ap, _∙_}
+use mathlib.Core.Bool.{true}
 use mathlib.Core.List.{List, [], _∷_, _++_}
 use native.Mathlib.Omega.{arith}
 use lib.ListN.{length, getD}
 use Rattle.files.specs.Below.{allOf}
 use Rattle.files.specs.Bytes.{u16At, u16Bytes}
-use Rattle.files.specs.Records.{bodyLength, recordEnd, bodyRule, bodyFits, headAt, recordBytes}
+use Rattle.files.specs.Records.{recordEnd, bodyRule, bodyFits, headAt, recordBytes}
 use Rattle.files.specs.Task.{Variable, Task, variable, variableCount, sizeOf}
 use Rattle.files.specs.TaskFile.{variablesIn, variablePlace, sizeAt, variableAt, variablesAt, variablesFrom, variableBytes}
 use Rattle.files.specs.Accepted.{validVariable}
 use Rattle.files.proofs.Done.{facts}
 use Rattle.files.proofs.Stands.{Octets, Stands, stands-none, stands-left, stands-right, stands-join, stands-u16, u16-stands}
-use Rattle.files.proofs.RecordStands.{record-length, Recorded, recorded, record-stands}
+use Rattle.files.proofs.RecordStands.{recorded, record-stands}
 
 abbrev variableBody : Variable → List ℕ
 variableBody v = u16Bytes (v .size) ++ u16Bytes (v .start)
@@ -78,9 +78,9 @@ module _ (f : List ℕ) where
       let valid = simp facts at h in
       let r = recorded 2 (variableBody v) s (omega arith) (omega arith) in
       let size : u16At f (at + 4) ≡ v .size =
-          stands-u16 (v .size) (stands-left (u16Bytes (v .size)) (u16Bytes (v .start)) (r .stands)) (omega arith) in
+      stands-u16 (v .size) (stands-left (u16Bytes (v .size)) (u16Bytes (v .start)) (r .stands)) (omega arith) in
       let start : u16At f (at + 6) ≡ v .start =
-          stands-u16 (v .start) (stands-right (u16Bytes (v .size)) (u16Bytes (v .start)) (omega arith) (r .stands)) (omega arith) in
+      stands-u16 (v .start) (stands-right (u16Bytes (v .size)) (u16Bytes (v .start)) (omega arith) (r .stands)) (omega arith) in
       record { pass = simp facts (omega (arith, r .stands .room)); same = λ i. variable (size i) (start i) }
 
   pub variables-read : (vs : List Variable) (at : ℕ) → Stands f at (variableBytes vs) → allOf validVariable vs ≡ true → variablesFrom f at (length vs) ≡ vs

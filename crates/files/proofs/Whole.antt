@@ -64,7 +64,7 @@ module _ (s : List ℕ) where
   action-origins-whole : (low at count : ℕ) → Whole (actionOriginsAt s low at count)
   unfolding actionOriginsAt
   action-origins-whole low at zero = whole-done
-  action-origins-whole low at (suc count) = 
+  action-origins-whole low at (suc count) =
       whole-guard _ _ _ _ refl (whole-guard _ _ _ _ refl (action-origins-whole (u16At s at + 1) (at + 2) count))
 
   task-whole : Whole (checkTask s)
