@@ -101,7 +101,7 @@ module _ (actions : ℕ) (f : List ℕ) (o : Octets f) (e : checkPlanFile action
   unfolding checkPlanFile sizeFits
   plan-signer-valid = let found = simp facts at e in signed-off f (recordEnd f 0) o (found .1 .1 .1) .valid
 
-  plan-written : f ≡ planFile (planOf f) (signerOf f)
+  pub plan-written : f ≡ planFile (planOf f) (signerOf f)
   unfolding checkPlanFile sizeFits headAt bodyFits bodyRule recordEnd planFile planOf stepsIn
   plan-written =
       let found = simp facts at e in
