@@ -1,15 +1,12 @@
--- Tests as equations `b ≡ true`: splitting and joining them, and tests over lists at one entry.
-use mathlib.Core.Path.{_≡_, refl, sym, ap, _∙_}
-use mathlib.Core.Bool.{Bool, true, false, not, cond, _&&_, _||_}
-use mathlib.Core.List.{List, [], _∷_}
+-- Tests as equations `b ≡ true`: splitting and joining them.
+use mathlib.Core.Path.{_≡_, refl}
+use mathlib.Core.Bool.{Bool, true, false, cond, _&&_, _||_}
 use mathlib.Core.Logic.{_⊎_, inl, inr}
 use mathlib.Core.Option.{Option, none, some}
-use Prim.Native.Nat.{ℕ, zero, suc, _+_, _≤_, _<_}
+use Prim.Native.Nat.{ℕ, _≤_, _<_}
 use native.Mathlib.Omega.{arith}
 use lib.Dec.{leb}
-use lib.ListN.{length, getD}
 use borrow.Author.Tests.{leb-true, leb-false}
-use Rattle.files.specs.Below.{anyOf, allOf}
 
 pub clash {ℓ} : {X : Type ℓ} {b : Bool} → b ≡ true → b ≡ false → X
 clash p q = absurd (let z : _≡_ {A = ℕ} 0 1 = cc in omega arith)
@@ -47,9 +44,3 @@ or-left b e = rw e
 pub or-right : (a : Bool) {b : Bool} → b ≡ true → a || b ≡ true
 or-right true e = refl
 or-right false e = e
-
--- a test that every entry passes, at one of them
-pub allOf-entry : {A : Type 0} (f : A → Bool) (l : List A) (d : A) (i : ℕ) → allOf f l ≡ true → i < length l → f (getD l i d) ≡ true
-allOf-entry f [] d i e h = absurd (omega arith)
-allOf-entry f (x ∷ xs) d zero e h = and-split (f x) (allOf f xs) e .0
-allOf-entry f (x ∷ xs) d (suc i) e h = allOf-entry f xs d i (and-split (f x) (allOf f xs) e .1) (omega arith)

@@ -1,10 +1,10 @@
 -- Numbers of two bytes that stand in a row: what is read there, what a check has found there, and that they are below a limit.
-use Prim.Native.Nat.{ℕ, zero, suc, _+_, _*_, _≤_}
-use mathlib.Core.Path.{_≡_, refl, ap}
+use Prim.Native.Nat.{ℕ, zero, suc, _+_, _*_, _≤_, _<_}
+use mathlib.Core.Path.{_≡_, refl, ap, _∙_}
 use mathlib.Core.Bool.{Bool, true}
 use mathlib.Core.List.{List, [], _∷_}
 use native.Mathlib.Omega.{arith}
-use lib.ListN.{length}
+use lib.ListN.{length, getD}
 use lib.Dec.{ltb}
 use Rattle.files.specs.Below.{allOf}
 use Rattle.files.specs.Bytes.{u16At, u16Bytes}
@@ -16,6 +16,12 @@ pub numbers-length : (s : List ℕ) (at count : ℕ) → length (numbersFrom s a
 unfolding numbersFrom
 numbers-length s at zero = refl
 numbers-length s at (suc count) = ap suc (numbers-length s (at + 2) count)
+
+pub numbers-entry : (s : List ℕ) (at k i : ℕ) → i < k → getD (numbersFrom s at k) i 0 ≡ u16At s (at + 2 * i)
+unfolding numbersFrom
+numbers-entry s at zero i h = absurd (omega arith)
+numbers-entry s at (suc k) zero h = ap (u16At s) (omega arith)
+numbers-entry s at (suc k) (suc i) h = numbers-entry s (at + 2) k i (omega arith) ∙ ap (u16At s) (omega arith)
 
 pub number-bytes-length : (ns : List ℕ) → length (numberBytes ns) ≡ 2 * length ns
 unfolding numberBytes u16Bytes

@@ -11,7 +11,7 @@ use borrow.Author.Tests.{eq-eqb, ne-eqb}
 use Rattle.files.specs.declared.Outcome.{Outcome}
 use Rattle.files.specs.Bytes.{u16At}
 use Rattle.files.specs.Outcome.{done, refusal, guard, andThen}
-use Rattle.files.specs.Records.{kindAt, recordEnd, recordsEnd, numbersAt, signOffAt, numbersFrom}
+use Rattle.files.specs.Records.{kindAt, recordEnd, recordsEnd, numbersAt, signOffAt}
 use Rattle.files.specs.TaskFile.{variableAt, variablesAt, pairAt, pairsAt, actionAt, actionsAt}
 use Rattle.files.specs.OriginFile.{variableOriginAt, variableOriginsAt, actionOriginsAt, variableOriginsFrom}
 use Rattle.files.proofs.Guards.{goes-le, stops-le, goes-lt, stops-lt, goes-on, stops}
@@ -43,18 +43,6 @@ numbers-stop limit s at k whole n r w h e l f =
 pub numbers-next : (limit : ℕ) (s : List ℕ) (at k : ℕ) (whole : Outcome) (n : ℕ) → numbersAt limit s at k ≡ whole → 0 < k → n ≡ u16At s at → n < limit → numbersAt limit s (at + 2) (k - 1) ≡ whole
 numbers-next limit s at k whole n w h e l =
     goes-lt _ _ 5 at _ _ n limit e refl l refl ∙ sym (numbers-step limit s at k h) ∙ w
-
--- the numbers that are read: how many, and each
-pub numbers-length : (s : List ℕ) (at k : ℕ) → length (numbersFrom s at k) ≡ k
-unfolding numbersFrom
-numbers-length s at zero = refl
-numbers-length s at (suc k) = ap suc (numbers-length s (at + 2) k)
-
-pub numbers-entry : (s : List ℕ) (at k i : ℕ) → i < k → getD (numbersFrom s at k) i 0 ≡ u16At s (at + 2 * i)
-unfolding numbersFrom
-numbers-entry s at zero i h = absurd (omega arith)
-numbers-entry s at (suc k) zero h = ap (u16At s) (omega arith)
-numbers-entry s at (suc k) (suc i) h = numbers-entry s (at + 2) k i (omega arith) ∙ ap (u16At s) (omega arith)
 
 -- variables
 variables-step : (s : List ℕ) (at k : ℕ) → 0 < k → variablesAt s at k ≡ andThen (variableAt s at) (variablesAt s (at + 8) (k - 1))

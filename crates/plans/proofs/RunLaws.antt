@@ -69,13 +69,12 @@ module _ (t : Task) where
       → allHold (t .goal) (states (length plan)) ≡ true
       → Runs t (states 0) plan
   sequence-runs [] states n a l g = g
-  sequence-runs (x ∷ plan) states n a l g =
-      (
-        n 0 (omega arith),
-        a 0 (omega arith),
-        subst (λ (s : State). Runs t s plan) (l 0 (omega arith))
+  sequence-runs (x ∷ plan) states n a l g = (
+    n 0 (omega arith),
+    a 0 (omega arith),
+    subst (λ (s : State). Runs t s plan) (l 0 (omega arith))
         (sequence-runs plan (λ i. states (suc i)) (λ i h. n (suc i) (omega arith)) (λ i h. a (suc i) (omega arith)) (λ i h. l (suc i) (omega arith)) g),
-      )
+  )
 
   pub plan-runs : (plan : List ℕ) → IsPlan t plan → Runs t (startState t) plan
   plan-runs plan p =

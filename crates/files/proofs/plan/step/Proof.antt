@@ -6,7 +6,7 @@ use native.Mathlib.Omega.{arith}
 use Rattle.files.specs.Bytes.{u16At}
 use Rattle.files.specs.PlanFile.{planOf, stepsIn}
 use Rattle.files.specs.Records.{bodyLength}
-use Rattle.files.proofs.Steps.{numbers-length, numbers-entry}
+use Rattle.files.proofs.Numbers.{numbers-length, numbers-entry}
 use Rattle.files.proofs.plan.step.Statement.{statement}
 use Rattle.files.proofs.plan.step.Tie as tie
 

@@ -1,7 +1,7 @@
 -- A plan has as many steps as its record has numbers.
 use borrow.Author.Needs.{needs}
 use Rattle.files.specs.PlanFile.{planOf, stepsIn}
-use Rattle.files.proofs.Steps.{numbers-length}
+use Rattle.files.proofs.Numbers.{numbers-length}
 use Rattle.files.proofs.plan.steps.Statement.{statement}
 use Rattle.files.proofs.plan.steps.Tie as tie
 
