@@ -5,6 +5,8 @@ pub mod Countdown
 pub mod Placed
 pub mod Steps
 pub mod Writing
+pub mod WritingTasks
+pub mod WritingOrigins
 pub mod Stands
 pub mod TaskRoundTrip
 pub mod OriginRoundTrip

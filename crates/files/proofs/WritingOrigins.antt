@@ -1,0 +1,63 @@
+-- Laws of what the writer of origin files writes: the records of variable origins, and the file's length.
+use Prim.Native.Nat.{ℕ, zero, suc, _+_, _*_, _-_, _≤_, _<_}
+use mathlib.Core.Path.{_≡_, refl, ap, ap₂, _∙_}
+use mathlib.Core.List.{List, [], _∷_, _++_}
+use native.Mathlib.Omega.{arith}
+use lib.ListN.{length, getD, length-append}
+use Rattle.files.specs.Below.{tabulateFrom}
+use Rattle.files.specs.Bytes.{u16Bytes, placed}
+use Rattle.files.specs.Dense.{OriginArrays, rowNumbers, rowOrigin, heldOrigin}
+use Rattle.files.specs.Lengths.{originsNeeded, originNeeded}
+use Rattle.files.specs.OriginFile.{originBody, variableOriginBytes, originFile}
+use Rattle.files.specs.Records.{recordBytes, numberBytes}
+use Rattle.files.proofs.Countdown.{one-more, none-left}
+use Rattle.files.proofs.Writing.{u16Bytes-length, recordBytes-length, numberBytes-length, signed-length, placed-u16-then, placed-record, tabulateFrom-length}
+
+-- lengths
+pub rowNumbers-length : (row : List ℕ) (base count : ℕ) → length (rowNumbers row base count) ≡ count
+unfolding rowNumbers
+rowNumbers-length row base count = tabulateFrom-length 0 count (λ (i : ℕ). getD row (base + i) 0)
+
+pub rowOrigin-length : (numbers sizes values : List ℕ) (i : ℕ) → length (recordBytes 6 (originBody (rowOrigin numbers sizes values i))) ≡ 6 + 2 * getD sizes i 0
+unfolding rowOrigin originBody
+rowOrigin-length numbers sizes values i =
+    simp (recordBytes-length, length-append, u16Bytes-length, numberBytes-length, rowNumbers-length) (omega arith)
+
+pub variableOriginBytes-length : (numbers sizes values : List ℕ) (i count : ℕ) → length (variableOriginBytes (tabulateFrom i count (rowOrigin numbers sizes values))) ≡ originsNeeded sizes i count
+unfolding variableOriginBytes originsNeeded
+variableOriginBytes-length numbers sizes values i zero = refl
+variableOriginBytes-length numbers sizes values i (suc count) =
+    let origin = rowOrigin numbers sizes values in
+    length-append (recordBytes 6 (originBody (origin i))) (variableOriginBytes (tabulateFrom (i + 1) count origin))
+    ∙ ap₂ (λ (m n : ℕ). m + n) (rowOrigin-length numbers sizes values i) (variableOriginBytes-length numbers sizes values (i + 1) count)
+
+pub origin-file-length : (d : OriginArrays) (signer : ℕ) → length (originFile (heldOrigin d) signer) ≡ originNeeded (d .variables) (d .actions) (d .sizes)
+unfolding originFile heldOrigin originNeeded
+origin-file-length d signer =
+    simp (
+      signed-length,
+      length-append,
+      recordBytes-length,
+      numberBytes-length,
+      rowNumbers-length,
+      variableOriginBytes-length (d .numbers) (d .sizes) (d .values) 0 (d .variables),
+    )
+    (omega arith)
+
+-- the bytes that variable origins take, as a loop that counts down adds them up
+pub originsNeeded-none : (sizes : List ℕ) (i left : ℕ) → left ≤ 0 → originsNeeded sizes i left ≡ 0
+unfolding originsNeeded
+originsNeeded-none sizes i left h = ap (originsNeeded sizes i) (none-left left h)
+
+pub originsNeeded-next : (sizes : List ℕ) (i left : ℕ) → 0 < left → originsNeeded sizes i left ≡ 6 + 2 * getD sizes i 0 + originsNeeded sizes (i + 1) (left - 1)
+unfolding originsNeeded
+originsNeeded-next sizes i left h = ap (originsNeeded sizes i) (one-more left h)
+
+-- the record of a variable origin from its parts: head, number, values
+pub placed-origin : (numbers sizes values : List ℕ) (i : ℕ) (b head number : List ℕ) (at n size : ℕ) → size ≡ getD sizes i 0 → n ≡ getD numbers i 0 → head ≡ placed b at (u16Bytes (2 + 2 * size) ++ u16Bytes 6) → number ≡ placed head (at + 4) (u16Bytes n) → placed number (at + 6) (numberBytes (rowNumbers values (32 * i) size)) ≡ placed b at (recordBytes 6 (originBody (rowOrigin numbers sizes values i)))
+unfolding rowOrigin originBody
+placed-origin numbers sizes values i b head number at n size p q h e =
+    let all = numberBytes (rowNumbers values (32 * i) size) in
+    placed-u16-then head number (at + 4) (at + 6) n all e (omega arith)
+    ∙ placed-record b head at 6 (2 + 2 * size) (u16Bytes n ++ all) h (simp (length-append, u16Bytes-length, numberBytes-length, rowNumbers-length) (omega arith))
+    ∙ ap₂ (λ (j k : ℕ). placed b at (recordBytes 6 (u16Bytes j ++ numberBytes (rowNumbers values (32 * i) k)))) q p

@@ -1,0 +1,59 @@
+-- The head states 2 bytes for each step, the steps stand behind it, and the sign-off behind them.
+use Prim.Native.Nat.{ℕ, _+_, _*_, _-_, _≤_, _<_}
+use mathlib.Core.Path.{_≡_, refl, _∙_}
+use native.Mathlib.Omega.{arith}
+use lib.ListN.{length}
+use denote.Ref.{now}
+use borrow.Author.Needs.{needs}
+use Rattle.files.specs.PlanFile.{planFile}
+use Rattle.files.specs.Records.{recordBytes, numberBytes}
+use Rattle.files.proofs.Placed.{placed-overwrite}
+use Rattle.files.proofs.Writing.{placed-record, placed-signed, recordBytes-length, numberBytes-length, plan-file-length}
+use Rattle.files.proofs.plan.write.Statement.{statement}
+use Rattle.files.proofs.plan.write.Tie as tie
+use Rattle.files.proofs.plan.write.Reads as reads
+use Rattle.files.proofs.plan.write.Lts as lts
+use Rattle.files.proofs.plan.put_head.Reads as put-head-reads
+use Rattle.files.proofs.plan.put_steps.Reads as put-steps-reads
+use Rattle.files.proofs.records.put_sign_off.Reads as put-sign-off-reads
+
+put-head-requires : tie.Need-put-head-requires
+put-head-requires c κs = search needs
+
+put-steps-requires : tie.Need-put-steps-requires
+put-steps-requires c κs = search needs
+
+mul-put-sign-off : tie.Need-mul-put-sign-off
+mul-put-sign-off c = search needs
+
+add-put-sign-off : tie.Need-add-put-sign-off
+add-put-sign-off c = search needs
+
+put-sign-off-requires : tie.Need-put-sign-off-requires
+put-sign-off-requires c κs = search needs
+
+same-length : tie.Need-same-length
+same-length c = search needs
+
+returns : tie.Need-returns
+unfolding planFile
+returns c =
+    let a = c .before .before .before .before .before .before .before .before .before .before .before .before .before .before .args in
+    let plan = now (a .plan) in
+    c .before .before .put-sign-off .ensures
+    ∙ placed-signed _ _ _ _ _
+    (c .before .before .before .before .before .before .put-steps .ensures ∙ placed-record _ _ 0 8 _ (numberBytes plan) (c .before .before .before .before .before .before .before .before .before .before .put-head .ensures) (omega (arith, numberBytes-length plan)))
+    (omega (arith, recordBytes-length 8 (numberBytes plan), numberBytes-length plan))
+    ∙ placed-overwrite (now (a .buffer)) (planFile plan (a .signer)) (omega (arith, plan-file-length plan (a .signer)))
+
+pub write-spec : {M : Type 1} → statement M
+write-spec =
+    tie.close
+    (tie.spec
+    put-head-requires
+    put-steps-requires
+    mul-put-sign-off
+    add-put-sign-off
+    put-sign-off-requires
+    same-length
+    returns)

@@ -1,0 +1,53 @@
+-- The head states 4 bytes for each pair, and the pairs stand behind it.
+use native.Mathlib.Omega.{arith}
+use mathlib.Core.Path.{_∙_}
+use denote.Ref.{now}
+use borrow.Author.Needs.{needs}
+use Rattle.files.specs.Dense.{rowPairs}
+use Rattle.files.proofs.Writing.{placed-record}
+use Rattle.files.proofs.WritingTasks.{pairBytes-length}
+use Rattle.files.proofs.write.put_goal.Statement.{statement}
+use Rattle.files.proofs.write.put_goal.Tie as tie
+use Rattle.files.proofs.write.put_goal.Reads as reads
+use Rattle.files.proofs.write.put_goal.Lts as lts
+use Rattle.files.proofs.records.put_head.Reads as put-head-reads
+use Rattle.files.proofs.write.pairs_in.Reads as pairs-in-reads
+use Rattle.files.proofs.write.put_pairs.Reads as put-pairs-reads
+
+pairs-in-requires : tie.Need-pairs-in-requires
+pairs-in-requires c κs = search needs
+
+mul-put-head : tie.Need-mul-put-head
+mul-put-head c = search needs
+
+put-head-requires : tie.Need-put-head-requires
+put-head-requires c κs = search needs
+
+add-put-pairs : tie.Need-add-put-pairs
+add-put-pairs c = search needs
+
+put-pairs-requires : tie.Need-put-pairs-requires
+put-pairs-requires c κs = search needs
+
+same-length : tie.Need-same-length
+same-length c = search needs
+
+returns : tie.Need-returns
+returns c =
+    let a = c .before .before .before .before .before .before .before .before .before .before .before .args in (
+      c .before .before .put-pairs .ensures .0
+          ∙ placed-record _ _ _ _ _ _ (c .before .before .before .before .before .before .put-head .ensures) (omega (arith, pairBytes-length (rowPairs (now (a .goal)) 0 0 (a .variables)))),
+      c .before .before .put-pairs .ensures .1,
+    )
+
+pub put-goal-spec : {M : Type 1} → statement M
+put-goal-spec =
+    tie.close
+    (tie.spec
+    pairs-in-requires
+    mul-put-head
+    put-head-requires
+    add-put-pairs
+    put-pairs-requires
+    same-length
+    returns)
