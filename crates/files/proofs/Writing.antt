@@ -48,21 +48,29 @@ pub placed-u32-then : (b c : List ℕ) (at next n : ℕ) (xs : List ℕ) → c �
 placed-u32-then b c at next n xs e f = placed-then b c at next (u32Bytes n) xs e (omega (arith, u32Bytes-length n))
 
 -- the upper two bytes of a number behind its lower two
-pub placed-u32 : (b c : List ℕ) (at n : ℕ) → c ≡ placed b at (u16Bytes n) → set (set c (at + 2) (n / 65536 % 256)) (at + 3) (n / 16777216 % 256) ≡ placed b at (u32Bytes n)
+pub placed-u32 : (b c : List ℕ) (at n : ℕ)
+    → c ≡ placed b at (u16Bytes n)
+    → set (set c (at + 2) (n / 65536 % 256)) (at + 3) (n / 16777216 % 256) ≡ placed b at (u32Bytes n)
 unfolding placed u32Bytes
 placed-u32 b c at n e =
     ap (λ (m : ℕ). set (set c (at + 2) (n / 65536 % 256)) m (n / 16777216 % 256)) (omega arith)
     ∙ placed-u16-then b c at (at + 2) n (n / 65536 % 256 ∷ n / 16777216 % 256 ∷ []) e refl
 
 -- a body behind the head of its record
-pub placed-record : (b c : List ℕ) (at kind bytes : ℕ) (body : List ℕ) → c ≡ placed b at (u16Bytes bytes ++ u16Bytes kind) → bytes ≡ length body → placed c (at + 4) body ≡ placed b at (recordBytes kind body)
+pub placed-record : (b c : List ℕ) (at kind bytes : ℕ) (body : List ℕ)
+    → c ≡ placed b at (u16Bytes bytes ++ u16Bytes kind)
+    → bytes ≡ length body
+    → placed c (at + 4) body ≡ placed b at (recordBytes kind body)
 unfolding recordBytes u16Bytes
 placed-record b c at kind bytes body e f =
     placed-then b c at (at + 4) (u16Bytes bytes ++ u16Bytes kind) body e refl
     ∙ ap (λ (n : ℕ). placed b at (u16Bytes n ++ u16Bytes kind ++ body)) f
 
 -- the sign-off behind the records
-pub placed-signed : (b c : List ℕ) (end signer : ℕ) (records : List ℕ) → c ≡ placed b 0 records → end ≡ length records → placed c end (recordBytes 5 (u32Bytes signer ++ u32Bytes end)) ≡ placed b 0 (signed signer records)
+pub placed-signed : (b c : List ℕ) (end signer : ℕ) (records : List ℕ)
+    → c ≡ placed b 0 records
+    → end ≡ length records
+    → placed c end (recordBytes 5 (u32Bytes signer ++ u32Bytes end)) ≡ placed b 0 (signed signer records)
 unfolding signed
 placed-signed b c end signer records e f =
     placed-then b c 0 end records (recordBytes 5 (u32Bytes signer ++ u32Bytes end)) e (omega arith)
@@ -86,7 +94,12 @@ module _ {A : Type 0} (bytes : List A → List ℕ) (f : ℕ → A) (b : List �
   unfolding placed
   placed-none h e = sym (ap (λ (l : List A). placed b at (bytes l)) (tabulateFrom-none i left f h) ∙ ap (placed b at) e)
 
-  pub placed-next : (c : List ℕ) (next : ℕ) (one : List ℕ) → 0 < left → bytes (f i ∷ tabulateFrom (i + 1) (left - 1) f) ≡ one ++ bytes (tabulateFrom (i + 1) (left - 1) f) → c ≡ placed b at one → next ≡ at + length one → placed c next (bytes (tabulateFrom (i + 1) (left - 1) f)) ≡ placed b at (bytes (tabulateFrom i left f))
+  pub placed-next : (c : List ℕ) (next : ℕ) (one : List ℕ)
+      → 0 < left
+      → bytes (f i ∷ tabulateFrom (i + 1) (left - 1) f) ≡ one ++ bytes (tabulateFrom (i + 1) (left - 1) f)
+      → c ≡ placed b at one
+      → next ≡ at + length one
+      → placed c next (bytes (tabulateFrom (i + 1) (left - 1) f)) ≡ placed b at (bytes (tabulateFrom i left f))
   placed-next c next one h e p q =
       placed-then b c at next one (bytes (tabulateFrom (i + 1) (left - 1) f)) p q
       ∙ sym (ap (λ (l : List A). placed b at (bytes l)) (tabulateFrom-next i left f h) ∙ ap (placed b at) e)
@@ -96,7 +109,11 @@ pub placed-numbers-none : (b : List ℕ) (at : ℕ) (ns : List ℕ) (i : ℕ) �
 unfolding placed numberBytes
 placed-numbers-none b at ns i h = sym (ap (λ (l : List ℕ). placed b at (numberBytes l)) (drop-of-length-le ns h))
 
-pub placed-numbers-next : (b c : List ℕ) (at next : ℕ) (ns : List ℕ) (i : ℕ) → i < length ns → c ≡ placed b at (u16Bytes (getD ns i 0)) → next ≡ at + 2 → placed c next (numberBytes (drop (i + 1) ns)) ≡ placed b at (numberBytes (drop i ns))
+pub placed-numbers-next : (b c : List ℕ) (at next : ℕ) (ns : List ℕ) (i : ℕ)
+    → i < length ns
+    → c ≡ placed b at (u16Bytes (getD ns i 0))
+    → next ≡ at + 2
+    → placed c next (numberBytes (drop (i + 1) ns)) ≡ placed b at (numberBytes (drop i ns))
 unfolding numberBytes
 placed-numbers-next b c at next ns i h e f =
     placed-u16-then b c at next (getD ns i 0) (numberBytes (drop (i + 1) ns)) e f

@@ -1,17 +1,18 @@
 -- Laws of what the writer of origin files writes: the records of variable origins, and the file's length.
 use Prim.Native.Nat.{ℕ, zero, suc, _+_, _*_, _-_, _≤_, _<_}
 use mathlib.Core.Path.{_≡_, refl, ap, ap₂, _∙_}
-use mathlib.Core.List.{List, [], _∷_, _++_}
+use mathlib.Core.List.{List, _++_}
 use native.Mathlib.Omega.{arith}
 use lib.ListN.{length, getD, length-append}
-use Rattle.files.specs.Below.{tabulateFrom}
-use Rattle.files.specs.Bytes.{u16Bytes, placed}
+use Rattle.files.specs.Below.{tabulate, tabulateFrom}
+use Rattle.files.specs.Bytes.{u16Bytes, u32Bytes, placed}
 use Rattle.files.specs.Dense.{OriginArrays, rowNumbers, rowOrigin, heldOrigin}
 use Rattle.files.specs.Lengths.{originsNeeded, originNeeded}
 use Rattle.files.specs.OriginFile.{originBody, variableOriginBytes, originFile}
 use Rattle.files.specs.Records.{recordBytes, numberBytes}
 use Rattle.files.proofs.Countdown.{one-more, none-left}
-use Rattle.files.proofs.Writing.{u16Bytes-length, recordBytes-length, numberBytes-length, signed-length, placed-u16-then, placed-record, tabulateFrom-length}
+use Rattle.files.proofs.Placed.{placed-then}
+use Rattle.files.proofs.Writing.{u16Bytes-length, recordBytes-length, numberBytes-length, signed-length, placed-u16-then, placed-record, placed-signed, tabulateFrom-length}
 
 -- lengths
 pub rowNumbers-length : (row : List ℕ) (base count : ℕ) → length (rowNumbers row base count) ≡ count
@@ -23,7 +24,8 @@ unfolding rowOrigin originBody
 rowOrigin-length numbers sizes values i =
     simp (recordBytes-length, length-append, u16Bytes-length, numberBytes-length, rowNumbers-length) (omega arith)
 
-pub variableOriginBytes-length : (numbers sizes values : List ℕ) (i count : ℕ) → length (variableOriginBytes (tabulateFrom i count (rowOrigin numbers sizes values))) ≡ originsNeeded sizes i count
+pub variableOriginBytes-length : (numbers sizes values : List ℕ) (i count : ℕ)
+    → length (variableOriginBytes (tabulateFrom i count (rowOrigin numbers sizes values))) ≡ originsNeeded sizes i count
 unfolding variableOriginBytes originsNeeded
 variableOriginBytes-length numbers sizes values i zero = refl
 variableOriginBytes-length numbers sizes values i (suc count) =
@@ -54,10 +56,33 @@ unfolding originsNeeded
 originsNeeded-next sizes i left h = ap (originsNeeded sizes i) (one-more left h)
 
 -- the record of a variable origin from its parts: head, number, values
-pub placed-origin : (numbers sizes values : List ℕ) (i : ℕ) (b head number : List ℕ) (at n size : ℕ) → size ≡ getD sizes i 0 → n ≡ getD numbers i 0 → head ≡ placed b at (u16Bytes (2 + 2 * size) ++ u16Bytes 6) → number ≡ placed head (at + 4) (u16Bytes n) → placed number (at + 6) (numberBytes (rowNumbers values (32 * i) size)) ≡ placed b at (recordBytes 6 (originBody (rowOrigin numbers sizes values i)))
+pub placed-origin : (numbers sizes values : List ℕ) (i : ℕ) (b head number : List ℕ) (at n size : ℕ)
+    → size ≡ getD sizes i 0
+    → n ≡ getD numbers i 0
+    → head ≡ placed b at (u16Bytes (2 + 2 * size) ++ u16Bytes 6)
+    → number ≡ placed head (at + 4) (u16Bytes n)
+    → placed number (at + 6) (numberBytes (rowNumbers values (32 * i) size)) ≡ placed b at (recordBytes 6 (originBody (rowOrigin numbers sizes values i)))
 unfolding rowOrigin originBody
 placed-origin numbers sizes values i b head number at n size p q h e =
     let all = numberBytes (rowNumbers values (32 * i) size) in
     placed-u16-then head number (at + 4) (at + 6) n all e (omega arith)
     ∙ placed-record b head at 6 (2 + 2 * size) (u16Bytes n ++ all) h (simp (length-append, u16Bytes-length, numberBytes-length, rowNumbers-length) (omega arith))
     ∙ ap₂ (λ (j k : ℕ). placed b at (recordBytes 6 (u16Bytes j ++ numberBytes (rowNumbers values (32 * i) k)))) q p
+
+-- the file of origins from its parts: variable origins, the head and the numbers of action origins, sign-off
+pub placed-origins : (d : OriginArrays) (signer : ℕ) (b variables head numbers : List ℕ) (at : ℕ)
+    → variables ≡ placed b 0 (variableOriginBytes (tabulate (d .variables) (rowOrigin (d .numbers) (d .sizes) (d .values))))
+    → at ≡ originsNeeded (d .sizes) 0 (d .variables)
+    → head ≡ placed variables at (u16Bytes (2 * d .actions) ++ u16Bytes 7)
+    → numbers ≡ placed head (at + 4) (numberBytes (rowNumbers (d .originals) 0 (d .actions)))
+    → placed numbers (at + 4 + 2 * d .actions) (recordBytes 5 (u32Bytes signer ++ u32Bytes (at + 4 + 2 * d .actions))) ≡ placed b 0 (originFile (heldOrigin d) signer)
+unfolding originFile heldOrigin
+placed-origins d signer b variables head numbers at v p h n =
+    let o = heldOrigin d in
+    let written = variableOriginBytes-length (d .numbers) (d .sizes) (d .values) 0 (d .variables) in
+    let all = recordBytes 7 (numberBytes (o .actions)) in
+    placed-signed b numbers (at + 4 + 2 * d .actions) signer (variableOriginBytes (o .variables) ++ all)
+    (n
+    ∙ placed-record variables head at 7 (2 * d .actions) (numberBytes (o .actions)) h (simp (numberBytes-length, rowNumbers-length))
+    ∙ placed-then b variables 0 at (variableOriginBytes (o .variables)) all v (omega arith))
+    (simp (length-append, recordBytes-length, numberBytes-length, rowNumbers-length) (omega arith))

@@ -4,18 +4,8 @@ use lib.ListN.{length-set}
 use denote.Ref.{now}
 use borrow.Author.Needs.{needs}
 use Rattle.files.proofs.Writing.{placed-u32}
-use Prim.Native.Nat.{_+_}
-use native.Mathlib.Omega.{arith}
-use mathlib.Core.Path.{_≡_, refl, ap, _∙_}
-use lib.ListN.{length-set}
-use denote.Ref.{now}
-use Rattle.files.specs.Bytes.{placed, u16Bytes, u32Bytes}
-use Rattle.files.proofs.Placed.{placed-then}
 use Rattle.files.proofs.bytes.put_u32.Statement.{statement}
 use Rattle.files.proofs.bytes.put_u32.Tie as tie
-use Rattle.files.proofs.bytes.put_u32.Reads as reads
-use Rattle.files.proofs.bytes.put_u32.Lts as lts
-use Rattle.files.proofs.bytes.put_u16.Reads as put-u16-reads
 
 put-u16-requires : tie.Need-put-u16-requires
 put-u16-requires c κs = search needs
@@ -42,10 +32,9 @@ same-length : tie.Need-same-length
 same-length c = search needs
 
 returns : tie.Need-returns
-unfolding placed u16Bytes u32Bytes
 returns c =
-    let a = c .before .before .before .before .before .args in
-    placed-u32 (now (a .buffer)) (c .before .before .put-u16 .last .0) (a .at) (a .n) (c .before .before .put-u16 .ensures)
+    let args = c .before .before .before .before .before .args in
+    placed-u32 (now (args .buffer)) (c .before .before .put-u16 .last .0) (args .at) (args .n) (c .before .before .put-u16 .ensures)
 
 pub put-u32-spec : {M : Type 1} → statement M
 put-u32-spec =

@@ -10,9 +10,6 @@ use Rattle.files.specs.Records.{numberBytes}
 use Rattle.files.proofs.Writing.{placed-numbers-none, placed-numbers-next}
 use Rattle.files.proofs.plan.put_steps.Statement.{statement}
 use Rattle.files.proofs.plan.put_steps.Tie as tie
-use Rattle.files.proofs.plan.put_steps.Reads as reads
-use Rattle.files.proofs.plan.put_steps.Lts as lts
-use Rattle.files.proofs.plan.put_step.Reads as put-step-reads
 
 abbrev Inv-loop : tie.InvT-loop
 Inv-loop buffer₀ plan i₀ buffer i =

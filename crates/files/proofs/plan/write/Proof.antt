@@ -11,11 +11,6 @@ use Rattle.files.proofs.Placed.{placed-overwrite}
 use Rattle.files.proofs.Writing.{placed-record, placed-signed, recordBytes-length, numberBytes-length, plan-file-length}
 use Rattle.files.proofs.plan.write.Statement.{statement}
 use Rattle.files.proofs.plan.write.Tie as tie
-use Rattle.files.proofs.plan.write.Reads as reads
-use Rattle.files.proofs.plan.write.Lts as lts
-use Rattle.files.proofs.plan.put_head.Reads as put-head-reads
-use Rattle.files.proofs.plan.put_steps.Reads as put-steps-reads
-use Rattle.files.proofs.records.put_sign_off.Reads as put-sign-off-reads
 
 put-head-requires : tie.Need-put-head-requires
 put-head-requires c κs = search needs
@@ -38,13 +33,13 @@ same-length c = search needs
 returns : tie.Need-returns
 unfolding planFile
 returns c =
-    let a = c .before .before .before .before .before .before .before .before .before .before .before .before .before .before .args in
-    let plan = now (a .plan) in
+    let args = c .before .before .before .before .before .before .before .before .before .before .before .before .before .before .args in
+    let plan = now (args .plan) in
     c .before .before .put-sign-off .ensures
     ∙ placed-signed _ _ _ _ _
     (c .before .before .before .before .before .before .put-steps .ensures ∙ placed-record _ _ 0 8 _ (numberBytes plan) (c .before .before .before .before .before .before .before .before .before .before .put-head .ensures) (omega (arith, numberBytes-length plan)))
     (omega (arith, recordBytes-length 8 (numberBytes plan), numberBytes-length plan))
-    ∙ placed-overwrite (now (a .buffer)) (planFile plan (a .signer)) (omega (arith, plan-file-length plan (a .signer)))
+    ∙ placed-overwrite (now (args .buffer)) (planFile plan (args .signer)) (omega (arith, plan-file-length plan (args .signer)))
 
 pub write-spec : {M : Type 1} → statement M
 write-spec =

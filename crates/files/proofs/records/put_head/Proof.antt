@@ -5,9 +5,6 @@ use borrow.Author.Needs.{needs}
 use Rattle.files.proofs.Writing.{placed-u16-then}
 use Rattle.files.proofs.records.put_head.Statement.{statement}
 use Rattle.files.proofs.records.put_head.Tie as tie
-use Rattle.files.proofs.records.put_head.Reads as reads
-use Rattle.files.proofs.records.put_head.Lts as lts
-use Rattle.files.proofs.bytes.put_u16.Reads as put-u16-reads
 
 put-u16-requires : tie.Need-put-u16-requires
 put-u16-requires c κs = search needs

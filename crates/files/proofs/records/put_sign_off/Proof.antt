@@ -6,10 +6,6 @@ use Rattle.files.specs.Bytes.{u16Bytes, u32Bytes}
 use Rattle.files.proofs.Writing.{placed-u32-then, placed-record}
 use Rattle.files.proofs.records.put_sign_off.Statement.{statement}
 use Rattle.files.proofs.records.put_sign_off.Tie as tie
-use Rattle.files.proofs.records.put_sign_off.Reads as reads
-use Rattle.files.proofs.records.put_sign_off.Lts as lts
-use Rattle.files.proofs.bytes.put_u32.Reads as put-u32-reads
-use Rattle.files.proofs.records.put_head.Reads as put-head-reads
 
 put-head-requires : tie.Need-put-head-requires
 put-head-requires c κs = search needs

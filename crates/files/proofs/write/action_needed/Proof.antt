@@ -4,9 +4,6 @@ use borrow.Author.Needs.{needs}
 use Rattle.files.specs.Lengths.{actionNeeded}
 use Rattle.files.proofs.write.action_needed.Statement.{statement}
 use Rattle.files.proofs.write.action_needed.Tie as tie
-use Rattle.files.proofs.write.action_needed.Reads as reads
-use Rattle.files.proofs.write.action_needed.Lts as lts
-use Rattle.files.proofs.write.pairs_in.Reads as pairs-in-reads
 
 mul-base : tie.Need-mul-base
 mul-base c = search needs

@@ -8,9 +8,6 @@ use Rattle.files.specs.Lengths.{actionNeeded, actionsNeeded}
 use Rattle.files.proofs.WritingTasks.{actionsNeeded-none, actionsNeeded-next}
 use Rattle.files.proofs.write.actions_needed.Statement.{statement}
 use Rattle.files.proofs.write.actions_needed.Tie as tie
-use Rattle.files.proofs.write.actions_needed.Reads as reads
-use Rattle.files.proofs.write.actions_needed.Lts as lts
-use Rattle.files.proofs.write.action_needed.Reads as action-needed-reads
 
 abbrev Inv-loop : tie.InvT-loop
 Inv-loop conditions effects variables count bytes₀ a₀ left₀ bytes a left =
@@ -41,15 +38,15 @@ loop-less c = search needs
 
 loop-again : tie.Need-loop-again Inv-loop μ-loop
 loop-again c =
-    let a = c .before .before .before .before .before .args in
-    let l = c .before .before .loop in
-    omega (arith, actionsNeeded-next (a .variables) (now (a .conditions)) (now (a .effects)) (l .a) (l .left) (c .before .loop-test .taken))
+    let args = c .before .before .before .before .before .args in
+    let loop = c .before .before .loop in
+    omega (arith, actionsNeeded-next (args .variables) (now (args .conditions)) (now (args .effects)) (loop .a) (loop .left) (c .before .loop-test .taken))
 
 returns : tie.Need-returns Inv-loop μ-loop
 returns c =
-    let a = c .before .before .before .before .args in
-    let l = c .before .loop in
-    omega (arith, actionsNeeded-none (a .variables) (now (a .conditions)) (now (a .effects)) (l .a) (l .left) (c .loop-test .left))
+    let args = c .before .before .before .before .args in
+    let loop = c .before .loop in
+    omega (arith, actionsNeeded-none (args .variables) (now (args .conditions)) (now (args .effects)) (loop .a) (loop .left) (c .loop-test .left))
 
 pub actions-needed-spec : {M : Type 1} → statement M
 actions-needed-spec =

@@ -10,9 +10,6 @@ use Rattle.files.specs.Dense.{rowPairs}
 use Rattle.files.proofs.WritingTasks.{rowPairs-none, rowPairs-next, rowPairs-skip}
 use Rattle.files.proofs.write.pairs_in.Statement.{statement}
 use Rattle.files.proofs.write.pairs_in.Tie as tie
-use Rattle.files.proofs.write.pairs_in.Reads as reads
-use Rattle.files.proofs.write.pairs_in.Lts as lts
-use Rattle.files.proofs.bytes.byte_at.Reads as byte-at-reads
 
 abbrev Inv-loop : tie.InvT-loop
 Inv-loop rows base count found₀ v₀ left₀ found v left =
@@ -46,20 +43,20 @@ loop-less c = search needs
 
 loop-again : tie.Need-loop-again Inv-loop μ-loop
 loop-again c =
-    let a = c .before .before .before .before .before .args in
-    let l = c .before .before .before .loop in
+    let args = c .before .before .before .before .before .args in
+    let loop = c .before .before .before .loop in
     let more = c .before .before .loop-test .taken in
     let is = c .before .byte-at .ensures .0 in
     ⊎-elim
-    (λ w. omega (arith, ap length (rowPairs-next (now (a .rows)) (a .base) (l .v) (l .left) _ more is (w .0 .taken))))
-    (λ w. omega (arith, ap length (rowPairs-skip (now (a .rows)) (a .base) (l .v) (l .left) _ more is (w .0 .left))))
+    (λ w. omega (arith, ap length (rowPairs-next (now (args .rows)) (args .base) (loop .v) (loop .left) _ more is (w .0 .taken))))
+    (λ w. omega (arith, ap length (rowPairs-skip (now (args .rows)) (args .base) (loop .v) (loop .left) _ more is (w .0 .left))))
     (c .if1 .came)
 
 returns : tie.Need-returns Inv-loop μ-loop
 returns c =
-    let a = c .before .before .before .args in
-    let l = c .before .loop in
-    omega (arith, ap length (rowPairs-none (now (a .rows)) (a .base) (l .v) (l .left) (c .loop-test .left)))
+    let args = c .before .before .before .args in
+    let loop = c .before .loop in
+    omega (arith, ap length (rowPairs-none (now (args .rows)) (args .base) (loop .v) (loop .left) (c .loop-test .left)))
 
 pub pairs-in-spec : {M : Type 1} → statement M
 pairs-in-spec =

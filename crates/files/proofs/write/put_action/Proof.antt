@@ -10,12 +10,6 @@ use Rattle.files.specs.Lengths.{actionNeeded}
 use Rattle.files.proofs.WritingTasks.{placed-action}
 use Rattle.files.proofs.write.put_action.Statement.{statement}
 use Rattle.files.proofs.write.put_action.Tie as tie
-use Rattle.files.proofs.write.put_action.Reads as reads
-use Rattle.files.proofs.write.put_action.Lts as lts
-use Rattle.files.proofs.records.put_head.Reads as put-head-reads
-use Rattle.files.proofs.write.pairs_in.Reads as pairs-in-reads
-use Rattle.files.proofs.write.put_counts.Reads as put-counts-reads
-use Rattle.files.proofs.write.put_pairs.Reads as put-pairs-reads
 
 mul-base : tie.Need-mul-base
 mul-base c = search needs
@@ -75,9 +69,9 @@ same-length c = search needs
 returns : tie.Need-returns
 unfolding rowAction actionNeeded
 returns c =
-    let a = c .before .before .before .before .before .before .before .before .before .before .before .before .before .before .before .before .before .before .before .before .before .before .before .args in (
+    let args = c .before .before .before .before .before .before .before .before .before .before .before .before .before .before .before .before .before .before .before .before .before .before .before .args in (
       c .before .before .put-pairs2 .ensures .0
-          ∙ placed-action (rowAction (a .variables) (now (a .costs)) (now (a .conditions)) (now (a .effects)) (a .a)) _ _ _ _ _ _ _ _
+          ∙ placed-action (rowAction (args .variables) (now (args .costs)) (now (args .conditions)) (now (args .effects)) (args .a)) _ _ _ _ _ _ _ _
           (c .before .before .before .before .before .before .before .before .before .before .before .before .before .before .before .before .before .before .pairs-in .ensures .0)
           (c .before .before .before .before .before .before .before .before .before .before .before .before .before .before .before .before .before .pairs-in2 .ensures .0)
           (c .before .before .before .before .before .before .before .before .before .before .before .before .before .before .put-head .ensures)

@@ -14,9 +14,6 @@ use Rattle.files.proofs.Writing.{placed-none, placed-next}
 use Rattle.files.proofs.WritingTasks.{rowAction-length, actionsNeeded-none, actionsNeeded-next}
 use Rattle.files.proofs.write.put_actions.Statement.{statement}
 use Rattle.files.proofs.write.put_actions.Tie as tie
-use Rattle.files.proofs.write.put_actions.Reads as reads
-use Rattle.files.proofs.write.put_actions.Lts as lts
-use Rattle.files.proofs.write.put_action.Reads as put-action-reads
 
 abbrev Inv-loop : tie.InvT-loop
 Inv-loop buffer₀ at costs conditions effects variables count place₀ a₀ left₀ buffer place a left =
@@ -33,9 +30,9 @@ loop-holds c = (refl, refl, omega arith, refl)
 
 put-action-requires : tie.Need-put-action-requires Inv-loop μ-loop
 put-action-requires c κs =
-    let a = c .before .before .before .before .before .before .before .args in
-    let l = c .before .before .loop in
-    let next = actionsNeeded-next (a .variables) (now (a .conditions)) (now (a .effects)) (l .a) (l .left) (c .before .loop-test .taken) in
+    let args = c .before .before .before .before .before .before .before .args in
+    let loop = c .before .before .loop in
+    let next = actionsNeeded-next (args .variables) (now (args .conditions)) (now (args .effects)) (loop .a) (loop .left) (c .before .loop-test .taken) in
     (omega arith, omega arith, omega arith, omega arith, omega arith, omega arith)
 
 add-a : tie.Need-add-a Inv-loop μ-loop
@@ -50,13 +47,13 @@ loop-less c = search needs
 loop-again : tie.Need-loop-again Inv-loop μ-loop
 unfolding actionBytes
 loop-again c =
-    let a = c .before .before .before .before .before .before .before .before .before .before .args in
-    let l = c .before .before .before .before .before .loop in
-    let next = actionsNeeded-next (a .variables) (now (a .conditions)) (now (a .effects)) (l .a) (l .left) (c .before .before .before .before .loop-test .taken) in
-    let written = rowAction-length (a .variables) (now (a .costs)) (now (a .conditions)) (now (a .effects)) (l .a) in (
-      placed-next actionBytes (rowAction (a .variables) (now (a .costs)) (now (a .conditions)) (now (a .effects))) _ _ _ _ _ _ _ (c .before .before .before .before .loop-test .taken) refl
+    let args = c .before .before .before .before .before .before .before .before .before .before .args in
+    let loop = c .before .before .before .before .before .loop in
+    let next = actionsNeeded-next (args .variables) (now (args .conditions)) (now (args .effects)) (loop .a) (loop .left) (c .before .before .before .before .loop-test .taken) in
+    let written = rowAction-length (args .variables) (now (args .costs)) (now (args .conditions)) (now (args .effects)) (loop .a) in (
+      placed-next actionBytes (rowAction (args .variables) (now (args .costs)) (now (args .conditions)) (now (args .effects))) (loop .buffer) (loop .place) (loop .a) (loop .left) _ _ _ (c .before .before .before .before .loop-test .taken) refl
           (c .before .before .put-action .ensures .0) (omega arith)
-          ∙ l .inv .0,
+          ∙ loop .inv .0,
       omega arith,
       omega arith,
       omega arith,
@@ -68,10 +65,10 @@ same-length c = c .before .loop .inv .3
 returns : tie.Need-returns Inv-loop μ-loop
 unfolding actionBytes
 returns c =
-    let a = c .before .before .before .before .before .before .args in
-    let l = c .before .loop in (
-      placed-none actionBytes (rowAction (a .variables) (now (a .costs)) (now (a .conditions)) (now (a .effects))) _ _ _ _ (c .loop-test .left) refl ∙ l .inv .0,
-      omega (arith, actionsNeeded-none (a .variables) (now (a .conditions)) (now (a .effects)) (l .a) (l .left) (c .loop-test .left)),
+    let args = c .before .before .before .before .before .before .args in
+    let loop = c .before .loop in (
+      placed-none actionBytes (rowAction (args .variables) (now (args .costs)) (now (args .conditions)) (now (args .effects))) _ _ _ _ (c .loop-test .left) refl ∙ loop .inv .0,
+      omega (arith, actionsNeeded-none (args .variables) (now (args .conditions)) (now (args .effects)) (loop .a) (loop .left) (c .loop-test .left)),
     )
 
 pub put-actions-spec : {M : Type 1} → statement M

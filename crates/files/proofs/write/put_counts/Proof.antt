@@ -7,10 +7,6 @@ use Rattle.files.proofs.Placed.{placed-then}
 use Rattle.files.proofs.Writing.{placed-u32-then}
 use Rattle.files.proofs.write.put_counts.Statement.{statement}
 use Rattle.files.proofs.write.put_counts.Tie as tie
-use Rattle.files.proofs.write.put_counts.Reads as reads
-use Rattle.files.proofs.write.put_counts.Lts as lts
-use Rattle.files.proofs.bytes.put_u16.Reads as put-u16-reads
-use Rattle.files.proofs.bytes.put_u32.Reads as put-u32-reads
 
 put-u32-requires : tie.Need-put-u32-requires
 put-u32-requires c κs = search needs

@@ -8,11 +8,6 @@ use Rattle.files.proofs.Writing.{placed-record}
 use Rattle.files.proofs.WritingTasks.{pairBytes-length}
 use Rattle.files.proofs.write.put_goal.Statement.{statement}
 use Rattle.files.proofs.write.put_goal.Tie as tie
-use Rattle.files.proofs.write.put_goal.Reads as reads
-use Rattle.files.proofs.write.put_goal.Lts as lts
-use Rattle.files.proofs.records.put_head.Reads as put-head-reads
-use Rattle.files.proofs.write.pairs_in.Reads as pairs-in-reads
-use Rattle.files.proofs.write.put_pairs.Reads as put-pairs-reads
 
 pairs-in-requires : tie.Need-pairs-in-requires
 pairs-in-requires c κs = search needs
@@ -34,9 +29,9 @@ same-length c = search needs
 
 returns : tie.Need-returns
 returns c =
-    let a = c .before .before .before .before .before .before .before .before .before .before .before .args in (
+    let args = c .before .before .before .before .before .before .before .before .before .before .before .args in (
       c .before .before .put-pairs .ensures .0
-          ∙ placed-record _ _ _ _ _ _ (c .before .before .before .before .before .before .put-head .ensures) (omega (arith, pairBytes-length (rowPairs (now (a .goal)) 0 0 (a .variables)))),
+          ∙ placed-record _ _ _ _ _ _ (c .before .before .before .before .before .before .put-head .ensures) (omega (arith, pairBytes-length (rowPairs (now (args .goal)) 0 0 (args .variables)))),
       c .before .before .put-pairs .ensures .1,
     )
 

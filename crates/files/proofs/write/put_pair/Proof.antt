@@ -4,9 +4,6 @@ use borrow.Author.Needs.{needs}
 use Rattle.files.proofs.Writing.{placed-u16-then}
 use Rattle.files.proofs.write.put_pair.Statement.{statement}
 use Rattle.files.proofs.write.put_pair.Tie as tie
-use Rattle.files.proofs.write.put_pair.Reads as reads
-use Rattle.files.proofs.write.put_pair.Lts as lts
-use Rattle.files.proofs.bytes.put_u16.Reads as put-u16-reads
 
 put-u16-requires : tie.Need-put-u16-requires
 put-u16-requires c κs = search needs

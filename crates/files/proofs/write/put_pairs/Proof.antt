@@ -12,10 +12,6 @@ use Rattle.files.specs.TaskFile.{pairBytes}
 use Rattle.files.proofs.WritingTasks.{rowPairs-none, rowPairs-next, rowPairs-skip, placed-pairs-none, placed-pairs-next, placed-pairs-skip}
 use Rattle.files.proofs.write.put_pairs.Statement.{statement}
 use Rattle.files.proofs.write.put_pairs.Tie as tie
-use Rattle.files.proofs.write.put_pairs.Reads as reads
-use Rattle.files.proofs.write.put_pairs.Lts as lts
-use Rattle.files.proofs.bytes.byte_at.Reads as byte-at-reads
-use Rattle.files.proofs.write.put_pair.Reads as put-pair-reads
 
 abbrev Inv-loop : tie.InvT-loop
 Inv-loop buffer₀ at rows base count place₀ v₀ left₀ buffer place v left =
@@ -38,15 +34,15 @@ byte-at-requires c κs = search needs
 
 put-pair-requires : tie.Need-put-pair-requires Inv-loop μ-loop
 put-pair-requires c κs =
-    let a = c .before .before .before .before .before .before .before .args in
-    let l = c .before .before .before .before .loop in
-    omega (arith, ap length (rowPairs-next (now (a .rows)) (a .base) (l .v) (l .left) _ (c .before .before .before .loop-test .taken) (c .before .before .byte-at .ensures .0) (c .before .if1 .taken)))
+    let args = c .before .before .before .before .before .before .before .args in
+    let loop = c .before .before .before .before .loop in
+    omega (arith, ap length (rowPairs-next (now (args .rows)) (args .base) (loop .v) (loop .left) _ (c .before .before .before .loop-test .taken) (c .before .before .byte-at .ensures .0) (c .before .if1 .taken)))
 
 add-place : tie.Need-add-place Inv-loop μ-loop
 add-place c =
-    let a = c .before .before .before .before .before .before .before .before .before .before .args in
-    let l = c .before .before .before .before .before .before .before .loop in
-    omega (arith, ap length (rowPairs-next (now (a .rows)) (a .base) (l .v) (l .left) _ (c .before .before .before .before .before .before .loop-test .taken) (c .before .before .before .before .before .byte-at .ensures .0) (c .before .before .before .before .if1 .taken)))
+    let args = c .before .before .before .before .before .before .before .before .before .before .args in
+    let loop = c .before .before .before .before .before .before .before .loop in
+    omega (arith, ap length (rowPairs-next (now (args .rows)) (args .base) (loop .v) (loop .left) _ (c .before .before .before .before .before .before .loop-test .taken) (c .before .before .before .before .before .byte-at .ensures .0) (c .before .before .before .before .if1 .taken)))
 
 add-v : tie.Need-add-v Inv-loop μ-loop
 add-v c = search needs
@@ -59,20 +55,20 @@ loop-less c = search needs
 
 loop-again : tie.Need-loop-again Inv-loop μ-loop
 loop-again c =
-    let a = c .before .before .before .before .before .before .args in
-    let l = c .before .before .before .loop in
+    let args = c .before .before .before .before .before .before .args in
+    let loop = c .before .before .before .loop in
     let more = c .before .before .loop-test .taken in
     let is = c .before .byte-at .ensures .0 in
     ⊎-elim
     (λ w. (
-      placed-pairs-next _ _ _ _ _ _ _ more is (c .if1 .buffer) (c .if1 .place) (w .5 ∙ w .2 .ensures) (w .6) (w .0 .taken) ∙ l .inv .0,
-      omega (arith, ap length (rowPairs-next (now (a .rows)) (a .base) (l .v) (l .left) _ more is (w .0 .taken))),
+      placed-pairs-next _ _ _ _ _ _ _ more is (c .if1 .buffer) (c .if1 .place) (w .5 ∙ w .2 .ensures) (w .6) (w .0 .taken) ∙ loop .inv .0,
+      omega (arith, ap length (rowPairs-next (now (args .rows)) (args .base) (loop .v) (loop .left) _ more is (w .0 .taken))),
       omega arith,
       omega (arith, ap length (w .5)),
     ))
     (λ w. (
-      placed-pairs-skip _ _ _ _ _ _ _ more is (c .if1 .buffer) (c .if1 .place) (w .1) (w .2) (w .0 .left) ∙ l .inv .0,
-      omega (arith, ap length (rowPairs-skip (now (a .rows)) (a .base) (l .v) (l .left) _ more is (w .0 .left))),
+      placed-pairs-skip _ _ _ _ _ _ _ more is (c .if1 .buffer) (c .if1 .place) (w .1) (w .2) (w .0 .left) ∙ loop .inv .0,
+      omega (arith, ap length (rowPairs-skip (now (args .rows)) (args .base) (loop .v) (loop .left) _ more is (w .0 .left))),
       omega arith,
       omega (arith, ap length (w .1)),
     ))
@@ -83,10 +79,10 @@ same-length c = c .before .loop .inv .3
 
 returns : tie.Need-returns Inv-loop μ-loop
 returns c =
-    let a = c .before .before .before .before .args in
-    let l = c .before .loop in (
-      placed-pairs-none _ _ _ _ _ _ (c .loop-test .left) ∙ l .inv .0,
-      omega (arith, ap length (rowPairs-none (now (a .rows)) (a .base) (l .v) (l .left) (c .loop-test .left))),
+    let args = c .before .before .before .before .args in
+    let loop = c .before .loop in (
+      placed-pairs-none _ _ _ _ _ _ (c .loop-test .left) ∙ loop .inv .0,
+      omega (arith, ap length (rowPairs-none (now (args .rows)) (args .base) (loop .v) (loop .left) (c .loop-test .left))),
     )
 
 pub put-pairs-spec : {M : Type 1} → statement M

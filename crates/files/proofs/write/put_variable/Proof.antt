@@ -6,10 +6,6 @@ use Rattle.files.specs.Bytes.{u16Bytes}
 use Rattle.files.proofs.Writing.{placed-u16-then, placed-record}
 use Rattle.files.proofs.write.put_variable.Statement.{statement}
 use Rattle.files.proofs.write.put_variable.Tie as tie
-use Rattle.files.proofs.write.put_variable.Reads as reads
-use Rattle.files.proofs.write.put_variable.Lts as lts
-use Rattle.files.proofs.bytes.put_u16.Reads as put-u16-reads
-use Rattle.files.proofs.records.put_head.Reads as put-head-reads
 
 put-head-requires : tie.Need-put-head-requires
 put-head-requires c κs = search needs

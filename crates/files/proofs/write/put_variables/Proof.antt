@@ -14,10 +14,6 @@ use Rattle.files.specs.TaskFile.{variableBytes}
 use Rattle.files.proofs.Writing.{placed-none, placed-next}
 use Rattle.files.proofs.write.put_variables.Statement.{statement}
 use Rattle.files.proofs.write.put_variables.Tie as tie
-use Rattle.files.proofs.write.put_variables.Reads as reads
-use Rattle.files.proofs.write.put_variables.Lts as lts
-use Rattle.files.proofs.bytes.byte_at.Reads as byte-at-reads
-use Rattle.files.proofs.write.put_variable.Reads as put-variable-reads
 
 abbrev Inv-loop : tie.InvT-loop
 Inv-loop buffer₀ sizes starts count at₀ v₀ left₀ buffer at v left =
@@ -56,11 +52,11 @@ loop-less c = search needs
 loop-again : tie.Need-loop-again Inv-loop μ-loop
 unfolding variableBytes rowVariable recordBytes u16Bytes
 loop-again c =
-    let a = c .before .before .before .before .before .before .before .before .before .before .before .args in
-    let l = c .before .before .before .before .before .before .before .loop in (
-      placed-next variableBytes (rowVariable (now (a .sizes)) (now (a .starts))) _ _ _ _ _ _ _ (c .before .before .before .before .before .before .loop-test .taken) refl
-          (c .before .before .put-variable .ensures ∙ ap₂ (λ (m n : ℕ). placed (l .buffer) (l .at) (recordBytes 2 (u16Bytes m ++ u16Bytes n))) (c .before .before .before .before .byte-at .ensures .0) (c .before .before .before .byte-at2 .ensures .0)) refl
-          ∙ l .inv .0,
+    let args = c .before .before .before .before .before .before .before .before .before .before .before .args in
+    let loop = c .before .before .before .before .before .before .before .loop in (
+      placed-next variableBytes (rowVariable (now (args .sizes)) (now (args .starts))) _ _ _ _ _ _ _ (c .before .before .before .before .before .before .loop-test .taken) refl
+          (c .before .before .put-variable .ensures ∙ ap₂ (λ (m n : ℕ). placed (loop .buffer) (loop .at) (recordBytes 2 (u16Bytes m ++ u16Bytes n))) (c .before .before .before .before .byte-at .ensures .0) (c .before .before .before .byte-at2 .ensures .0)) refl
+          ∙ loop .inv .0,
       omega arith,
       omega arith,
       omega arith,
@@ -72,8 +68,8 @@ same-length c = c .before .loop .inv .3
 returns : tie.Need-returns Inv-loop μ-loop
 unfolding variableBytes
 returns c =
-    let a = c .before .before .before .before .before .args in
-    placed-none variableBytes (rowVariable (now (a .sizes)) (now (a .starts))) _ _ _ _ (c .loop-test .left) refl ∙ c .before .loop .inv .0
+    let args = c .before .before .before .before .before .args in
+    placed-none variableBytes (rowVariable (now (args .sizes)) (now (args .starts))) _ _ _ _ (c .loop-test .left) refl ∙ c .before .loop .inv .0
 
 pub put-variables-spec : {M : Type 1} → statement M
 put-variables-spec =

@@ -1,49 +1,58 @@
+-- Header, variables, goal, actions and sign-off stand one behind the other.
+use mathlib.Core.Path.{_∙_}
+use native.Mathlib.Omega.{arith}
+use denote.Ref.{now}
 use borrow.Author.Needs.{needs}
+use Rattle.files.specs.Dense.{held, arrays}
+use Rattle.files.specs.Lengths.{taskNeeded}
+use Rattle.files.specs.TaskFile.{taskFile}
+use Rattle.files.proofs.Placed.{placed-overwrite}
+use Rattle.files.proofs.WritingTasks.{placed-task, task-file-length}
 use Rattle.files.proofs.write.write_task.Statement.{statement}
 use Rattle.files.proofs.write.write_task.Tie as tie
-use Rattle.files.proofs.write.write_task.Reads as reads
-use Rattle.files.proofs.write.write_task.Lts as lts
-use Rattle.files.proofs.records.put_sign_off.Reads as put-sign-off-reads
-use Rattle.files.proofs.write.put_actions.Reads as put-actions-reads
-use Rattle.files.proofs.write.put_goal.Reads as put-goal-reads
-use Rattle.files.proofs.write.put_header.Reads as put-header-reads
-use Rattle.files.proofs.write.put_variables.Reads as put-variables-reads
 
--- src/write.rt:228:5
 put-header-requires : tie.Need-put-header-requires
-put-header-requires c κs = ?
+unfolding taskNeeded
+put-header-requires c κs = omega arith
 
--- src/write.rt:229:5
 put-variables-requires : tie.Need-put-variables-requires
-put-variables-requires c κs = ?
+unfolding taskNeeded
+put-variables-requires c κs = omega arith
 
--- src/write.rt:230:38
 mul-put-goal : tie.Need-mul-put-goal
 mul-put-goal c = search needs
 
--- src/write.rt:230:34
 add-put-goal : tie.Need-add-put-goal
 add-put-goal c = search needs
 
--- src/write.rt:230:9
 put-goal-requires : tie.Need-put-goal-requires
-put-goal-requires c κs = ?
+unfolding taskNeeded
+put-goal-requires c κs = omega arith
 
--- src/write.rt:231:9
 put-actions-requires : tie.Need-put-actions-requires
-put-actions-requires c κs = ?
+unfolding taskNeeded
+put-actions-requires c κs = omega arith
 
--- src/write.rt:240:5
 put-sign-off-requires : tie.Need-put-sign-off-requires
-put-sign-off-requires c κs = ?
+unfolding taskNeeded
+put-sign-off-requires c κs = omega arith
 
--- src/write.rt:213:1
 same-length : tie.Need-same-length
 same-length c = search needs
 
--- src/write.rt:213:1
 returns : tie.Need-returns
-returns c = ?
+returns c =
+    let args = c .before .before .before .before .before .before .before .before .before .before .before .before .before .before .before .before .before .before .before .before .before .before .before .before .before .before .before .args in
+    let d = arrays (args .variables) (args .actions) (now (args .sizes)) (now (args .starts)) (now (args .goal)) (now (args .costs)) (now (args .conditions)) (now (args .effects)) in
+    c .before .before .put-sign-off .ensures
+    ∙ placed-task d (args .signer) _ _ _ _ _ _ _
+    (c .before .before .before .before .before .before .before .before .before .before .before .before .before .before .before .before .before .before .before .before .before .before .before .before .put-header .ensures)
+    (c .before .before .before .before .before .before .before .before .before .before .before .before .before .before .before .before .before .before .put-variables .ensures)
+    (c .before .before .before .before .before .before .before .before .before .before .before .before .before .put-goal .ensures .0)
+    (c .before .before .before .before .before .before .before .before .before .before .before .before .before .put-goal .ensures .1)
+    (c .before .before .before .before .before .before .put-actions .ensures .0)
+    (c .before .before .before .before .before .before .put-actions .ensures .1)
+    ∙ placed-overwrite (now (args .buffer)) (taskFile (held d) (args .signer)) (rw (task-file-length d (args .signer)) (c .before .before .before .before .before .before .before .before .before .before .before .before .before .before .before .before .before .before .before .before .before .before .before .before .before .before .before .pre .2))
 
 pub write-task-spec : {M : Type 1} → statement M
 write-task-spec =

@@ -4,9 +4,6 @@ use borrow.Author.Needs.{needs}
 use Rattle.files.specs.Lengths.{originNeeded}
 use Rattle.files.proofs.write_origin.origin_needed.Statement.{statement}
 use Rattle.files.proofs.write_origin.origin_needed.Tie as tie
-use Rattle.files.proofs.write_origin.origin_needed.Reads as reads
-use Rattle.files.proofs.write_origin.origin_needed.Lts as lts
-use Rattle.files.proofs.write_origin.origins_needed.Reads as origins-needed-reads
 
 origins-needed-requires : tie.Need-origins-needed-requires
 origins-needed-requires c κs = search needs

@@ -8,9 +8,6 @@ use Rattle.files.specs.Lengths.{originsNeeded}
 use Rattle.files.proofs.WritingOrigins.{originsNeeded-none, originsNeeded-next}
 use Rattle.files.proofs.write_origin.origins_needed.Statement.{statement}
 use Rattle.files.proofs.write_origin.origins_needed.Tie as tie
-use Rattle.files.proofs.write_origin.origins_needed.Reads as reads
-use Rattle.files.proofs.write_origin.origins_needed.Lts as lts
-use Rattle.files.proofs.bytes.byte_at.Reads as byte-at-reads
 
 abbrev Inv-loop : tie.InvT-loop
 Inv-loop sizes count bytes₀ i₀ left₀ bytes i left =
@@ -47,13 +44,13 @@ loop-less c = search needs
 
 loop-again : tie.Need-loop-again Inv-loop μ-loop
 loop-again c =
-    let l = c .before .before .loop in
-    omega (arith, originsNeeded-next (now (c .before .before .before .before .args .sizes)) (l .i) (l .left) (c .before .loop-test .taken))
+    let loop = c .before .before .loop in
+    omega (arith, originsNeeded-next (now (c .before .before .before .before .args .sizes)) (loop .i) (loop .left) (c .before .loop-test .taken))
 
 returns : tie.Need-returns Inv-loop μ-loop
 returns c =
-    let l = c .before .loop in
-    omega (arith, originsNeeded-none (now (c .before .before .before .args .sizes)) (l .i) (l .left) (c .loop-test .left))
+    let loop = c .before .loop in
+    omega (arith, originsNeeded-none (now (c .before .before .before .args .sizes)) (loop .i) (loop .left) (c .loop-test .left))
 
 pub origins-needed-spec : {M : Type 1} → statement M
 origins-needed-spec =

@@ -11,12 +11,6 @@ use Rattle.files.specs.OriginFile.{originBody}
 use Rattle.files.proofs.WritingOrigins.{placed-origin}
 use Rattle.files.proofs.write_origin.put_origin.Statement.{statement}
 use Rattle.files.proofs.write_origin.put_origin.Tie as tie
-use Rattle.files.proofs.write_origin.put_origin.Reads as reads
-use Rattle.files.proofs.write_origin.put_origin.Lts as lts
-use Rattle.files.proofs.bytes.byte_at.Reads as byte-at-reads
-use Rattle.files.proofs.bytes.put_u16.Reads as put-u16-reads
-use Rattle.files.proofs.records.put_head.Reads as put-head-reads
-use Rattle.files.proofs.write_origin.put_values.Reads as put-values-reads
 
 byte-at-requires : tie.Need-byte-at-requires
 byte-at-requires c κs = search needs
@@ -63,9 +57,9 @@ same-length c = search needs
 returns : tie.Need-returns
 unfolding rowOrigin originBody
 returns c =
-    let a = c .before .before .before .before .before .before .before .before .before .before .before .before .before .before .before .before .before .before .args in (
+    let args = c .before .before .before .before .before .before .before .before .before .before .before .before .before .before .before .before .before .before .args in (
       c .before .before .put-values .ensures
-          ∙ placed-origin (now (a .numbers)) (now (a .sizes)) (now (a .values)) (a .i) _ _ _ _ _ _
+          ∙ placed-origin (now (args .numbers)) (now (args .sizes)) (now (args .values)) (args .i) _ _ _ _ _ _
           (c .before .before .before .before .before .before .before .before .before .before .before .before .before .byte-at .ensures .0)
           (c .before .before .before .before .before .before .before .byte-at2 .ensures .0)
           (c .before .before .before .before .before .before .before .before .before .before .before .put-head .ensures)

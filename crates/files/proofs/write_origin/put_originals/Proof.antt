@@ -13,9 +13,6 @@ use Rattle.files.specs.Records.{numberBytes}
 use Rattle.files.proofs.Writing.{placed-none, placed-next}
 use Rattle.files.proofs.write_origin.put_originals.Statement.{statement}
 use Rattle.files.proofs.write_origin.put_originals.Tie as tie
-use Rattle.files.proofs.write_origin.put_originals.Reads as reads
-use Rattle.files.proofs.write_origin.put_originals.Lts as lts
-use Rattle.files.proofs.bytes.put_u16.Reads as put-u16-reads
 
 abbrev Inv-loop : tie.InvT-loop
 Inv-loop buffer₀ at originals count place₀ i₀ left₀ buffer place i left =
@@ -58,11 +55,11 @@ loop-less c = search needs
 loop-again : tie.Need-loop-again Inv-loop μ-loop
 unfolding numberBytes u16Bytes
 loop-again c =
-    let a = c .before .before .before .before .before .before .before .before .before .args in
-    let l = c .before .before .before .before .before .before .loop in (
-      placed-next numberBytes (λ (j : ℕ). getD (now (a .originals)) (0 + j) 0) _ _ _ _ _ _ _ (c .before .before .before .before .before .loop-test .taken) refl
-          (c .before .before .put-u16 .ensures ∙ ap (λ (n : ℕ). placed (l .buffer) (l .place) (u16Bytes (getD (now (a .originals)) n 0))) (sym (zero-add (l .i)))) refl
-          ∙ l .inv .0,
+    let args = c .before .before .before .before .before .before .before .before .before .args in
+    let loop = c .before .before .before .before .before .before .loop in (
+      placed-next numberBytes (λ (j : ℕ). getD (now (args .originals)) (0 + j) 0) _ _ _ _ _ _ _ (c .before .before .before .before .before .loop-test .taken) refl
+          (c .before .before .put-u16 .ensures ∙ ap (λ (n : ℕ). placed (loop .buffer) (loop .place) (u16Bytes (getD (now (args .originals)) n 0))) (sym (zero-add (loop .i)))) refl
+          ∙ loop .inv .0,
       omega arith,
       omega arith,
       omega arith,
@@ -74,8 +71,8 @@ same-length c = c .before .loop .inv .3
 returns : tie.Need-returns Inv-loop μ-loop
 unfolding numberBytes
 returns c =
-    let a = c .before .before .before .before .args in
-    placed-none numberBytes (λ (j : ℕ). getD (now (a .originals)) (0 + j) 0) _ _ _ _ (c .loop-test .left) refl ∙ c .before .loop .inv .0
+    let args = c .before .before .before .before .args in
+    placed-none numberBytes (λ (j : ℕ). getD (now (args .originals)) (0 + j) 0) _ _ _ _ (c .loop-test .left) refl ∙ c .before .loop .inv .0
 
 pub put-originals-spec : {M : Type 1} → statement M
 put-originals-spec =

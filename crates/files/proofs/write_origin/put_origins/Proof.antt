@@ -14,9 +14,6 @@ use Rattle.files.proofs.Writing.{placed-none, placed-next}
 use Rattle.files.proofs.WritingOrigins.{rowOrigin-length, originsNeeded-none, originsNeeded-next}
 use Rattle.files.proofs.write_origin.put_origins.Statement.{statement}
 use Rattle.files.proofs.write_origin.put_origins.Tie as tie
-use Rattle.files.proofs.write_origin.put_origins.Reads as reads
-use Rattle.files.proofs.write_origin.put_origins.Lts as lts
-use Rattle.files.proofs.write_origin.put_origin.Reads as put-origin-reads
 
 abbrev Inv-loop : tie.InvT-loop
 Inv-loop buffer₀ numbers sizes values count place₀ i₀ left₀ buffer place i left =
@@ -33,10 +30,10 @@ loop-holds c = (refl, omega arith, omega arith, refl)
 
 put-origin-requires : tie.Need-put-origin-requires Inv-loop μ-loop
 put-origin-requires c κs =
-    let a = c .before .before .before .before .before .before .before .args in
-    let l = c .before .before .loop in
-    let next = originsNeeded-next (now (a .sizes)) (l .i) (l .left) (c .before .loop-test .taken) in
-    let size : getD (now (a .sizes)) (l .i) 0 ≤ 32 = c .before .before .before .before .before .before .before .pre .1 (l .i) (omega arith) in
+    let args = c .before .before .before .before .before .before .before .args in
+    let loop = c .before .before .loop in
+    let next = originsNeeded-next (now (args .sizes)) (loop .i) (loop .left) (c .before .loop-test .taken) in
+    let size : getD (now (args .sizes)) (loop .i) 0 ≤ 32 = c .before .before .before .before .before .before .before .pre .1 (loop .i) (omega arith) in
     (omega arith, omega arith, omega arith)
 
 add-i : tie.Need-add-i Inv-loop μ-loop
@@ -51,13 +48,13 @@ loop-less c = search needs
 loop-again : tie.Need-loop-again Inv-loop μ-loop
 unfolding variableOriginBytes
 loop-again c =
-    let a = c .before .before .before .before .before .before .before .before .before .before .args in
-    let l = c .before .before .before .before .before .loop in
-    let next = originsNeeded-next (now (a .sizes)) (l .i) (l .left) (c .before .before .before .before .loop-test .taken) in
-    let written = rowOrigin-length (now (a .numbers)) (now (a .sizes)) (now (a .values)) (l .i) in (
-      placed-next variableOriginBytes (rowOrigin (now (a .numbers)) (now (a .sizes)) (now (a .values))) _ _ _ _ _ _ _ (c .before .before .before .before .loop-test .taken) refl
+    let args = c .before .before .before .before .before .before .before .before .before .before .args in
+    let loop = c .before .before .before .before .before .loop in
+    let next = originsNeeded-next (now (args .sizes)) (loop .i) (loop .left) (c .before .before .before .before .loop-test .taken) in
+    let written = rowOrigin-length (now (args .numbers)) (now (args .sizes)) (now (args .values)) (loop .i) in (
+      placed-next variableOriginBytes (rowOrigin (now (args .numbers)) (now (args .sizes)) (now (args .values))) (loop .buffer) (loop .place) (loop .i) (loop .left) _ _ _ (c .before .before .before .before .loop-test .taken) refl
           (c .before .before .put-origin .ensures .0) (omega arith)
-          ∙ l .inv .0,
+          ∙ loop .inv .0,
       omega arith,
       omega arith,
       omega arith,
@@ -69,10 +66,10 @@ same-length c = c .before .loop .inv .3
 returns : tie.Need-returns Inv-loop μ-loop
 unfolding variableOriginBytes
 returns c =
-    let a = c .before .before .before .before .before .before .args in
-    let l = c .before .loop in (
-      placed-none variableOriginBytes (rowOrigin (now (a .numbers)) (now (a .sizes)) (now (a .values))) _ _ _ _ (c .loop-test .left) refl ∙ l .inv .0,
-      omega (arith, originsNeeded-none (now (a .sizes)) (l .i) (l .left) (c .loop-test .left)),
+    let args = c .before .before .before .before .before .before .args in
+    let loop = c .before .loop in (
+      placed-none variableOriginBytes (rowOrigin (now (args .numbers)) (now (args .sizes)) (now (args .values))) _ _ _ _ (c .loop-test .left) refl ∙ loop .inv .0,
+      omega (arith, originsNeeded-none (now (args .sizes)) (loop .i) (loop .left) (c .loop-test .left)),
     )
 
 pub put-origins-spec : {M : Type 1} → statement M

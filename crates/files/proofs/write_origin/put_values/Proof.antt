@@ -12,10 +12,6 @@ use Rattle.files.specs.Records.{numberBytes}
 use Rattle.files.proofs.Writing.{placed-none, placed-next}
 use Rattle.files.proofs.write_origin.put_values.Statement.{statement}
 use Rattle.files.proofs.write_origin.put_values.Tie as tie
-use Rattle.files.proofs.write_origin.put_values.Reads as reads
-use Rattle.files.proofs.write_origin.put_values.Lts as lts
-use Rattle.files.proofs.bytes.byte_at.Reads as byte-at-reads
-use Rattle.files.proofs.bytes.put_u16.Reads as put-u16-reads
 
 abbrev Inv-loop : tie.InvT-loop
 Inv-loop buffer₀ at values base count place₀ i₀ left₀ buffer place i left =
@@ -55,11 +51,11 @@ loop-less c = search needs
 loop-again : tie.Need-loop-again Inv-loop μ-loop
 unfolding numberBytes u16Bytes
 loop-again c =
-    let a = c .before .before .before .before .before .before .before .before .before .args in
-    let l = c .before .before .before .before .before .before .loop in (
-      placed-next numberBytes (λ (j : ℕ). getD (now (a .values)) (a .base + j) 0) _ _ _ _ _ _ _ (c .before .before .before .before .before .loop-test .taken) refl
-          (c .before .before .put-u16 .ensures ∙ ap (λ (n : ℕ). placed (l .buffer) (l .place) (u16Bytes n)) (c .before .before .before .byte-at .ensures .0)) refl
-          ∙ l .inv .0,
+    let args = c .before .before .before .before .before .before .before .before .before .args in
+    let loop = c .before .before .before .before .before .before .loop in (
+      placed-next numberBytes (λ (j : ℕ). getD (now (args .values)) (args .base + j) 0) _ _ _ _ _ _ _ (c .before .before .before .before .before .loop-test .taken) refl
+          (c .before .before .put-u16 .ensures ∙ ap (λ (n : ℕ). placed (loop .buffer) (loop .place) (u16Bytes n)) (c .before .before .before .byte-at .ensures .0)) refl
+          ∙ loop .inv .0,
       omega arith,
       omega arith,
       omega arith,
@@ -71,8 +67,8 @@ same-length c = c .before .loop .inv .3
 returns : tie.Need-returns Inv-loop μ-loop
 unfolding numberBytes
 returns c =
-    let a = c .before .before .before .before .args in
-    placed-none numberBytes (λ (j : ℕ). getD (now (a .values)) (a .base + j) 0) _ _ _ _ (c .loop-test .left) refl ∙ c .before .loop .inv .0
+    let args = c .before .before .before .before .args in
+    placed-none numberBytes (λ (j : ℕ). getD (now (args .values)) (args .base + j) 0) _ _ _ _ (c .loop-test .left) refl ∙ c .before .loop .inv .0
 
 pub put-values-spec : {M : Type 1} → statement M
 put-values-spec =

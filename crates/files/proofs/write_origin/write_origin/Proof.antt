@@ -1,56 +1,64 @@
+-- Variable origins, the head and the numbers of the action origins, and the sign-off stand one behind the other.
+use mathlib.Core.Path.{_∙_}
+use native.Mathlib.Omega.{arith}
+use denote.Ref.{now}
 use borrow.Author.Needs.{needs}
+use Rattle.files.specs.Dense.{heldOrigin, originArrays}
+use Rattle.files.specs.Lengths.{originNeeded}
+use Rattle.files.specs.OriginFile.{originFile}
+use Rattle.files.proofs.Placed.{placed-overwrite}
+use Rattle.files.proofs.WritingOrigins.{placed-origins, origin-file-length}
 use Rattle.files.proofs.write_origin.write_origin.Statement.{statement}
 use Rattle.files.proofs.write_origin.write_origin.Tie as tie
-use Rattle.files.proofs.write_origin.write_origin.Reads as reads
-use Rattle.files.proofs.write_origin.write_origin.Lts as lts
-use Rattle.files.proofs.records.put_head.Reads as put-head-reads
-use Rattle.files.proofs.records.put_sign_off.Reads as put-sign-off-reads
-use Rattle.files.proofs.write_origin.put_originals.Reads as put-originals-reads
-use Rattle.files.proofs.write_origin.put_origins.Reads as put-origins-reads
 
--- src/write_origin.rt:126:9
 put-origins-requires : tie.Need-put-origins-requires
-put-origins-requires c κs = ?
+unfolding originNeeded
+put-origins-requires c κs = (omega arith, c .before .before .before .before .before .pre .2, omega arith, omega arith)
 
--- src/write_origin.rt:127:38
 mul-put-head : tie.Need-mul-put-head
 mul-put-head c = search needs
 
--- src/write_origin.rt:127:5
 put-head-requires : tie.Need-put-head-requires
-put-head-requires c κs = ?
+unfolding originNeeded
+put-head-requires c κs = omega arith
 
--- src/write_origin.rt:128:27
 add-put-originals : tie.Need-add-put-originals
-add-put-originals c = ?
+unfolding originNeeded
+add-put-originals c = omega arith
 
--- src/write_origin.rt:128:5
 put-originals-requires : tie.Need-put-originals-requires
-put-originals-requires c κs = ?
+unfolding originNeeded
+put-originals-requires c κs = omega arith
 
--- src/write_origin.rt:129:35
 add-put-sign-off : tie.Need-add-put-sign-off
-add-put-sign-off c = ?
+unfolding originNeeded
+add-put-sign-off c = omega arith
 
--- src/write_origin.rt:129:44
 mul-put-sign-off : tie.Need-mul-put-sign-off
 mul-put-sign-off c = search needs
 
--- src/write_origin.rt:129:35
 add-put-sign-off-2 : tie.Need-add-put-sign-off-2
-add-put-sign-off-2 c = ?
+unfolding originNeeded
+add-put-sign-off-2 c = omega arith
 
--- src/write_origin.rt:129:5
 put-sign-off-requires : tie.Need-put-sign-off-requires
-put-sign-off-requires c κs = ?
+unfolding originNeeded
+put-sign-off-requires c κs = omega arith
 
--- src/write_origin.rt:113:1
 same-length : tie.Need-same-length
 same-length c = search needs
 
--- src/write_origin.rt:113:1
 returns : tie.Need-returns
-returns c = ?
+returns c =
+    let args = c .before .before .before .before .before .before .before .before .before .before .before .before .before .before .before .before .before .before .before .before .before .args in
+    let d = originArrays (args .variables) (args .actions) (now (args .numbers)) (now (args .sizes)) (now (args .values)) (now (args .originals)) in
+    c .before .before .put-sign-off .ensures
+    ∙ placed-origins d (args .signer) _ _ _ _ _
+    (c .before .before .before .before .before .before .before .before .before .before .before .before .before .before .before .put-origins .ensures .0)
+    (c .before .before .before .before .before .before .before .before .before .before .before .before .before .before .before .put-origins .ensures .1)
+    (c .before .before .before .before .before .before .before .before .before .before .before .put-head .ensures)
+    (c .before .before .before .before .before .before .put-originals .ensures)
+    ∙ placed-overwrite (now (args .buffer)) (originFile (heldOrigin d) (args .signer)) (rw (origin-file-length d (args .signer)) (c .before .before .before .before .before .before .before .before .before .before .before .before .before .before .before .before .before .before .before .before .before .pre .3))
 
 pub write-origin-spec : {M : Type 1} → statement M
 write-origin-spec =
