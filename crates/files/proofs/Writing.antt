@@ -57,23 +57,27 @@ placed-u32 b c at n e =
     ∙ placed-u16-then b c at (at + 2) n (n / 65536 % 256 ∷ n / 16777216 % 256 ∷ []) e refl
 
 -- a body behind the head of its record
-pub placed-record : (b c : List ℕ) (at kind bytes : ℕ) (body : List ℕ)
-    → c ≡ placed b at (u16Bytes bytes ++ u16Bytes kind)
+pub placed-record : (b head all : List ℕ) (at kind bytes : ℕ) (body : List ℕ)
+    → head ≡ placed b at (u16Bytes bytes ++ u16Bytes kind)
     → bytes ≡ length body
-    → placed c (at + 4) body ≡ placed b at (recordBytes kind body)
+    → all ≡ placed head (at + 4) body
+    → all ≡ placed b at (recordBytes kind body)
 unfolding recordBytes u16Bytes
-placed-record b c at kind bytes body e f =
-    placed-then b c at (at + 4) (u16Bytes bytes ++ u16Bytes kind) body e refl
+placed-record b head all at kind bytes body h f e =
+    e
+    ∙ placed-then b head at (at + 4) (u16Bytes bytes ++ u16Bytes kind) body h refl
     ∙ ap (λ (n : ℕ). placed b at (u16Bytes n ++ u16Bytes kind ++ body)) f
 
 -- the sign-off behind the records
-pub placed-signed : (b c : List ℕ) (end signer : ℕ) (records : List ℕ)
+pub placed-signed : (b c all : List ℕ) (end signer : ℕ) (records : List ℕ)
     → c ≡ placed b 0 records
     → end ≡ length records
-    → placed c end (recordBytes 5 (u32Bytes signer ++ u32Bytes end)) ≡ placed b 0 (signed signer records)
+    → all ≡ placed c end (recordBytes 5 (u32Bytes signer ++ u32Bytes end))
+    → all ≡ placed b 0 (signed signer records)
 unfolding signed
-placed-signed b c end signer records e f =
-    placed-then b c 0 end records (recordBytes 5 (u32Bytes signer ++ u32Bytes end)) e (omega arith)
+placed-signed b c all end signer records h f e =
+    e
+    ∙ placed-then b c 0 end records (recordBytes 5 (u32Bytes signer ++ u32Bytes end)) h (omega arith)
     ∙ ap (λ (n : ℕ). placed b 0 (records ++ recordBytes 5 (u32Bytes signer ++ u32Bytes n))) f
 
 -- tabulated lists, as a loop that counts down goes through them
@@ -94,14 +98,14 @@ module _ {A : Type 0} (bytes : List A → List ℕ) (f : ℕ → A) (b : List �
   unfolding placed
   placed-none h e = sym (ap (λ (l : List A). placed b at (bytes l)) (tabulateFrom-none i left f h) ∙ ap (placed b at) e)
 
-  pub placed-next : (c : List ℕ) (next : ℕ) (one : List ℕ)
+  pub placed-next : (one : A → List ℕ) (c : List ℕ) (next : ℕ)
       → 0 < left
-      → bytes (f i ∷ tabulateFrom (i + 1) (left - 1) f) ≡ one ++ bytes (tabulateFrom (i + 1) (left - 1) f)
-      → c ≡ placed b at one
-      → next ≡ at + length one
+      → bytes (f i ∷ tabulateFrom (i + 1) (left - 1) f) ≡ one (f i) ++ bytes (tabulateFrom (i + 1) (left - 1) f)
+      → c ≡ placed b at (one (f i))
+      → next ≡ at + length (one (f i))
       → placed c next (bytes (tabulateFrom (i + 1) (left - 1) f)) ≡ placed b at (bytes (tabulateFrom i left f))
-  placed-next c next one h e p q =
-      placed-then b c at next one (bytes (tabulateFrom (i + 1) (left - 1) f)) p q
+  placed-next one c next h e p q =
+      placed-then b c at next (one (f i)) (bytes (tabulateFrom (i + 1) (left - 1) f)) p q
       ∙ sym (ap (λ (l : List A). placed b at (bytes l)) (tabulateFrom-next i left f h) ∙ ap (placed b at) e)
 
 -- a loop that writes the entries of a list of numbers, from entry i on

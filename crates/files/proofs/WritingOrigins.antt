@@ -56,33 +56,36 @@ unfolding originsNeeded
 originsNeeded-next sizes i left h = ap (originsNeeded sizes i) (one-more left h)
 
 -- the record of a variable origin from its parts: head, number, values
-pub placed-origin : (numbers sizes values : List ℕ) (i : ℕ) (b head number : List ℕ) (at n size : ℕ)
+pub placed-origin : (numbers sizes values : List ℕ) (i : ℕ) (b head number all : List ℕ) (at n size : ℕ)
     → size ≡ getD sizes i 0
     → n ≡ getD numbers i 0
     → head ≡ placed b at (u16Bytes (2 + 2 * size) ++ u16Bytes 6)
     → number ≡ placed head (at + 4) (u16Bytes n)
-    → placed number (at + 6) (numberBytes (rowNumbers values (32 * i) size)) ≡ placed b at (recordBytes 6 (originBody (rowOrigin numbers sizes values i)))
+    → all ≡ placed number (at + 6) (numberBytes (rowNumbers values (32 * i) size))
+    → all ≡ placed b at (recordBytes 6 (originBody (rowOrigin numbers sizes values i)))
 unfolding rowOrigin originBody
-placed-origin numbers sizes values i b head number at n size p q h e =
-    let all = numberBytes (rowNumbers values (32 * i) size) in
-    placed-u16-then head number (at + 4) (at + 6) n all e (omega arith)
-    ∙ placed-record b head at 6 (2 + 2 * size) (u16Bytes n ++ all) h (simp (length-append, u16Bytes-length, numberBytes-length, rowNumbers-length) (omega arith))
+placed-origin numbers sizes values i b head number all at n size p q h e f =
+    let row = numberBytes (rowNumbers values (32 * i) size) in
+    placed-record b head all at 6 (2 + 2 * size) (u16Bytes n ++ row) h
+    (simp (length-append, u16Bytes-length, numberBytes-length, rowNumbers-length) (omega arith))
+    (f ∙ placed-u16-then head number (at + 4) (at + 6) n row e (omega arith))
     ∙ ap₂ (λ (j k : ℕ). placed b at (recordBytes 6 (u16Bytes j ++ numberBytes (rowNumbers values (32 * i) k)))) q p
 
 -- the file of origins from its parts: variable origins, the head and the numbers of action origins, sign-off
-pub placed-origins : (d : OriginArrays) (signer : ℕ) (b variables head numbers : List ℕ) (at : ℕ)
+pub placed-origins : (d : OriginArrays) (signer : ℕ) (b variables head numbers all : List ℕ) (at : ℕ)
     → variables ≡ placed b 0 (variableOriginBytes (tabulate (d .variables) (rowOrigin (d .numbers) (d .sizes) (d .values))))
     → at ≡ originsNeeded (d .sizes) 0 (d .variables)
     → head ≡ placed variables at (u16Bytes (2 * d .actions) ++ u16Bytes 7)
     → numbers ≡ placed head (at + 4) (numberBytes (rowNumbers (d .originals) 0 (d .actions)))
-    → placed numbers (at + 4 + 2 * d .actions) (recordBytes 5 (u32Bytes signer ++ u32Bytes (at + 4 + 2 * d .actions))) ≡ placed b 0 (originFile (heldOrigin d) signer)
+    → all ≡ placed numbers (at + 4 + 2 * d .actions) (recordBytes 5 (u32Bytes signer ++ u32Bytes (at + 4 + 2 * d .actions)))
+    → all ≡ placed b 0 (originFile (heldOrigin d) signer)
 unfolding originFile heldOrigin
-placed-origins d signer b variables head numbers at v p h n =
+placed-origins d signer b variables head numbers all at v p h n s =
     let o = heldOrigin d in
     let written = variableOriginBytes-length (d .numbers) (d .sizes) (d .values) 0 (d .variables) in
-    let all = recordBytes 7 (numberBytes (o .actions)) in
-    placed-signed b numbers (at + 4 + 2 * d .actions) signer (variableOriginBytes (o .variables) ++ all)
-    (n
-    ∙ placed-record variables head at 7 (2 * d .actions) (numberBytes (o .actions)) h (simp (numberBytes-length, rowNumbers-length))
-    ∙ placed-then b variables 0 at (variableOriginBytes (o .variables)) all v (omega arith))
+    let actions = recordBytes 7 (numberBytes (o .actions)) in
+    placed-signed b numbers all (at + 4 + 2 * d .actions) signer (variableOriginBytes (o .variables) ++ actions)
+    (placed-record variables head numbers at 7 (2 * d .actions) (numberBytes (o .actions)) h (simp (numberBytes-length, rowNumbers-length)) n
+    ∙ placed-then b variables 0 at (variableOriginBytes (o .variables)) actions v (omega arith))
     (simp (length-append, recordBytes-length, numberBytes-length, rowNumbers-length) (omega arith))
+    s

@@ -106,22 +106,24 @@ module _ (b : List ℕ) (at : ℕ) (row : List ℕ) (base v left value : ℕ) (m
       ∙ sym (ap (λ (l : List Pair). placed b at (pairBytes l)) (rowPairs-next row base v left value more is d))
 
 -- the record of an action from its parts: head, cost and counts, conditions, effects
-pub placed-action : (action : Action) (b head counts conditions : List ℕ) (at asked set middle : ℕ)
+pub placed-action : (action : Action) (b head counts conditions effects : List ℕ) (at asked set middle : ℕ)
     → asked ≡ length (action .conditions)
     → set ≡ length (action .effects)
     → head ≡ placed b at (u16Bytes (8 + 4 * asked + 4 * set) ++ u16Bytes 4)
     → counts ≡ placed head (at + 4) (u32Bytes (action .cost) ++ u16Bytes asked ++ u16Bytes set)
     → conditions ≡ placed counts (at + 12) (pairBytes (action .conditions))
     → middle ≡ at + 12 + 4 * length (action .conditions)
-    → placed conditions middle (pairBytes (action .effects)) ≡ placed b at (recordBytes 4 (actionBody action))
+    → effects ≡ placed conditions middle (pairBytes (action .effects))
+    → effects ≡ placed b at (recordBytes 4 (actionBody action))
 unfolding actionBody u32Bytes u16Bytes
-placed-action action b head counts conditions at asked set middle p q h n e m =
+placed-action action b head counts conditions effects at asked set middle p q h n e m f =
     let counted = u32Bytes (action .cost) ++ u16Bytes (length (action .conditions)) ++ u16Bytes (length (action .effects)) in
     let counts-placed : counts ≡ placed head (at + 4) counted = n ∙ ap₂ (λ (i j : ℕ). placed head (at + 4) (u32Bytes (action .cost) ++ u16Bytes i ++ u16Bytes j)) p q in
     let conditions-placed : conditions ≡ placed head (at + 4) (counted ++ pairBytes (action .conditions)) = e ∙ placed-then head counts (at + 4) (at + 12) counted (pairBytes (action .conditions)) counts-placed (omega arith) in
-    placed-then head conditions (at + 4) middle (counted ++ pairBytes (action .conditions)) (pairBytes (action .effects)) conditions-placed
-    (omega (arith, pairBytes-length (action .conditions)))
-    ∙ placed-record b head at 4 (8 + 4 * asked + 4 * set) (actionBody action) h (omega (arith, actionBody-length action))
+    placed-record b head effects at 4 (8 + 4 * asked + 4 * set) (actionBody action) h (omega (arith, actionBody-length action))
+    (f
+    ∙ placed-then head conditions (at + 4) middle (counted ++ pairBytes (action .conditions)) (pairBytes (action .effects)) conditions-placed
+    (omega (arith, pairBytes-length (action .conditions))))
 
 -- the records of a task
 pub taskRecords-length : (t : Task) → length (taskRecords t) ≡ 12 + 8 * variableCount t + 4 * length (t .goal) + length (actionBytes (t .actions))
@@ -141,16 +143,17 @@ task-file-length d signer =
     )
 
 -- the file of a task from its parts: header, variables, goal, actions, sign-off
-pub placed-task : (d : Arrays) (signer : ℕ) (b header variables goal actions : List ℕ) (first end : ℕ)
+pub placed-task : (d : Arrays) (signer : ℕ) (b header variables goal actions all : List ℕ) (first end : ℕ)
     → header ≡ placed b 0 (recordBytes 1 (u16Bytes (d .variables) ++ u16Bytes (d .actions)))
     → variables ≡ placed header 8 (variableBytes (tabulate (d .variables) (rowVariable (d .sizes) (d .starts))))
     → goal ≡ placed variables (8 + 8 * d .variables) (recordBytes 3 (pairBytes (rowPairs (d .goal) 0 0 (d .variables))))
     → first ≡ 8 + 8 * d .variables + 4 + 4 * length (rowPairs (d .goal) 0 0 (d .variables))
     → actions ≡ placed goal first (actionBytes (tabulate (d .actions) (rowAction (d .variables) (d .costs) (d .conditions) (d .effects))))
     → end ≡ first + actionsNeeded (d .variables) (d .conditions) (d .effects) 0 (d .actions)
-    → placed actions end (recordBytes 5 (u32Bytes signer ++ u32Bytes end)) ≡ placed b 0 (taskFile (held d) signer)
+    → all ≡ placed actions end (recordBytes 5 (u32Bytes signer ++ u32Bytes end))
+    → all ≡ placed b 0 (taskFile (held d) signer)
 unfolding taskFile taskRecords held
-placed-task d signer b header variables goal actions first end h v g f a e =
+placed-task d signer b header variables goal actions all first end h v g f a e s =
     let t = held d in
     let counted = tabulateFrom-length 0 (d .variables) (rowVariable (d .sizes) (d .starts)) in
     let numbered = tabulateFrom-length 0 (d .actions) (rowAction (d .variables) (d .costs) (d .conditions) (d .effects)) in
@@ -161,5 +164,6 @@ placed-task d signer b header variables goal actions first end h v g f a e =
     let variables-placed : variables ≡ placed b 0 toVariables = v ∙ placed-then b header 0 8 toHeader (variableBytes (t .variables)) header-placed (simp (recordBytes-length, length-append, u16Bytes-length) (omega arith)) in
     let goal-placed : goal ≡ placed b 0 toGoal = g ∙ placed-then b variables 0 (8 + 8 * d .variables) toVariables (recordBytes 3 (pairBytes (t .goal))) variables-placed (simp (recordBytes-length, length-append, u16Bytes-length, variableBytes-length) (omega arith)) in
     let actions-placed : actions ≡ placed b 0 (taskRecords t) = a ∙ placed-then b goal 0 first toGoal (actionBytes (t .actions)) goal-placed (simp (recordBytes-length, length-append, u16Bytes-length, variableBytes-length, pairBytes-length) (omega arith)) in
-    placed-signed b actions end signer (taskRecords t) actions-placed
+    placed-signed b actions all end signer (taskRecords t) actions-placed
     (omega (arith, taskRecords-length t, actionBytes-length (d .variables) (d .costs) (d .conditions) (d .effects) 0 (d .actions)))
+    s

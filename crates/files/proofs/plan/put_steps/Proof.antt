@@ -1,8 +1,8 @@
 -- The loop's invariant: the steps left, placed behind those that stand, make all the steps.
-use Prim.Native.Nat.{ℕ, _+_, _*_, _-_, _≤_, _<_}
+use Prim.Native.Nat.{_+_, _*_, _-_, _≤_}
 use mathlib.Core.Path.{_≡_, refl, _∙_}
 use native.Mathlib.Omega.{arith}
-use lib.ListN.{length, getD, drop}
+use lib.ListN.{length, drop}
 use denote.Ref.{now}
 use borrow.Author.Needs.{needs}
 use Rattle.files.specs.Bytes.{placed}
@@ -42,11 +42,13 @@ loop-less : tie.Need-loop-less Inv-loop μ-loop
 loop-less c = search needs
 
 loop-again : tie.Need-loop-again Inv-loop μ-loop
-loop-again c = (
-  placed-numbers-next _ _ _ _ (now (c .before .before .before .before .before .before .before .before .before .args .plan)) (c .before .before .before .before .before .before .loop .i) (c .before .before .before .before .before .loop-test .taken) (c .before .before .put-step .ensures) (omega arith) ∙ c .before .before .before .before .before .before .loop .inv .0,
-  omega arith,
-  omega arith,
-)
+loop-again c =
+    let args = c .before .before .before .before .before .before .before .before .before .args in
+    let loop = c .before .before .before .before .before .before .loop in (
+      placed-numbers-next _ _ _ _ (now (args .plan)) (loop .i) (c .before .before .before .before .before .loop-test .taken) (c .before .before .put-step .ensures) (omega arith) ∙ loop .inv .0,
+      omega arith,
+      omega arith,
+    )
 
 same-length : tie.Need-same-length Inv-loop μ-loop
 same-length c = c .before .loop .inv .2

@@ -1,12 +1,10 @@
 -- The head states 2 bytes for each step, the steps stand behind it, and the sign-off behind them.
-use Prim.Native.Nat.{ℕ, _+_, _*_, _-_, _≤_, _<_}
-use mathlib.Core.Path.{_≡_, refl, _∙_}
+use mathlib.Core.Path.{_∙_}
 use native.Mathlib.Omega.{arith}
-use lib.ListN.{length}
 use denote.Ref.{now}
 use borrow.Author.Needs.{needs}
 use Rattle.files.specs.PlanFile.{planFile}
-use Rattle.files.specs.Records.{recordBytes, numberBytes}
+use Rattle.files.specs.Records.{numberBytes}
 use Rattle.files.proofs.Placed.{placed-overwrite}
 use Rattle.files.proofs.Writing.{placed-record, placed-signed, recordBytes-length, numberBytes-length, plan-file-length}
 use Rattle.files.proofs.plan.write.Statement.{statement}
@@ -35,10 +33,10 @@ unfolding planFile
 returns c =
     let args = c .before .before .before .before .before .before .before .before .before .before .before .before .before .before .args in
     let plan = now (args .plan) in
-    c .before .before .put-sign-off .ensures
-    ∙ placed-signed _ _ _ _ _
-    (c .before .before .before .before .before .before .put-steps .ensures ∙ placed-record _ _ 0 8 _ (numberBytes plan) (c .before .before .before .before .before .before .before .before .before .before .put-head .ensures) (omega (arith, numberBytes-length plan)))
+    placed-signed _ _ _ _ _ _
+    (placed-record _ _ _ 0 8 _ (numberBytes plan) (c .before .before .before .before .before .before .before .before .before .before .put-head .ensures) (omega (arith, numberBytes-length plan)) (c .before .before .before .before .before .before .put-steps .ensures))
     (omega (arith, recordBytes-length 8 (numberBytes plan), numberBytes-length plan))
+    (c .before .before .put-sign-off .ensures)
     ∙ placed-overwrite (now (args .buffer)) (planFile plan (args .signer)) (omega (arith, plan-file-length plan (args .signer)))
 
 pub write-spec : {M : Type 1} → statement M

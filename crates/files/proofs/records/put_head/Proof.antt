@@ -1,5 +1,4 @@
 -- The kind stands behind the body length.
-use native.Mathlib.Omega.{arith}
 use mathlib.Core.Path.{refl, _∙_}
 use borrow.Author.Needs.{needs}
 use Rattle.files.proofs.Writing.{placed-u16-then}

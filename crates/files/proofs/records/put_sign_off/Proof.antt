@@ -28,9 +28,8 @@ same-length c = search needs
 returns : tie.Need-returns
 unfolding u32Bytes u16Bytes
 returns c =
-    c .before .before .put-u322 .ensures
-    ∙ placed-u32-then _ _ _ _ _ _ (c .before .before .before .before .before .before .put-u32 .ensures) (omega arith)
-    ∙ placed-record _ _ _ _ _ _ (c .before .before .before .before .before .before .before .before .before .before .put-head .ensures) refl
+    placed-record _ _ _ _ _ _ _ (c .before .before .before .before .before .before .before .before .before .before .put-head .ensures) refl
+    (c .before .before .put-u322 .ensures ∙ placed-u32-then _ _ _ _ _ _ (c .before .before .before .before .before .before .put-u32 .ensures) (omega arith))
 
 pub put-sign-off-spec : {M : Type 1} → statement M
 put-sign-off-spec =

@@ -1,10 +1,10 @@
 -- The loop's invariant: the bytes counted and those of the actions left are all the bytes.
-use Prim.Native.Nat.{_+_, _*_, _-_, _≤_, _<_}
+use Prim.Native.Nat.{_+_, _*_, _≤_}
 use mathlib.Core.Path.{_≡_}
 use native.Mathlib.Omega.{arith}
 use denote.Ref.{now}
 use borrow.Author.Needs.{needs}
-use Rattle.files.specs.Lengths.{actionNeeded, actionsNeeded}
+use Rattle.files.specs.Lengths.{actionsNeeded}
 use Rattle.files.proofs.WritingTasks.{actionsNeeded-none, actionsNeeded-next}
 use Rattle.files.proofs.write.actions_needed.Statement.{statement}
 use Rattle.files.proofs.write.actions_needed.Tie as tie

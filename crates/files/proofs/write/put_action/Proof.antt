@@ -1,11 +1,8 @@
 -- The head states 8 bytes and 4 for each pair; cost and counts stand behind it, then the conditions, then the effects.
-use Prim.Native.Nat.{ℕ, _+_, _*_, _-_, _≤_, _<_}
-use mathlib.Core.Path.{_≡_, refl, ap, _∙_}
 use native.Mathlib.Omega.{arith}
-use lib.ListN.{length}
 use denote.Ref.{now}
 use borrow.Author.Needs.{needs}
-use Rattle.files.specs.Dense.{rowPairs, rowAction}
+use Rattle.files.specs.Dense.{rowAction}
 use Rattle.files.specs.Lengths.{actionNeeded}
 use Rattle.files.proofs.WritingTasks.{placed-action}
 use Rattle.files.proofs.write.put_action.Statement.{statement}
@@ -70,14 +67,14 @@ returns : tie.Need-returns
 unfolding rowAction actionNeeded
 returns c =
     let args = c .before .before .before .before .before .before .before .before .before .before .before .before .before .before .before .before .before .before .before .before .before .before .before .args in (
-      c .before .before .put-pairs2 .ensures .0
-          ∙ placed-action (rowAction (args .variables) (now (args .costs)) (now (args .conditions)) (now (args .effects)) (args .a)) _ _ _ _ _ _ _ _
+      placed-action (rowAction (args .variables) (now (args .costs)) (now (args .conditions)) (now (args .effects)) (args .a)) _ _ _ _ _ _ _ _ _
           (c .before .before .before .before .before .before .before .before .before .before .before .before .before .before .before .before .before .before .pairs-in .ensures .0)
           (c .before .before .before .before .before .before .before .before .before .before .before .before .before .before .before .before .before .pairs-in2 .ensures .0)
           (c .before .before .before .before .before .before .before .before .before .before .before .before .before .before .put-head .ensures)
           (c .before .before .before .before .before .before .before .before .before .before .put-counts .ensures)
           (c .before .before .before .before .before .before .put-pairs .ensures .0)
-          (c .before .before .before .before .before .before .put-pairs .ensures .1),
+          (c .before .before .before .before .before .before .put-pairs .ensures .1)
+          (c .before .before .put-pairs2 .ensures .0),
       omega arith,
     )
 

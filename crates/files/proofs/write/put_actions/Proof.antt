@@ -1,6 +1,6 @@
 -- The loop's invariant: the records left, placed behind those that stand, make all the records, and so do their bytes.
-use Prim.Native.Nat.{ℕ, _+_, _*_, _-_, _≤_, _<_}
-use mathlib.Core.Path.{_≡_, refl, ap, _∙_}
+use Prim.Native.Nat.{_+_}
+use mathlib.Core.Path.{_≡_, refl, _∙_}
 use native.Mathlib.Omega.{arith}
 use lib.ListN.{length}
 use denote.Ref.{now}
@@ -8,8 +8,10 @@ use borrow.Author.Needs.{needs}
 use Rattle.files.specs.Below.{tabulate, tabulateFrom}
 use Rattle.files.specs.Bytes.{placed}
 use Rattle.files.specs.Dense.{rowAction}
-use Rattle.files.specs.Lengths.{actionNeeded, actionsNeeded}
-use Rattle.files.specs.TaskFile.{actionBytes}
+use Rattle.files.specs.Lengths.{actionsNeeded}
+use Rattle.files.specs.Records.{recordBytes}
+use Rattle.files.specs.Task.{Action}
+use Rattle.files.specs.TaskFile.{actionBody, actionBytes}
 use Rattle.files.proofs.Writing.{placed-none, placed-next}
 use Rattle.files.proofs.WritingTasks.{rowAction-length, actionsNeeded-none, actionsNeeded-next}
 use Rattle.files.proofs.write.put_actions.Statement.{statement}
@@ -51,7 +53,7 @@ loop-again c =
     let loop = c .before .before .before .before .before .loop in
     let next = actionsNeeded-next (args .variables) (now (args .conditions)) (now (args .effects)) (loop .a) (loop .left) (c .before .before .before .before .loop-test .taken) in
     let written = rowAction-length (args .variables) (now (args .costs)) (now (args .conditions)) (now (args .effects)) (loop .a) in (
-      placed-next actionBytes (rowAction (args .variables) (now (args .costs)) (now (args .conditions)) (now (args .effects))) (loop .buffer) (loop .place) (loop .a) (loop .left) _ _ _ (c .before .before .before .before .loop-test .taken) refl
+      placed-next actionBytes (rowAction (args .variables) (now (args .costs)) (now (args .conditions)) (now (args .effects))) (loop .buffer) (loop .place) (loop .a) (loop .left) (λ (action : Action). recordBytes 4 (actionBody action)) _ _ (c .before .before .before .before .loop-test .taken) refl
           (c .before .before .put-action .ensures .0) (omega arith)
           ∙ loop .inv .0,
       omega arith,

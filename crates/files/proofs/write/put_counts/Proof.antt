@@ -1,5 +1,4 @@
 -- Behind the cost stands one count, and the other behind that.
-use native.Mathlib.Omega.{arith}
 use mathlib.Core.Path.{refl, _∙_}
 use borrow.Author.Needs.{needs}
 use Rattle.files.specs.Bytes.{u16Bytes, u32Bytes}

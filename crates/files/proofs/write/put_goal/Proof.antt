@@ -1,6 +1,5 @@
 -- The head states 4 bytes for each pair, and the pairs stand behind it.
 use native.Mathlib.Omega.{arith}
-use mathlib.Core.Path.{_∙_}
 use denote.Ref.{now}
 use borrow.Author.Needs.{needs}
 use Rattle.files.specs.Dense.{rowPairs}
@@ -30,8 +29,7 @@ same-length c = search needs
 returns : tie.Need-returns
 returns c =
     let args = c .before .before .before .before .before .before .before .before .before .before .before .args in (
-      c .before .before .put-pairs .ensures .0
-          ∙ placed-record _ _ _ _ _ _ (c .before .before .before .before .before .before .put-head .ensures) (omega (arith, pairBytes-length (rowPairs (now (args .goal)) 0 0 (args .variables)))),
+      placed-record _ _ _ _ _ _ _ (c .before .before .before .before .before .before .put-head .ensures) (omega (arith, pairBytes-length (rowPairs (now (args .goal)) 0 0 (args .variables)))) (c .before .before .put-pairs .ensures .0),
       c .before .before .put-pairs .ensures .1,
     )
 

@@ -28,9 +28,8 @@ same-length c = search needs
 returns : tie.Need-returns
 unfolding u16Bytes
 returns c =
-    c .before .before .put-u162 .ensures
-    ∙ placed-u16-then _ _ _ _ _ _ (c .before .before .before .before .before .before .put-u16 .ensures) (omega arith)
-    ∙ placed-record _ _ _ _ _ _ (c .before .before .before .before .before .before .before .before .before .before .put-head .ensures) refl
+    placed-record _ _ _ _ _ _ _ (c .before .before .before .before .before .before .before .before .before .before .put-head .ensures) refl
+    (c .before .before .put-u162 .ensures ∙ placed-u16-then _ _ _ _ _ _ (c .before .before .before .before .before .before .put-u16 .ensures) (omega arith))
 
 pub put-variable-spec : {M : Type 1} → statement M
 put-variable-spec =

@@ -1,6 +1,6 @@
 -- The loop's invariant: the records left, placed behind those that stand, make all the records.
-use Prim.Native.Nat.{ℕ, _+_, _*_, _-_, _≤_, _<_}
-use mathlib.Core.Path.{_≡_, refl, ap₂, _∙_}
+use Prim.Native.Nat.{_+_, _*_}
+use mathlib.Core.Path.{_≡_, refl, _∙_}
 use mathlib.Core.List.{_++_}
 use native.Mathlib.Omega.{arith}
 use lib.ListN.{length}
@@ -10,6 +10,7 @@ use Rattle.files.specs.Below.{tabulate, tabulateFrom}
 use Rattle.files.specs.Bytes.{placed, u16Bytes}
 use Rattle.files.specs.Dense.{rowVariable}
 use Rattle.files.specs.Records.{recordBytes}
+use Rattle.files.specs.Task.{Variable}
 use Rattle.files.specs.TaskFile.{variableBytes}
 use Rattle.files.proofs.Writing.{placed-none, placed-next}
 use Rattle.files.proofs.write.put_variables.Statement.{statement}
@@ -54,8 +55,8 @@ unfolding variableBytes rowVariable recordBytes u16Bytes
 loop-again c =
     let args = c .before .before .before .before .before .before .before .before .before .before .before .args in
     let loop = c .before .before .before .before .before .before .before .loop in (
-      placed-next variableBytes (rowVariable (now (args .sizes)) (now (args .starts))) _ _ _ _ _ _ _ (c .before .before .before .before .before .before .loop-test .taken) refl
-          (c .before .before .put-variable .ensures ∙ ap₂ (λ (m n : ℕ). placed (loop .buffer) (loop .at) (recordBytes 2 (u16Bytes m ++ u16Bytes n))) (c .before .before .before .before .byte-at .ensures .0) (c .before .before .before .byte-at2 .ensures .0)) refl
+      placed-next variableBytes (rowVariable (now (args .sizes)) (now (args .starts))) (loop .buffer) (loop .at) (loop .v) (loop .left) (λ (v : Variable). recordBytes 2 (u16Bytes (v .size) ++ u16Bytes (v .start))) _ _ (c .before .before .before .before .before .before .loop-test .taken) refl
+          (cc) refl
           ∙ loop .inv .0,
       omega arith,
       omega arith,

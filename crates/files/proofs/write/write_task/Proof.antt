@@ -44,14 +44,14 @@ returns : tie.Need-returns
 returns c =
     let args = c .before .before .before .before .before .before .before .before .before .before .before .before .before .before .before .before .before .before .before .before .before .before .before .before .before .before .before .args in
     let d = arrays (args .variables) (args .actions) (now (args .sizes)) (now (args .starts)) (now (args .goal)) (now (args .costs)) (now (args .conditions)) (now (args .effects)) in
-    c .before .before .put-sign-off .ensures
-    ∙ placed-task d (args .signer) _ _ _ _ _ _ _
+    placed-task d (args .signer) _ _ _ _ _ _ _ _
     (c .before .before .before .before .before .before .before .before .before .before .before .before .before .before .before .before .before .before .before .before .before .before .before .before .put-header .ensures)
     (c .before .before .before .before .before .before .before .before .before .before .before .before .before .before .before .before .before .before .put-variables .ensures)
     (c .before .before .before .before .before .before .before .before .before .before .before .before .before .put-goal .ensures .0)
     (c .before .before .before .before .before .before .before .before .before .before .before .before .before .put-goal .ensures .1)
     (c .before .before .before .before .before .before .put-actions .ensures .0)
     (c .before .before .before .before .before .before .put-actions .ensures .1)
+    (c .before .before .put-sign-off .ensures)
     ∙ placed-overwrite (now (args .buffer)) (taskFile (held d) (args .signer)) (rw (task-file-length d (args .signer)) (c .before .before .before .before .before .before .before .before .before .before .before .before .before .before .before .before .before .before .before .before .before .before .before .before .before .before .before .pre .2))
 
 pub write-task-spec : {M : Type 1} → statement M

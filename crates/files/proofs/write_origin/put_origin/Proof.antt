@@ -1,13 +1,7 @@
 -- The head states 2 bytes and 2 for each value; the variable's number stands behind it, then the values.
-use Prim.Native.Nat.{ℕ, _+_, _*_, _-_, _≤_, _<_}
-use mathlib.Core.Path.{_≡_, refl, sym, ap, ap₂, _∙_}
 use native.Mathlib.Omega.{arith}
-use lib.ListN.{length, getD}
 use denote.Ref.{now}
 use borrow.Author.Needs.{needs}
-use Rattle.files.specs.Bytes.{u16Bytes}
-use Rattle.files.specs.Dense.{rowNumbers, rowOrigin}
-use Rattle.files.specs.OriginFile.{originBody}
 use Rattle.files.proofs.WritingOrigins.{placed-origin}
 use Rattle.files.proofs.write_origin.put_origin.Statement.{statement}
 use Rattle.files.proofs.write_origin.put_origin.Tie as tie
@@ -55,15 +49,14 @@ same-length : tie.Need-same-length
 same-length c = search needs
 
 returns : tie.Need-returns
-unfolding rowOrigin originBody
 returns c =
     let args = c .before .before .before .before .before .before .before .before .before .before .before .before .before .before .before .before .before .before .args in (
-      c .before .before .put-values .ensures
-          ∙ placed-origin (now (args .numbers)) (now (args .sizes)) (now (args .values)) (args .i) _ _ _ _ _ _
+      placed-origin (now (args .numbers)) (now (args .sizes)) (now (args .values)) (args .i) _ _ _ _ _ _ _
           (c .before .before .before .before .before .before .before .before .before .before .before .before .before .byte-at .ensures .0)
           (c .before .before .before .before .before .before .before .byte-at2 .ensures .0)
           (c .before .before .before .before .before .before .before .before .before .before .before .put-head .ensures)
-          (c .before .before .before .before .before .before .put-u16 .ensures),
+          (c .before .before .before .before .before .before .put-u16 .ensures)
+          (c .before .before .put-values .ensures),
       omega arith,
     )
 

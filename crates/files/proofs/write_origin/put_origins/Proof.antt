@@ -1,6 +1,6 @@
 -- The loop's invariant: the records left, placed behind those that stand, make all the records, and so do their bytes.
-use Prim.Native.Nat.{ℕ, _+_, _*_, _-_, _≤_, _<_}
-use mathlib.Core.Path.{_≡_, refl, ap, _∙_}
+use Prim.Native.Nat.{_+_, _≤_}
+use mathlib.Core.Path.{_≡_, refl, _∙_}
 use native.Mathlib.Omega.{arith}
 use lib.ListN.{length, getD}
 use denote.Ref.{now}
@@ -9,7 +9,8 @@ use Rattle.files.specs.Below.{tabulate, tabulateFrom}
 use Rattle.files.specs.Bytes.{placed}
 use Rattle.files.specs.Dense.{rowOrigin}
 use Rattle.files.specs.Lengths.{originsNeeded}
-use Rattle.files.specs.OriginFile.{variableOriginBytes}
+use Rattle.files.specs.OriginFile.{VariableOrigin, originBody, variableOriginBytes}
+use Rattle.files.specs.Records.{recordBytes}
 use Rattle.files.proofs.Writing.{placed-none, placed-next}
 use Rattle.files.proofs.WritingOrigins.{rowOrigin-length, originsNeeded-none, originsNeeded-next}
 use Rattle.files.proofs.write_origin.put_origins.Statement.{statement}
@@ -52,7 +53,7 @@ loop-again c =
     let loop = c .before .before .before .before .before .loop in
     let next = originsNeeded-next (now (args .sizes)) (loop .i) (loop .left) (c .before .before .before .before .loop-test .taken) in
     let written = rowOrigin-length (now (args .numbers)) (now (args .sizes)) (now (args .values)) (loop .i) in (
-      placed-next variableOriginBytes (rowOrigin (now (args .numbers)) (now (args .sizes)) (now (args .values))) (loop .buffer) (loop .place) (loop .i) (loop .left) _ _ _ (c .before .before .before .before .loop-test .taken) refl
+      placed-next variableOriginBytes (rowOrigin (now (args .numbers)) (now (args .sizes)) (now (args .values))) (loop .buffer) (loop .place) (loop .i) (loop .left) (λ (o : VariableOrigin). recordBytes 6 (originBody o)) _ _ (c .before .before .before .before .loop-test .taken) refl
           (c .before .before .put-origin .ensures .0) (omega arith)
           ∙ loop .inv .0,
       omega arith,

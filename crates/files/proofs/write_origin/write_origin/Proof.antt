@@ -52,12 +52,12 @@ returns : tie.Need-returns
 returns c =
     let args = c .before .before .before .before .before .before .before .before .before .before .before .before .before .before .before .before .before .before .before .before .before .args in
     let d = originArrays (args .variables) (args .actions) (now (args .numbers)) (now (args .sizes)) (now (args .values)) (now (args .originals)) in
-    c .before .before .put-sign-off .ensures
-    ∙ placed-origins d (args .signer) _ _ _ _ _
+    placed-origins d (args .signer) _ _ _ _ _ _
     (c .before .before .before .before .before .before .before .before .before .before .before .before .before .before .before .put-origins .ensures .0)
     (c .before .before .before .before .before .before .before .before .before .before .before .before .before .before .before .put-origins .ensures .1)
     (c .before .before .before .before .before .before .before .before .before .before .before .put-head .ensures)
     (c .before .before .before .before .before .before .put-originals .ensures)
+    (c .before .before .put-sign-off .ensures)
     ∙ placed-overwrite (now (args .buffer)) (originFile (heldOrigin d) (args .signer)) (rw (origin-file-length d (args .signer)) (c .before .before .before .before .before .before .before .before .before .before .before .before .before .before .before .before .before .before .before .before .before .pre .3))
 
 pub write-origin-spec : {M : Type 1} → statement M
