@@ -1,17 +1,22 @@
--- Laws about the crate's definitions.
+-- Laws about the crate's definitions: tests and outcomes, bytes that are written, the checks step by step, what an
+-- accepted file holds, files that read back, and the arrays that hold a task.
 pub mod Computes
+pub mod Logic
 pub mod Guards
-pub mod Countdown
-pub mod Placed
-pub mod Steps
-pub mod Writing
 pub mod Done
 pub mod Whole
-pub mod ReadAs
+pub mod Countdown
+pub mod Tabulate
+pub mod Placed
+pub mod Writing
+pub mod WritingTasks
+pub mod WritingOrigins
+pub mod Steps
 pub mod Stands
 pub mod RecordStands
 pub mod Numbers
 pub mod SignOff
+pub mod ReadAs
 pub mod Valid
 pub mod Variables
 pub mod Pairs
@@ -24,8 +29,6 @@ pub mod ValidOrigin
 pub mod Origins
 pub mod OriginRoundTrip
 pub mod PlanRoundTrip
-pub mod Tabulate
 pub mod RowLaws
-pub mod Logic
 pub mod HeldLaws
 pub mod Decoding

@@ -1,1 +1,125 @@
--- Laws of what the writers write, step by step.
+-- Laws of what the writers write: lengths of the parts of files, and one part placed behind another.
+use Prim.Native.Nat.{ℕ, zero, suc, _+_, _*_, _-_, _/_, _%_, _≤_, _<_}
+use mathlib.Core.Path.{_≡_, refl, sym, ap, _∙_}
+use mathlib.Core.List.{List, [], _∷_, _++_}
+use native.Mathlib.Omega.{arith}
+use native.Mathlib.Numerals.{add-one}
+use lib.ListN.{length, getD, set, drop, length-append, drop-of-length-le}
+use lib.Seq.{drop-cons}
+use Rattle.files.specs.Below.{tabulateFrom}
+use Rattle.files.specs.Bytes.{u16Bytes, u32Bytes, placed}
+use Rattle.files.specs.Records.{recordBytes, numberBytes, signed}
+use Rattle.files.specs.PlanFile.{planFile}
+use Rattle.files.proofs.Countdown.{one-more, none-left}
+use Rattle.files.proofs.Placed.{placed-then}
+
+-- lengths
+pub u16Bytes-length : (n : ℕ) → length (u16Bytes n) ≡ 2
+unfolding u16Bytes
+u16Bytes-length n = refl
+
+pub u32Bytes-length : (n : ℕ) → length (u32Bytes n) ≡ 4
+unfolding u32Bytes u16Bytes
+u32Bytes-length n = refl
+
+pub recordBytes-length : (kind : ℕ) (body : List ℕ) → length (recordBytes kind body) ≡ 4 + length body
+unfolding recordBytes u16Bytes
+recordBytes-length kind body = omega arith
+
+pub numberBytes-length : (ns : List ℕ) → length (numberBytes ns) ≡ 2 * length ns
+unfolding numberBytes u16Bytes
+numberBytes-length [] = refl
+numberBytes-length (n ∷ ns) = omega (arith, numberBytes-length ns)
+
+pub signed-length : (signer : ℕ) (records : List ℕ) → length (signed signer records) ≡ length records + 12
+unfolding signed recordBytes u32Bytes u16Bytes
+signed-length signer records = length-append records (recordBytes 5 (u32Bytes signer ++ u32Bytes (length records)))
+
+pub plan-file-length : (plan : List ℕ) (signer : ℕ) → length (planFile plan signer) ≡ 16 + 2 * length plan
+unfolding planFile
+plan-file-length plan signer =
+    omega (arith, signed-length signer (recordBytes 8 (numberBytes plan)), recordBytes-length 8 (numberBytes plan), numberBytes-length plan)
+
+-- what is placed behind a number
+pub placed-u16-then : (b c : List ℕ) (at next n : ℕ) (xs : List ℕ) → c ≡ placed b at (u16Bytes n) → next ≡ at + 2 → placed c next xs ≡ placed b at (u16Bytes n ++ xs)
+placed-u16-then b c at next n xs e f = placed-then b c at next (u16Bytes n) xs e (omega (arith, u16Bytes-length n))
+
+pub placed-u32-then : (b c : List ℕ) (at next n : ℕ) (xs : List ℕ) → c ≡ placed b at (u32Bytes n) → next ≡ at + 4 → placed c next xs ≡ placed b at (u32Bytes n ++ xs)
+placed-u32-then b c at next n xs e f = placed-then b c at next (u32Bytes n) xs e (omega (arith, u32Bytes-length n))
+
+-- the upper two bytes of a number behind its lower two
+pub placed-u32 : (b c : List ℕ) (at n : ℕ)
+    → c ≡ placed b at (u16Bytes n)
+    → set (set c (at + 2) (n / 65536 % 256)) (at + 3) (n / 16777216 % 256) ≡ placed b at (u32Bytes n)
+unfolding placed u32Bytes
+placed-u32 b c at n e =
+    ap (λ (m : ℕ). set (set c (at + 2) (n / 65536 % 256)) m (n / 16777216 % 256)) (omega arith)
+    ∙ placed-u16-then b c at (at + 2) n (n / 65536 % 256 ∷ n / 16777216 % 256 ∷ []) e refl
+
+-- a body behind the head of its record
+pub placed-record : (b head all : List ℕ) (at kind bytes : ℕ) (body : List ℕ)
+    → head ≡ placed b at (u16Bytes bytes ++ u16Bytes kind)
+    → bytes ≡ length body
+    → all ≡ placed head (at + 4) body
+    → all ≡ placed b at (recordBytes kind body)
+unfolding recordBytes u16Bytes
+placed-record b head all at kind bytes body h f e =
+    e
+    ∙ placed-then b head at (at + 4) (u16Bytes bytes ++ u16Bytes kind) body h refl
+    ∙ ap (λ (n : ℕ). placed b at (u16Bytes n ++ u16Bytes kind ++ body)) f
+
+-- the sign-off behind the records
+pub placed-signed : (b c all : List ℕ) (end signer : ℕ) (records : List ℕ)
+    → c ≡ placed b 0 records
+    → end ≡ length records
+    → all ≡ placed c end (recordBytes 5 (u32Bytes signer ++ u32Bytes end))
+    → all ≡ placed b 0 (signed signer records)
+unfolding signed
+placed-signed b c all end signer records h f e =
+    e
+    ∙ placed-then b c 0 end records (recordBytes 5 (u32Bytes signer ++ u32Bytes end)) h (omega arith)
+    ∙ ap (λ (n : ℕ). placed b 0 (records ++ recordBytes 5 (u32Bytes signer ++ u32Bytes n))) f
+
+-- tabulated lists, as a loop that counts down goes through them
+pub tabulateFrom-none : {A : Type 0} (i left : ℕ) (f : ℕ → A) → left ≤ 0 → tabulateFrom i left f ≡ []
+tabulateFrom-none i left f h = ap (λ (n : ℕ). tabulateFrom i n f) (none-left left h)
+
+pub tabulateFrom-next : {A : Type 0} (i left : ℕ) (f : ℕ → A) → 0 < left → tabulateFrom i left f ≡ f i ∷ tabulateFrom (i + 1) (left - 1) f
+tabulateFrom-next i left f h = ap (λ (n : ℕ). tabulateFrom i n f) (one-more left h)
+
+pub tabulateFrom-length : {A : Type 0} (i n : ℕ) (f : ℕ → A) → length (tabulateFrom i n f) ≡ n
+tabulateFrom-length i zero f = refl
+tabulateFrom-length i (suc n) f = ap suc (tabulateFrom-length (i + 1) n f)
+
+-- a loop that writes the entries of a tabulated list: at its end nothing is left to be placed,
+-- and a turn places the bytes of one entry
+module _ {A : Type 0} (bytes : List A → List ℕ) (f : ℕ → A) (b : List ℕ) (at i left : ℕ) where
+  pub placed-none : left ≤ 0 → bytes [] ≡ [] → b ≡ placed b at (bytes (tabulateFrom i left f))
+  unfolding placed
+  placed-none h e = sym (ap (λ (l : List A). placed b at (bytes l)) (tabulateFrom-none i left f h) ∙ ap (placed b at) e)
+
+  pub placed-next : (one : A → List ℕ) (c : List ℕ) (next : ℕ)
+      → 0 < left
+      → bytes (f i ∷ tabulateFrom (i + 1) (left - 1) f) ≡ one (f i) ++ bytes (tabulateFrom (i + 1) (left - 1) f)
+      → c ≡ placed b at (one (f i))
+      → next ≡ at + length (one (f i))
+      → placed c next (bytes (tabulateFrom (i + 1) (left - 1) f)) ≡ placed b at (bytes (tabulateFrom i left f))
+  placed-next one c next h e p q =
+      placed-then b c at next (one (f i)) (bytes (tabulateFrom (i + 1) (left - 1) f)) p q
+      ∙ sym (ap (λ (l : List A). placed b at (bytes l)) (tabulateFrom-next i left f h) ∙ ap (placed b at) e)
+
+-- a loop that writes the entries of a list of numbers, from entry i on
+pub placed-numbers-none : (b : List ℕ) (at : ℕ) (ns : List ℕ) (i : ℕ) → length ns ≤ i → b ≡ placed b at (numberBytes (drop i ns))
+unfolding placed numberBytes
+placed-numbers-none b at ns i h = sym (ap (λ (l : List ℕ). placed b at (numberBytes l)) (drop-of-length-le ns h))
+
+pub placed-numbers-next : (b c : List ℕ) (at next : ℕ) (ns : List ℕ) (i : ℕ)
+    → i < length ns
+    → c ≡ placed b at (u16Bytes (getD ns i 0))
+    → next ≡ at + 2
+    → placed c next (numberBytes (drop (i + 1) ns)) ≡ placed b at (numberBytes (drop i ns))
+unfolding numberBytes
+placed-numbers-next b c at next ns i h e f =
+    placed-u16-then b c at next (getD ns i 0) (numberBytes (drop (i + 1) ns)) e f
+    ∙ ap (λ (n : ℕ). placed b at (u16Bytes (getD ns i 0) ++ numberBytes (drop n ns))) (add-one i)
+    ∙ sym (ap (λ (l : List ℕ). placed b at (numberBytes l)) (drop-cons ns i 0 h))

@@ -1,39 +1,43 @@
+-- The head states 2 bytes for each step, the steps stand behind it, and the sign-off behind them.
+use mathlib.Core.Path.{_∙_}
+use native.Mathlib.Omega.{arith}
+use denote.Ref.{now}
 use borrow.Author.Needs.{needs}
+use Rattle.files.specs.PlanFile.{planFile}
+use Rattle.files.specs.Records.{numberBytes}
+use Rattle.files.proofs.Placed.{placed-overwrite}
+use Rattle.files.proofs.Writing.{placed-record, placed-signed, recordBytes-length, numberBytes-length, plan-file-length}
 use Rattle.files.proofs.plan.write.Statement.{statement}
 use Rattle.files.proofs.plan.write.Tie as tie
-use Rattle.files.proofs.plan.write.Reads as reads
-use Rattle.files.proofs.plan.write.Lts as lts
-use Rattle.files.proofs.plan.put_head.Reads as put-head-reads
-use Rattle.files.proofs.plan.put_steps.Reads as put-steps-reads
-use Rattle.files.proofs.records.put_sign_off.Reads as put-sign-off-reads
 
--- src/plan.rt:91:5
 put-head-requires : tie.Need-put-head-requires
 put-head-requires c κs = search needs
 
--- src/plan.rt:92:5
 put-steps-requires : tie.Need-put-steps-requires
 put-steps-requires c κs = search needs
 
--- src/plan.rt:93:39
 mul-put-sign-off : tie.Need-mul-put-sign-off
 mul-put-sign-off c = search needs
 
--- src/plan.rt:93:35
 add-put-sign-off : tie.Need-add-put-sign-off
 add-put-sign-off c = search needs
 
--- src/plan.rt:93:5
 put-sign-off-requires : tie.Need-put-sign-off-requires
 put-sign-off-requires c κs = search needs
 
--- src/plan.rt:86:1
 same-length : tie.Need-same-length
 same-length c = search needs
 
--- src/plan.rt:86:1
 returns : tie.Need-returns
-returns c = ?
+unfolding planFile
+returns c =
+    let args = c .before .before .before .before .before .before .before .before .before .before .before .before .before .before .args in
+    let plan = now (args .plan) in
+    placed-signed _ _ _ _ _ _
+    (placed-record _ _ _ 0 8 _ (numberBytes plan) (c .before .before .before .before .before .before .before .before .before .before .put-head .ensures) (omega (arith, numberBytes-length plan)) (c .before .before .before .before .before .before .put-steps .ensures))
+    (omega (arith, recordBytes-length 8 (numberBytes plan), numberBytes-length plan))
+    (c .before .before .put-sign-off .ensures)
+    ∙ placed-overwrite (now (args .buffer)) (planFile plan (args .signer)) (omega (arith, plan-file-length plan (args .signer)))
 
 pub write-spec : {M : Type 1} → statement M
 write-spec =

@@ -1,38 +1,35 @@
+-- Behind the head of a body of 8 bytes stand the signer and the count of bytes before it.
+use native.Mathlib.Omega.{arith}
+use mathlib.Core.Path.{refl, _∙_}
 use borrow.Author.Needs.{needs}
+use Rattle.files.specs.Bytes.{u16Bytes, u32Bytes}
+use Rattle.files.proofs.Writing.{placed-u32-then, placed-record}
 use Rattle.files.proofs.records.put_sign_off.Statement.{statement}
 use Rattle.files.proofs.records.put_sign_off.Tie as tie
-use Rattle.files.proofs.records.put_sign_off.Reads as reads
-use Rattle.files.proofs.records.put_sign_off.Lts as lts
-use Rattle.files.proofs.bytes.put_u32.Reads as put-u32-reads
-use Rattle.files.proofs.records.put_head.Reads as put-head-reads
 
--- src/records.rt:211:5
 put-head-requires : tie.Need-put-head-requires
 put-head-requires c κs = search needs
 
--- src/records.rt:212:28
 add-put-u32 : tie.Need-add-put-u32
 add-put-u32 c = search needs
 
--- src/records.rt:212:5
 put-u32-requires : tie.Need-put-u32-requires
 put-u32-requires c κs = search needs
 
--- src/records.rt:213:28
 add-put-u32-2 : tie.Need-add-put-u32-2
 add-put-u32-2 c = search needs
 
--- src/records.rt:213:5
 put-u32-requires-2 : tie.Need-put-u32-requires-2
 put-u32-requires-2 c κs = search needs
 
--- src/records.rt:207:1
 same-length : tie.Need-same-length
 same-length c = search needs
 
--- src/records.rt:207:1
 returns : tie.Need-returns
-returns c = ?
+unfolding u32Bytes u16Bytes
+returns c =
+    placed-record _ _ _ _ _ _ _ (c .before .before .before .before .before .before .before .before .before .before .put-head .ensures) refl
+    (c .before .before .put-u322 .ensures ∙ placed-u32-then _ _ _ _ _ _ (c .before .before .before .before .before .before .put-u32 .ensures) (omega arith))
 
 pub put-sign-off-spec : {M : Type 1} → statement M
 put-sign-off-spec =

@@ -1,50 +1,62 @@
+-- The loop's invariant: the pairs found and those of the entries left are all the pairs.
+use Prim.Native.Nat.{_+_, _≤_}
+use mathlib.Core.Path.{_≡_, ap}
+use mathlib.Core.Logic.{⊎-elim}
+use native.Mathlib.Omega.{arith}
+use lib.ListN.{length}
+use denote.Ref.{now}
+use borrow.Author.Needs.{needs}
+use Rattle.files.specs.Dense.{rowPairs}
+use Rattle.files.proofs.WritingTasks.{rowPairs-none, rowPairs-next, rowPairs-skip}
 use Rattle.files.proofs.write.pairs_in.Statement.{statement}
 use Rattle.files.proofs.write.pairs_in.Tie as tie
-use Rattle.files.proofs.write.pairs_in.Reads as reads
-use Rattle.files.proofs.write.pairs_in.Lts as lts
-use Rattle.files.proofs.bytes.byte_at.Reads as byte-at-reads
 
 abbrev Inv-loop : tie.InvT-loop
-Inv-loop rows base count found₀ v₀ left₀ found v left = ?
+Inv-loop rows base count found₀ v₀ left₀ found v left =
+    (found + length (rowPairs rows base v left) ≡ length (rowPairs rows base 0 count))
+    × (v + left ≡ count)
+    × (found + left ≤ 64)
 
 abbrev μ-loop : tie.MeasureT-loop
-μ-loop rows base count found₀ v₀ left₀ found v left = ?
+μ-loop rows base count found₀ v₀ left₀ found v left = left
 
--- src/write.rt:24:5
 loop-holds : tie.Need-loop-holds Inv-loop μ-loop
-loop-holds c = ?
+loop-holds c = search needs
 
--- src/write.rt:25:42
 add-byte-at : tie.Need-add-byte-at Inv-loop μ-loop
-add-byte-at c = ?
+add-byte-at c = search needs
 
--- src/write.rt:25:13
 byte-at-requires : tie.Need-byte-at-requires Inv-loop μ-loop
-byte-at-requires c κs = ?
+byte-at-requires c κs = search needs
 
--- src/write.rt:27:13
 add-found : tie.Need-add-found Inv-loop μ-loop
-add-found c = ?
+add-found c = search needs
 
--- src/write.rt:29:9
 add-v : tie.Need-add-v Inv-loop μ-loop
-add-v c = ?
+add-v c = search needs
 
--- src/write.rt:30:9
 sub-left : tie.Need-sub-left Inv-loop μ-loop
-sub-left c = ?
+sub-left c = search needs
 
--- src/write.rt:24:5
 loop-less : tie.Need-loop-less Inv-loop μ-loop
-loop-less c = ?
+loop-less c = search needs
 
--- src/write.rt:24:5
 loop-again : tie.Need-loop-again Inv-loop μ-loop
-loop-again c = ?
+loop-again c =
+    let args = c .before .before .before .before .before .args in
+    let loop = c .before .before .before .loop in
+    let more = c .before .before .loop-test .taken in
+    let is = c .before .byte-at .ensures .0 in
+    ⊎-elim
+    (λ w. omega (arith, ap length (rowPairs-next (now (args .rows)) (args .base) (loop .v) (loop .left) _ more is (w .0 .taken))))
+    (λ w. omega (arith, ap length (rowPairs-skip (now (args .rows)) (args .base) (loop .v) (loop .left) _ more is (w .0 .left))))
+    (c .if1 .came)
 
--- src/write.rt:17:1
 returns : tie.Need-returns Inv-loop μ-loop
-returns c = ?
+returns c =
+    let args = c .before .before .before .args in
+    let loop = c .before .loop in
+    omega (arith, ap length (rowPairs-none (now (args .rows)) (args .base) (loop .v) (loop .left) (c .loop-test .left)))
 
 pub pairs-in-spec : {M : Type 1} → statement M
 pairs-in-spec =

@@ -1,47 +1,77 @@
+-- The loop's invariant: the records left, placed behind those that stand, make all the records, and so do their bytes.
+use Prim.Native.Nat.{_+_}
+use mathlib.Core.Path.{_≡_, refl, _∙_}
+use native.Mathlib.Omega.{arith}
+use lib.ListN.{length}
+use denote.Ref.{now}
+use borrow.Author.Needs.{needs}
+use Rattle.files.specs.Below.{tabulate, tabulateFrom}
+use Rattle.files.specs.Bytes.{placed}
+use Rattle.files.specs.Dense.{rowAction}
+use Rattle.files.specs.Lengths.{actionsNeeded}
+use Rattle.files.specs.Records.{recordBytes}
+use Rattle.files.specs.Task.{Action}
+use Rattle.files.specs.TaskFile.{actionBody, actionBytes}
+use Rattle.files.proofs.Writing.{placed-none, placed-next}
+use Rattle.files.proofs.WritingTasks.{rowAction-length, actionsNeeded-none, actionsNeeded-next}
 use Rattle.files.proofs.write.put_actions.Statement.{statement}
 use Rattle.files.proofs.write.put_actions.Tie as tie
-use Rattle.files.proofs.write.put_actions.Reads as reads
-use Rattle.files.proofs.write.put_actions.Lts as lts
-use Rattle.files.proofs.write.put_action.Reads as put-action-reads
 
 abbrev Inv-loop : tie.InvT-loop
 Inv-loop buffer₀ at costs conditions effects variables count place₀ a₀ left₀ buffer place a left =
-    ?
+    (placed buffer place (actionBytes (tabulateFrom a left (rowAction variables costs conditions effects))) ≡ placed buffer₀ at (actionBytes (tabulate count (rowAction variables costs conditions effects))))
+    × (place + actionsNeeded variables conditions effects a left ≡ at + actionsNeeded variables conditions effects 0 count)
+    × (a + left ≡ count)
+    × (length buffer ≡ length buffer₀)
 
 abbrev μ-loop : tie.MeasureT-loop
-μ-loop buffer₀ at costs conditions effects variables count place₀ a₀ left₀ buffer place a left = ?
+μ-loop buffer₀ at costs conditions effects variables count place₀ a₀ left₀ buffer place a left = left
 
--- src/write.rt:204:5
 loop-holds : tie.Need-loop-holds Inv-loop μ-loop
-loop-holds c = ?
+loop-holds c = (refl, refl, omega arith, refl)
 
--- src/write.rt:205:9
 put-action-requires : tie.Need-put-action-requires Inv-loop μ-loop
-put-action-requires c κs = ?
+put-action-requires c κs =
+    let args = c .before .before .before .before .before .before .before .args in
+    let loop = c .before .before .loop in
+    let next = actionsNeeded-next (args .variables) (now (args .conditions)) (now (args .effects)) (loop .a) (loop .left) (c .before .loop-test .taken) in
+    (omega arith, omega arith, omega arith, omega arith, omega arith, omega arith)
 
--- src/write.rt:206:9
 add-a : tie.Need-add-a Inv-loop μ-loop
-add-a c = ?
+add-a c = search needs
 
--- src/write.rt:207:9
 sub-left : tie.Need-sub-left Inv-loop μ-loop
-sub-left c = ?
+sub-left c = search needs
 
--- src/write.rt:204:5
 loop-less : tie.Need-loop-less Inv-loop μ-loop
-loop-less c = ?
+loop-less c = search needs
 
--- src/write.rt:204:5
 loop-again : tie.Need-loop-again Inv-loop μ-loop
-loop-again c = ?
+unfolding actionBytes
+loop-again c =
+    let args = c .before .before .before .before .before .before .before .before .before .before .args in
+    let loop = c .before .before .before .before .before .loop in
+    let next = actionsNeeded-next (args .variables) (now (args .conditions)) (now (args .effects)) (loop .a) (loop .left) (c .before .before .before .before .loop-test .taken) in
+    let written = rowAction-length (args .variables) (now (args .costs)) (now (args .conditions)) (now (args .effects)) (loop .a) in (
+      placed-next actionBytes (rowAction (args .variables) (now (args .costs)) (now (args .conditions)) (now (args .effects))) (loop .buffer) (loop .place) (loop .a) (loop .left) (λ (action : Action). recordBytes 4 (actionBody action)) _ _ (c .before .before .before .before .loop-test .taken) refl
+          (c .before .before .put-action .ensures .0) (omega arith)
+          ∙ loop .inv .0,
+      omega arith,
+      omega arith,
+      omega arith,
+    )
 
--- src/write.rt:189:1
 same-length : tie.Need-same-length Inv-loop μ-loop
-same-length c = ?
+same-length c = c .before .loop .inv .3
 
--- src/write.rt:189:1
 returns : tie.Need-returns Inv-loop μ-loop
-returns c = ?
+unfolding actionBytes
+returns c =
+    let args = c .before .before .before .before .before .before .args in
+    let loop = c .before .loop in (
+      placed-none actionBytes (rowAction (args .variables) (now (args .costs)) (now (args .conditions)) (now (args .effects))) _ _ _ _ (c .loop-test .left) refl ∙ loop .inv .0,
+      omega (arith, actionsNeeded-none (args .variables) (now (args .conditions)) (now (args .effects)) (loop .a) (loop .left) (c .loop-test .left)),
+    )
 
 pub put-actions-spec : {M : Type 1} → statement M
 put-actions-spec =

@@ -1,38 +1,35 @@
+-- Behind the cost stands one count, and the other behind that.
+use mathlib.Core.Path.{refl, _∙_}
 use borrow.Author.Needs.{needs}
+use Rattle.files.specs.Bytes.{u16Bytes, u32Bytes}
+use Rattle.files.proofs.Placed.{placed-then}
+use Rattle.files.proofs.Writing.{placed-u32-then}
 use Rattle.files.proofs.write.put_counts.Statement.{statement}
 use Rattle.files.proofs.write.put_counts.Tie as tie
-use Rattle.files.proofs.write.put_counts.Reads as reads
-use Rattle.files.proofs.write.put_counts.Lts as lts
-use Rattle.files.proofs.bytes.put_u16.Reads as put-u16-reads
-use Rattle.files.proofs.bytes.put_u32.Reads as put-u32-reads
 
--- src/write.rt:160:5
 put-u32-requires : tie.Need-put-u32-requires
 put-u32-requires c κs = search needs
 
--- src/write.rt:161:28
 add-put-u16 : tie.Need-add-put-u16
 add-put-u16 c = search needs
 
--- src/write.rt:161:5
 put-u16-requires : tie.Need-put-u16-requires
 put-u16-requires c κs = search needs
 
--- src/write.rt:162:28
 add-put-u16-2 : tie.Need-add-put-u16-2
 add-put-u16-2 c = search needs
 
--- src/write.rt:162:5
 put-u16-requires-2 : tie.Need-put-u16-requires-2
 put-u16-requires-2 c κs = search needs
 
--- src/write.rt:156:1
 same-length : tie.Need-same-length
 same-length c = search needs
 
--- src/write.rt:156:1
 returns : tie.Need-returns
-returns c = ?
+unfolding u32Bytes u16Bytes
+returns c =
+    c .before .before .put-u162 .ensures
+    ∙ placed-then _ _ _ _ _ _ (c .before .before .before .before .before .before .put-u16 .ensures ∙ placed-u32-then _ _ _ _ _ _ (c .before .before .before .before .before .before .before .before .before .before .put-u32 .ensures) refl) refl
 
 pub put-counts-spec : {M : Type 1} → statement M
 put-counts-spec =

@@ -1,29 +1,24 @@
+-- The value stands behind the variable.
+use mathlib.Core.Path.{refl, _∙_}
 use borrow.Author.Needs.{needs}
+use Rattle.files.proofs.Writing.{placed-u16-then}
 use Rattle.files.proofs.write.put_pair.Statement.{statement}
 use Rattle.files.proofs.write.put_pair.Tie as tie
-use Rattle.files.proofs.write.put_pair.Reads as reads
-use Rattle.files.proofs.write.put_pair.Lts as lts
-use Rattle.files.proofs.bytes.put_u16.Reads as put-u16-reads
 
--- src/write.rt:39:5
 put-u16-requires : tie.Need-put-u16-requires
 put-u16-requires c κs = search needs
 
--- src/write.rt:40:28
 add-put-u16 : tie.Need-add-put-u16
 add-put-u16 c = search needs
 
--- src/write.rt:40:5
 put-u16-requires-2 : tie.Need-put-u16-requires-2
 put-u16-requires-2 c κs = search needs
 
--- src/write.rt:35:1
 same-length : tie.Need-same-length
 same-length c = search needs
 
--- src/write.rt:35:1
 returns : tie.Need-returns
-returns c = ?
+returns c = c .before .before .put-u162 .ensures ∙ placed-u16-then _ _ _ _ _ _ (c .before .before .before .before .before .before .put-u16 .ensures) refl
 
 pub put-pair-spec : {M : Type 1} → statement M
 put-pair-spec =

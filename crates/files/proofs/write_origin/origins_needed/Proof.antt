@@ -1,54 +1,56 @@
+-- The loop's invariant: the bytes counted and those of the origins left are all the bytes.
+use Prim.Native.Nat.{_+_, _*_, _≤_}
+use mathlib.Core.Path.{_≡_}
+use native.Mathlib.Omega.{arith}
+use denote.Ref.{now}
+use borrow.Author.Needs.{needs}
+use Rattle.files.specs.Lengths.{originsNeeded}
+use Rattle.files.proofs.WritingOrigins.{originsNeeded-none, originsNeeded-next}
 use Rattle.files.proofs.write_origin.origins_needed.Statement.{statement}
 use Rattle.files.proofs.write_origin.origins_needed.Tie as tie
-use Rattle.files.proofs.write_origin.origins_needed.Reads as reads
-use Rattle.files.proofs.write_origin.origins_needed.Lts as lts
-use Rattle.files.proofs.bytes.byte_at.Reads as byte-at-reads
 
 abbrev Inv-loop : tie.InvT-loop
-Inv-loop sizes count bytes₀ i₀ left₀ bytes i left = ?
+Inv-loop sizes count bytes₀ i₀ left₀ bytes i left =
+    (bytes + originsNeeded sizes i left ≡ originsNeeded sizes 0 count)
+    × (i + left ≡ count)
+    × (bytes + 520 * left ≤ 520 * count)
 
 abbrev μ-loop : tie.MeasureT-loop
-μ-loop sizes count bytes₀ i₀ left₀ bytes i left = ?
+μ-loop sizes count bytes₀ i₀ left₀ bytes i left = left
 
--- src/write_origin.rt:23:5
 loop-holds : tie.Need-loop-holds Inv-loop μ-loop
-loop-holds c = ?
+loop-holds c = search needs
 
--- src/write_origin.rt:24:26
 byte-at-requires : tie.Need-byte-at-requires Inv-loop μ-loop
-byte-at-requires c κs = ?
+byte-at-requires c κs = search needs
 
--- src/write_origin.rt:24:22
 mul-bytes : tie.Need-mul-bytes Inv-loop μ-loop
-mul-bytes c = ?
+mul-bytes c = search needs
 
--- src/write_origin.rt:24:18
 add-bytes : tie.Need-add-bytes Inv-loop μ-loop
-add-bytes c = ?
+add-bytes c = search needs
 
--- src/write_origin.rt:24:9
 add-bytes-2 : tie.Need-add-bytes-2 Inv-loop μ-loop
-add-bytes-2 c = ?
+add-bytes-2 c = search needs
 
--- src/write_origin.rt:25:9
 add-i : tie.Need-add-i Inv-loop μ-loop
-add-i c = ?
+add-i c = search needs
 
--- src/write_origin.rt:26:9
 sub-left : tie.Need-sub-left Inv-loop μ-loop
-sub-left c = ?
+sub-left c = search needs
 
--- src/write_origin.rt:23:5
 loop-less : tie.Need-loop-less Inv-loop μ-loop
-loop-less c = ?
+loop-less c = search needs
 
--- src/write_origin.rt:23:5
 loop-again : tie.Need-loop-again Inv-loop μ-loop
-loop-again c = ?
+loop-again c =
+    let loop = c .before .before .loop in
+    omega (arith, originsNeeded-next (now (c .before .before .before .before .args .sizes)) (loop .i) (loop .left) (c .before .loop-test .taken))
 
--- src/write_origin.rt:16:1
 returns : tie.Need-returns Inv-loop μ-loop
-returns c = ?
+returns c =
+    let loop = c .before .loop in
+    omega (arith, originsNeeded-none (now (c .before .before .before .args .sizes)) (loop .i) (loop .left) (c .loop-test .left))
 
 pub origins-needed-spec : {M : Type 1} → statement M
 origins-needed-spec =

@@ -1,62 +1,78 @@
+-- The loop's invariant: the numbers left, placed behind those that stand, make all the numbers.
+use Prim.Native.Nat.{ℕ, _+_, _*_}
+use mathlib.Core.Path.{_≡_, refl, _∙_}
+use native.Mathlib.Nat.{zero-add}
+use native.Mathlib.Omega.{arith}
+use lib.ListN.{length, getD}
+use denote.Ref.{now}
+use borrow.Author.Needs.{needs}
+use Rattle.files.specs.Below.{tabulateFrom}
+use Rattle.files.specs.Bytes.{placed, u16Bytes}
+use Rattle.files.specs.Dense.{rowNumbers}
+use Rattle.files.specs.Records.{numberBytes}
+use Rattle.files.proofs.Writing.{placed-none, placed-next}
 use Rattle.files.proofs.write_origin.put_originals.Statement.{statement}
 use Rattle.files.proofs.write_origin.put_originals.Tie as tie
-use Rattle.files.proofs.write_origin.put_originals.Reads as reads
-use Rattle.files.proofs.write_origin.put_originals.Lts as lts
-use Rattle.files.proofs.bytes.put_u16.Reads as put-u16-reads
 
 abbrev Inv-loop : tie.InvT-loop
-Inv-loop buffer₀ at originals count place₀ i₀ left₀ buffer place i left = ?
+Inv-loop buffer₀ at originals count place₀ i₀ left₀ buffer place i left =
+    (placed buffer place (numberBytes (tabulateFrom i left (λ (j : ℕ). getD originals (0 + j) 0))) ≡ placed buffer₀ at (numberBytes (rowNumbers originals 0 count)))
+    × (place + 2 * left ≡ at + 2 * count)
+    × (i + left ≡ count)
+    × (length buffer ≡ length buffer₀)
 
 abbrev μ-loop : tie.MeasureT-loop
-μ-loop buffer₀ at originals count place₀ i₀ left₀ buffer place i left = ?
+μ-loop buffer₀ at originals count place₀ i₀ left₀ buffer place i left = left
 
--- src/write_origin.rt:104:5
 loop-holds : tie.Need-loop-holds Inv-loop μ-loop
-loop-holds c = ?
+unfolding rowNumbers
+loop-holds c = (refl, refl, omega arith, refl)
 
--- src/write_origin.rt:105:39
 mul-put-u16 : tie.Need-mul-put-u16 Inv-loop μ-loop
-mul-put-u16 c = ?
+mul-put-u16 c = search needs
 
--- src/write_origin.rt:105:39
 shared-slice-read-put-u16 : tie.Need-shared-slice-read-put-u16 Inv-loop μ-loop
-shared-slice-read-put-u16 c = ?
+shared-slice-read-put-u16 c = search needs
 
--- src/write_origin.rt:105:39
 cast-put-u16 : tie.Need-cast-put-u16 Inv-loop μ-loop
-cast-put-u16 c = ?
+cast-put-u16 c = omega (arith, c .shared-slice-known2 .given (c .before .before .before .loop .i))
 
--- src/write_origin.rt:105:9
 put-u16-requires : tie.Need-put-u16-requires Inv-loop μ-loop
-put-u16-requires c κs = ?
+put-u16-requires c κs = search needs
 
--- src/write_origin.rt:106:9
 add-place : tie.Need-add-place Inv-loop μ-loop
-add-place c = ?
+add-place c = search needs
 
--- src/write_origin.rt:107:9
 add-i : tie.Need-add-i Inv-loop μ-loop
-add-i c = ?
+add-i c = search needs
 
--- src/write_origin.rt:108:9
 sub-left : tie.Need-sub-left Inv-loop μ-loop
-sub-left c = ?
+sub-left c = search needs
 
--- src/write_origin.rt:104:5
 loop-less : tie.Need-loop-less Inv-loop μ-loop
-loop-less c = ?
+loop-less c = search needs
 
--- src/write_origin.rt:104:5
 loop-again : tie.Need-loop-again Inv-loop μ-loop
-loop-again c = ?
+unfolding numberBytes u16Bytes
+loop-again c =
+    let args = c .before .before .before .before .before .before .before .before .before .args in
+    let loop = c .before .before .before .before .before .before .loop in (
+      placed-next numberBytes (λ (j : ℕ). getD (now (args .originals)) (0 + j) 0) (loop .buffer) (loop .place) (loop .i) (loop .left) u16Bytes _ _ (c .before .before .before .before .before .loop-test .taken) refl
+          (cc (zero-add (loop .i))) refl
+          ∙ loop .inv .0,
+      omega arith,
+      omega arith,
+      omega arith,
+    )
 
--- src/write_origin.rt:97:1
 same-length : tie.Need-same-length Inv-loop μ-loop
-same-length c = ?
+same-length c = c .before .loop .inv .3
 
--- src/write_origin.rt:97:1
 returns : tie.Need-returns Inv-loop μ-loop
-returns c = ?
+unfolding numberBytes
+returns c =
+    let args = c .before .before .before .before .args in
+    placed-none numberBytes (λ (j : ℕ). getD (now (args .originals)) (0 + j) 0) _ _ _ _ (c .loop-test .left) refl ∙ c .before .loop .inv .0
 
 pub put-originals-spec : {M : Type 1} → statement M
 put-originals-spec =

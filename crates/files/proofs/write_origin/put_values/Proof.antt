@@ -1,59 +1,74 @@
+-- The loop's invariant: the numbers left, placed behind those that stand, make all the numbers.
+use Prim.Native.Nat.{ℕ, _+_, _*_}
+use mathlib.Core.Path.{_≡_, refl, _∙_}
+use native.Mathlib.Omega.{arith}
+use lib.ListN.{length, getD}
+use denote.Ref.{now}
+use borrow.Author.Needs.{needs}
+use Rattle.files.specs.Below.{tabulateFrom}
+use Rattle.files.specs.Bytes.{placed, u16Bytes}
+use Rattle.files.specs.Dense.{rowNumbers}
+use Rattle.files.specs.Records.{numberBytes}
+use Rattle.files.proofs.Writing.{placed-none, placed-next}
 use Rattle.files.proofs.write_origin.put_values.Statement.{statement}
 use Rattle.files.proofs.write_origin.put_values.Tie as tie
-use Rattle.files.proofs.write_origin.put_values.Reads as reads
-use Rattle.files.proofs.write_origin.put_values.Lts as lts
-use Rattle.files.proofs.bytes.byte_at.Reads as byte-at-reads
-use Rattle.files.proofs.bytes.put_u16.Reads as put-u16-reads
 
 abbrev Inv-loop : tie.InvT-loop
-Inv-loop buffer₀ at values base count place₀ i₀ left₀ buffer place i left = ?
+Inv-loop buffer₀ at values base count place₀ i₀ left₀ buffer place i left =
+    (placed buffer place (numberBytes (tabulateFrom i left (λ (j : ℕ). getD values (base + j) 0))) ≡ placed buffer₀ at (numberBytes (rowNumbers values base count)))
+    × (place + 2 * left ≡ at + 2 * count)
+    × (i + left ≡ count)
+    × (length buffer ≡ length buffer₀)
 
 abbrev μ-loop : tie.MeasureT-loop
-μ-loop buffer₀ at values base count place₀ i₀ left₀ buffer place i left = ?
+μ-loop buffer₀ at values base count place₀ i₀ left₀ buffer place i left = left
 
--- src/write_origin.rt:47:5
 loop-holds : tie.Need-loop-holds Inv-loop μ-loop
-loop-holds c = ?
+unfolding rowNumbers
+loop-holds c = (refl, refl, omega arith, refl)
 
--- src/write_origin.rt:48:62
 add-byte-at : tie.Need-add-byte-at Inv-loop μ-loop
-add-byte-at c = ?
+add-byte-at c = search needs
 
--- src/write_origin.rt:48:39
 byte-at-requires : tie.Need-byte-at-requires Inv-loop μ-loop
-byte-at-requires c κs = ?
+byte-at-requires c κs = search needs
 
--- src/write_origin.rt:48:9
 put-u16-requires : tie.Need-put-u16-requires Inv-loop μ-loop
-put-u16-requires c κs = ?
+put-u16-requires c κs = search needs
 
--- src/write_origin.rt:49:9
 add-place : tie.Need-add-place Inv-loop μ-loop
-add-place c = ?
+add-place c = search needs
 
--- src/write_origin.rt:50:9
 add-i : tie.Need-add-i Inv-loop μ-loop
-add-i c = ?
+add-i c = search needs
 
--- src/write_origin.rt:51:9
 sub-left : tie.Need-sub-left Inv-loop μ-loop
-sub-left c = ?
+sub-left c = search needs
 
--- src/write_origin.rt:47:5
 loop-less : tie.Need-loop-less Inv-loop μ-loop
-loop-less c = ?
+loop-less c = search needs
 
--- src/write_origin.rt:47:5
 loop-again : tie.Need-loop-again Inv-loop μ-loop
-loop-again c = ?
+unfolding numberBytes u16Bytes
+loop-again c =
+    let args = c .before .before .before .before .before .before .before .before .before .args in
+    let loop = c .before .before .before .before .before .before .loop in (
+      placed-next numberBytes (λ (j : ℕ). getD (now (args .values)) (args .base + j) 0) (loop .buffer) (loop .place) (loop .i) (loop .left) u16Bytes _ _ (c .before .before .before .before .before .loop-test .taken) refl
+          (cc) refl
+          ∙ loop .inv .0,
+      omega arith,
+      omega arith,
+      omega arith,
+    )
 
--- src/write_origin.rt:40:1
 same-length : tie.Need-same-length Inv-loop μ-loop
-same-length c = ?
+same-length c = c .before .loop .inv .3
 
--- src/write_origin.rt:40:1
 returns : tie.Need-returns Inv-loop μ-loop
-returns c = ?
+unfolding numberBytes
+returns c =
+    let args = c .before .before .before .before .args in
+    placed-none numberBytes (λ (j : ℕ). getD (now (args .values)) (args .base + j) 0) _ _ _ _ (c .loop-test .left) refl ∙ c .before .loop .inv .0
 
 pub put-values-spec : {M : Type 1} → statement M
 put-values-spec =
