@@ -1,5 +1,5 @@
 -- The arrays that the decoder fills hold the task that it read, where that task is accepted.
-use Prim.Native.Nat.{ℕ, zero, suc, _+_, _*_, _%_, _≤_, _<_}
+use Prim.Native.Nat.{ℕ, zero, suc, _+_, _*_, _/_, _%_, _≤_, _<_}
 use mathlib.Core.Path.{_≡_, refl, sym, ap, ap₂, _∙_}
 use mathlib.Core.Bool.{true}
 use mathlib.Core.List.{List, [], _∷_, map}
@@ -8,11 +8,16 @@ use lib.ListN.{length, getD, length-map, List·getD-map}
 use Rattle.files.specs.Below.{tabulate}
 use Rattle.files.specs.Bytes.{placed}
 use Rattle.files.specs.Task.{Pair, Variable, Action, Task, pair, variable, action, variableCount, actionCount, variableOf, actionOf, sizeOf}
+use Rattle.files.specs.Records.{bodyLength}
+use Rattle.files.specs.TaskFile.{variablesIn, actionsIn, goalPlace, actionsPlace, checkTask, pairsFrom, variablesFrom, actionsFrom, taskOf}
 use Rattle.files.specs.Accepted.{validPairs}
+use Rattle.files.specs.declared.Outcome.{Outcome}
 use Rattle.files.specs.Dense.{rowPairs, rowVariable, rowAction, held, arrays}
 use Rattle.files.specs.Rows.{cleared, filled, filledRows, sizeEntries, startEntries, costEntries, conditionLists, effectLists}
 use Rattle.files.proofs.Done.{facts}
-use Rattle.files.proofs.Valid.{Valid}
+use Rattle.files.proofs.Valid.{Valid, task-valid}
+use Rattle.files.proofs.Stands.{Octets}
+use Rattle.files.proofs.TaskChecked.{variable-count, action-count, task-accepted}
 use Rattle.files.proofs.Placed.{placed-in}
 use Rattle.files.proofs.Tabulate.{tabulate-is}
 use Rattle.files.proofs.RowLaws.{Ordered, entryOf, row-entry, rows-entry, rowPairs-is}
@@ -96,3 +101,46 @@ module _ (t : Task) (ok : Valid t) where
       let ps = held-goal goal c in
       let acts = held-actions costs conditions effects d e f in
       λ i. record { variables = vs i; goal = ps i; actions = acts i }
+
+-- the same of a file whose check is done, in the decoder's own numbers
+module _ (f : List ℕ) (octets : Octets f) (passes : checkTask f .number ≡ 0) where
+  valid : Valid (taskOf f)
+  valid = task-valid (taskOf f) (task-accepted f octets passes)
+
+  pub variables-in-few : variablesIn f ≤ 64
+  variables-in-few = omega (arith, valid .variables-few, variable-count f)
+
+  pub actions-in-few : actionsIn f ≤ 512
+  actions-in-few = omega (arith, valid .actions-few, action-count f)
+
+  pub held-file : (variables actions goalAt at length′ : ℕ) (sizes₀ sizes starts₀ starts goal₀ blank goal costs₀ costs conditions₀ conditions effects₀ effects : List ℕ)
+      → variables ≡ variablesIn f → actions ≡ actionsIn f → goalAt ≡ goalPlace f → at ≡ actionsPlace f → length′ ≡ bodyLength f goalAt
+      → 64 ≤ length sizes₀ → 64 ≤ length starts₀ → 64 ≤ length goal₀ → 512 ≤ length costs₀ → 32768 ≤ length conditions₀ → 32768 ≤ length effects₀
+      → sizes ≡ placed sizes₀ 0 (sizeEntries (variablesFrom f 8 variables))
+      → starts ≡ placed starts₀ 0 (startEntries (variablesFrom f 8 variables))
+      → blank ≡ cleared goal₀ 0 64
+      → goal ≡ filled blank 0 (pairsFrom f (goalAt + 4) (length′ / 4))
+      → costs ≡ placed costs₀ 0 (costEntries (actionsFrom f at actions))
+      → conditions ≡ filledRows conditions₀ 0 (conditionLists (actionsFrom f at actions))
+      → effects ≡ filledRows effects₀ 0 (effectLists (actionsFrom f at actions))
+      → held (arrays (variablesIn f) (actionsIn f) sizes starts goal costs conditions effects) ≡ taskOf f
+  unfolding taskOf
+  held-file variables actions goalAt at length′ sizes₀ sizes starts₀ starts goal₀ blank goal costs₀ costs conditions₀ conditions effects₀ effects ev ea eg et el ls lt lg lc lo le es er eb eo ec ed ef =
+      let t : Task = taskOf f in
+      let listed : List Action = actionsFrom f (actionsPlace f) (actionsIn f) in
+      let read : actionsFrom f at actions ≡ listed = ap₂ (actionsFrom f) et ea in
+      let known : variablesFrom f 8 variables ≡ variablesFrom f 8 (variablesIn f) = ap (variablesFrom f 8) ev in
+      let size : sizes ≡ placed sizes₀ 0 (sizeEntries (t .variables)) = es ∙ ap (λ (l : List Variable). placed sizes₀ 0 (sizeEntries l)) known in
+      let start : starts ≡ placed starts₀ 0 (startEntries (t .variables)) = er ∙ ap (λ (l : List Variable). placed starts₀ 0 (startEntries l)) known in
+      let count : length′ ≡ bodyLength f (goalPlace f) = el ∙ ap (bodyLength f) eg in
+      let aim : goal ≡ filled (cleared goal₀ 0 64) 0 (t .goal) =
+      eo ∙ ap (λ (l : List ℕ). filled l 0 (pairsFrom f (goalAt + 4) (length′ / 4))) eb
+      ∙ ap₂ (λ (p n : ℕ). filled (cleared goal₀ 0 64) 0 (pairsFrom f (p + 4) (n / 4))) eg count in
+      let cost : costs ≡ placed costs₀ 0 (costEntries (t .actions)) = ec ∙ ap (λ (l : List Action). placed costs₀ 0 (costEntries l)) read in
+      let asked : conditions ≡ filledRows conditions₀ 0 (conditionLists (t .actions)) = ed ∙ ap (λ (l : List Action). filledRows conditions₀ 0 (conditionLists l)) read in
+      let set : effects ≡ filledRows effects₀ 0 (effectLists (t .actions)) = ef ∙ ap (λ (l : List Action). filledRows effects₀ 0 (effectLists l)) read in
+      let vc : variablesIn f ≡ variableCount t = sym (variable-count f) in
+      let ac : actionsIn f ≡ actionCount t = sym (action-count f) in
+      let few : actionCount t ≤ 512 = valid .actions-few in
+      (λ i. held (arrays (vc i) (ac i) (size i) (start i) (aim i) (cost i) (asked i) (set i)))
+      ∙ held-task t valid sizes₀ starts₀ goal₀ costs₀ conditions₀ effects₀ ls lt lg (omega arith) (omega arith) (omega arith)
