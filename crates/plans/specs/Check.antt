@@ -30,7 +30,13 @@ planOutcome task plan =
 unfoldable pub withTotal : Outcome → Total → Checked
 withTotal o total = record { outcome = o; cost = record { 0 = total .minutes }; steps = record { 0 = total .steps } }
 
+-- the total of the list beside an outcome that is done
+unfoldable pub answer : Outcome → Task → List ℕ → Checked
+answer o t plan = withTotal o (cond (isDone o) (totalOf t plan) noSteps)
+
+-- a list against a task
+unfoldable pub walkAnswer : Task → List ℕ → Checked
+walkAnswer t plan = answer (takeSteps t (startState t) 0 plan) t plan
+
 unfoldable pub checkPlan : List ℕ → List ℕ → Checked
-checkPlan task plan =
-    let o = planOutcome task plan in
-    withTotal o (cond (isDone o) (totalOf (taskOf task) (planOf plan)) noSteps)
+checkPlan task plan = answer (planOutcome task plan) (taskOf task) (planOf plan)

@@ -2,3 +2,4 @@
 pub mod State
 pub mod Plan
 pub mod Check
+pub mod Tally

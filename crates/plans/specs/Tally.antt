@@ -1,0 +1,41 @@
+-- The tally of a plan: the state reached, minutes and steps; and an action as the tally takes it.
+use Prim.Native.Nat.{ℕ}
+use mathlib.Core.Bool.{cond}
+use mathlib.Core.List.{List}
+use lib.Dec.{eqb}
+use lib.ListN.{getD}
+use Rattle.files.specs.Outcome.{done, isDone, guard}
+use Rattle.files.specs.Task.{Pair, Action, action}
+use Rattle.files.specs.Dense.{rowPairs}
+use Rattle.plans.specs.State.{State, allHold}
+use Rattle.plans.specs.Plan.{Total, noSteps}
+use Rattle.plans.specs.Check.{withTotal}
+use Rattle.plans.specs.declared.Minutes.{Minutes}
+use Rattle.plans.specs.declared.Steps.{Steps}
+use Rattle.plans.specs.declared.Checked.{Checked}
+use Rattle.plans.specs.declared.tally.Row.{Row}
+use Rattle.plans.specs.declared.tally.Tally.{Tally}
+
+-- a list of values as a state
+unfoldable pub listState : List ℕ → State
+listState values v = getD values v 0
+
+-- the value that an effect's entry leaves: 255 is no effect
+unfoldable pub afterEntry : ℕ → ℕ → ℕ
+afterEntry effect value = cond (eqb effect 255) value effect
+
+-- the action that an action's row stands for
+unfoldable pub rowOf : Row → Action
+rowOf a = action (a .cost .0) (rowPairs (a .conditions) 0 0 64) (rowPairs (a .effects) 0 0 64)
+
+unfoldable pub stateOf : Tally → State
+stateOf tally = listState (tally .state)
+
+unfoldable pub totalIn : Tally → Total
+totalIn tally = record { minutes = tally .minutes .0; steps = tally .steps .0 }
+
+-- the answer after the last step, from a tally
+unfoldable pub endAnswer : Tally → List Pair → ℕ → Checked
+endAnswer tally goal steps =
+    let o = guard (allHold goal (stateOf tally)) 23 steps done in
+    withTotal o (cond (isDone o) (totalIn tally) noSteps)

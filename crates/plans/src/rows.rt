@@ -1,0 +1,73 @@
+// States and rows of values: whether a row's conditions hold, and the state after its effects.
+ghost use mathlib.Core.Path.{_≡_};
+ghost use mathlib.Core.Option.{Option·getD};
+ghost use Prim.Native.Nat.{ℕ, _+_, _<_, _≤_};
+ghost use lib.ListN.{length, getD};
+ghost use Rattle.files.specs.Dense.{rowPairs};
+ghost use Rattle.files.specs.Task.{valueIn};
+ghost use Rattle.plans.specs.State.{allHold};
+ghost use Rattle.plans.specs.Tally.{listState, afterEntry};
+
+// The first `count` entries of the row at `base`; no pair for the other variables.
+pub fn row_at(rows: &[u8], base: usize, count: usize) -> [u8; 64]
+    requires { ⌜ (base + count ≤ length (now rows)) × (count ≤ 64) ⌝ }
+    ensures { λ r. ⌜ rowPairs r 0 0 64 ≡ rowPairs (now (rows .entry)) base 0 count ⌝ }
+{
+    let mut row = [255u8; 64];
+    let mut v: usize = 0;
+    while v < count {
+        row[v] = rows[base + v];
+        v += 1;
+    }
+    row
+}
+
+// The first `count` values; 0 for the other variables.
+pub fn state_of(values: &[u8; 64], count: usize) -> [u8; 64]
+    requires { ⌜ count ≤ 64 ⌝ }
+    ensures { λ r. ⌜ ((v : ℕ) → v < count → getD r v 0 ≡ getD (now (values .entry)) v 0) × ((v : ℕ) → count ≤ v → getD r v 0 ≡ 0) ⌝ }
+{
+    let mut state = [0u8; 64];
+    let mut v: usize = 0;
+    while v < count {
+        state[v] = values[v];
+        v += 1;
+    }
+    state
+}
+
+// Whether all conditions of a row hold in a state.
+pub fn all_hold(row: [u8; 64], state: [u8; 64]) -> bool
+    ensures { λ r. ⌜ r ≡ allHold (rowPairs row 0 0 64) (listState state) ⌝ }
+{
+    let mut v: usize = 0;
+    let mut left: usize = 64;
+    while 0 < left {
+        if row[v] != 255 && row[v] != state[v] {
+            return false;
+        }
+        v += 1;
+        left -= 1;
+    }
+    true
+}
+
+// The state after the effects of a row.
+pub fn applied(row: [u8; 64], state: [u8; 64]) -> [u8; 64]
+    ensures { λ r. ⌜ ((v : ℕ) → getD r v 0 ≡ Option·getD (valueIn (rowPairs row 0 0 64) v) (getD state v 0)) ⌝ }
+{
+    let mut next = state;
+    let mut v: usize = 0;
+    while v < 64 {
+        next[v] = entry_after(row[v], next[v]);
+        v += 1;
+    }
+    next
+}
+
+// The value after an effect entry.
+fn entry_after(effect: u8, value: u8) -> u8
+    ensures { λ r. ⌜ r ≡ afterEntry effect value ⌝ }
+{
+    if effect == 255 { value } else { effect }
+}

@@ -1,0 +1,97 @@
+// The plan checker's walk over the steps of a plan file.
+ghost use mathlib.Core.Path.{_≡_};
+ghost use Prim.Native.Nat.{ℕ, _<_, _≤_};
+ghost use lib.ListN.{length};
+ghost use mathlib.Core.List.{List};
+ghost use Rattle.files.specs.Dense.{held, arrays, rowAction, rowPairs};
+ghost use Rattle.files.specs.PlanFile.{planOf};
+ghost use Rattle.plans.specs.Check.{withTotal, walkAnswer};
+ghost use Rattle.plans.specs.Plan.{noSteps, stepOf};
+ghost use Rattle.plans.specs.Tally.{rowOf, endAnswer};
+use crate::Checked;
+use crate::Minutes;
+use crate::Steps;
+use crate::rows;
+use crate::tally::Row;
+use crate::tally::Tally;
+use files::outcomes;
+
+// A refusal has no cost and no steps.
+pub fn refused(outcome: files::Outcome) -> Checked
+    ensures { λ r. ⌜ r ≡ withTotal outcome noSteps ⌝ }
+{
+    Checked {
+        outcome: outcome,
+        cost: Minutes(0),
+        steps: Steps(0),
+    }
+}
+
+// The row of action `a`.
+fn action_at(
+    a: usize,
+    variables: usize,
+    costs: &[u32; 512],
+    conditions: &[u8; 32768],
+    effects: &[u8; 32768],
+) -> Row
+    requires { ⌜ (a < 512) × (variables ≤ 64) ⌝ }
+    ensures { λ r. ⌜ (rowOf r ≡ rowAction variables (now (costs .entry)) (now (conditions .entry)) (now (effects .entry)) a) × (r .cost .0 < 4294967296) ⌝ }
+{
+    let base = 64 * a;
+    let asked = rows::row_at(conditions, base, variables);
+    let set = rows::row_at(effects, base, variables);
+    Row {
+        cost: Minutes(costs[a] as u64),
+        conditions: asked,
+        effects: set,
+    }
+}
+
+// The answer after the last step: the goal is tested.
+fn ended(tally: Tally, goal: [u8; 64], steps: usize) -> Checked
+    ensures { λ r. ⌜ r ≡ endAnswer tally (rowPairs goal 0 0 64) steps ⌝ }
+{
+    let state = tally.state;
+    if !rows::all_hold(goal, state) {
+        return refused(outcomes::refuse(23, steps));
+    }
+    let done = outcomes::done();
+    let minutes = tally.minutes;
+    let taken = tally.steps;
+    Checked {
+        outcome: done,
+        cost: minutes,
+        steps: taken,
+    }
+}
+
+// The steps in turn from the start, then the goal. The domain sizes of the variables are not asked.
+pub fn take_steps(
+    plan: &[u8],
+    variables: usize,
+    actions: usize,
+    starts: &[u8; 64],
+    goal: &[u8; 64],
+    costs: &[u32; 512],
+    conditions: &[u8; 32768],
+    effects: &[u8; 32768],
+) -> Checked
+    requires { ⌜ (variables ≤ 64) × (actions ≤ 512) × (length (planOf (now plan)) ≤ 4096) × ((i : ℕ) → i < length (planOf (now plan)) → stepOf (planOf (now plan)) i < actions) ⌝ }
+    ensures { λ r. ⌜ ((sizes : List ℕ) → r ≡ walkAnswer (held (arrays variables actions sizes (now (starts .entry)) (now (goal .entry)) (now (costs .entry)) (now (conditions .entry)) (now (effects .entry)))) (planOf (now (plan .entry)))) ⌝ }
+{
+    let count = files::plan::steps(plan);
+    let aim = rows::row_at(goal, 0, variables);
+    let mut tally = Tally::start(rows::state_of(starts, variables));
+    let mut i: usize = 0;
+    while i < count {
+        let a = files::plan::step(plan, i);
+        let action = action_at(a, variables, costs, conditions, effects);
+        if !tally.meets(action) {
+            return refused(outcomes::refuse(22, i));
+        }
+        tally = tally.step(action);
+        i += 1;
+    }
+    ended(tally, aim, count)
+}
