@@ -11,13 +11,14 @@ use Rattle.files.specs.Lengths.{originsNeeded, originNeeded}
 use Rattle.files.specs.OriginFile.{originBody, variableOriginBytes, originFile}
 use Rattle.files.specs.Records.{recordBytes, numberBytes}
 use Rattle.files.proofs.Countdown.{one-more, none-left}
+use Rattle.files.proofs.Tabulate.{tabulateFrom-length}
 use Rattle.files.proofs.Placed.{placed-then}
-use Rattle.files.proofs.Writing.{u16Bytes-length, recordBytes-length, numberBytes-length, signed-length, placed-u16-then, placed-record, placed-signed, tabulateFrom-length}
+use Rattle.files.proofs.Writing.{u16Bytes-length, recordBytes-length, numberBytes-length, signed-length, placed-u16-then, placed-record, placed-signed}
 
 -- lengths
 pub rowNumbers-length : (row : List ℕ) (base count : ℕ) → length (rowNumbers row base count) ≡ count
 unfolding rowNumbers
-rowNumbers-length row base count = tabulateFrom-length 0 count (λ (i : ℕ). getD row (base + i) 0)
+rowNumbers-length row base count = tabulateFrom-length (λ (i : ℕ). getD row (base + i) 0) 0 count
 
 pub rowOrigin-length : (numbers sizes values : List ℕ) (i : ℕ) → length (recordBytes 6 (originBody (rowOrigin numbers sizes values i))) ≡ 6 + 2 * getD sizes i 0
 unfolding rowOrigin originBody

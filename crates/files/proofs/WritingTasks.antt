@@ -13,8 +13,9 @@ use Rattle.files.specs.Records.{recordBytes}
 use Rattle.files.specs.Task.{Pair, Variable, Action, Task, pair, variableCount, actionCount}
 use Rattle.files.specs.TaskFile.{pairBytes, variableBytes, actionBody, actionBytes, taskRecords, taskFile}
 use Rattle.files.proofs.Countdown.{one-more, none-left}
+use Rattle.files.proofs.Tabulate.{tabulateFrom-length}
 use Rattle.files.proofs.Placed.{placed-then}
-use Rattle.files.proofs.Writing.{u16Bytes-length, recordBytes-length, signed-length, placed-record, placed-signed, tabulateFrom-length}
+use Rattle.files.proofs.Writing.{u16Bytes-length, recordBytes-length, signed-length, placed-record, placed-signed}
 
 -- lengths
 pub pairBytes-length : (ps : List Pair) → length (pairBytes ps) ≡ 4 * length ps
@@ -138,7 +139,7 @@ task-file-length d signer =
       arith,
       signed-length signer (taskRecords (held d)),
       taskRecords-length (held d),
-      tabulateFrom-length 0 (d .variables) (rowVariable (d .sizes) (d .starts)),
+      tabulateFrom-length (rowVariable (d .sizes) (d .starts)) 0 (d .variables),
       actionBytes-length (d .variables) (d .costs) (d .conditions) (d .effects) 0 (d .actions),
     )
 
@@ -155,8 +156,8 @@ pub placed-task : (d : Arrays) (signer : ℕ) (b header variables goal actions a
 unfolding taskFile taskRecords held
 placed-task d signer b header variables goal actions all first end h v g f a e s =
     let t = held d in
-    let counted = tabulateFrom-length 0 (d .variables) (rowVariable (d .sizes) (d .starts)) in
-    let numbered = tabulateFrom-length 0 (d .actions) (rowAction (d .variables) (d .costs) (d .conditions) (d .effects)) in
+    let counted = tabulateFrom-length (rowVariable (d .sizes) (d .starts)) 0 (d .variables) in
+    let numbered = tabulateFrom-length (rowAction (d .variables) (d .costs) (d .conditions) (d .effects)) 0 (d .actions) in
     let toHeader = recordBytes 1 (u16Bytes (variableCount t) ++ u16Bytes (actionCount t)) in
     let toVariables = toHeader ++ variableBytes (t .variables) in
     let toGoal = toVariables ++ recordBytes 3 (pairBytes (t .goal)) in
