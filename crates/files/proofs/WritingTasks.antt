@@ -4,17 +4,17 @@ use mathlib.Core.Path.{_≡_, refl, sym, ap, ap₂, _∙_}
 use mathlib.Core.List.{List, [], _∷_, _++_}
 use native.Mathlib.Omega.{arith}
 use lib.ListN.{length, getD, length-append}
-use borrow.Author.Tests.{eq-eqb, ne-eqb}
 use Rattle.files.specs.Below.{tabulate, tabulateFrom}
 use Rattle.files.specs.Bytes.{u16Bytes, u32Bytes, placed}
 use Rattle.files.specs.Dense.{Arrays, rowPairs, rowVariable, rowAction, held}
 use Rattle.files.specs.Lengths.{actionNeeded, actionsNeeded, taskNeeded}
 use Rattle.files.specs.Records.{recordBytes}
-use Rattle.files.specs.Task.{Pair, Variable, Action, Task, pair, variableCount, actionCount}
+use Rattle.files.specs.Task.{Pair, Variable, Action, Task, variableCount, actionCount}
 use Rattle.files.specs.TaskFile.{pairBytes, variableBytes, actionBody, actionBytes, taskRecords, taskFile}
 use Rattle.files.proofs.Countdown.{one-more, none-left}
 use Rattle.files.proofs.Tabulate.{tabulateFrom-length}
 use Rattle.files.proofs.Placed.{placed-then}
+use Rattle.files.proofs.RowLaws.{rowPairs-none, rowPairs-skip, rowPairs-next}
 use Rattle.files.proofs.Writing.{u16Bytes-length, recordBytes-length, signed-length, placed-record, placed-signed}
 
 -- lengths
@@ -65,22 +65,6 @@ pub actionsNeeded-next : (variables : ℕ) (conditions effects : List ℕ) (a le
 unfolding actionsNeeded
 actionsNeeded-next variables conditions effects a left h = ap (actionsNeeded variables conditions effects a) (one-more left h)
 
--- the pairs of a row, as a loop that counts down finds them
-pub rowPairs-none : (row : List ℕ) (base v left : ℕ) → left ≤ 0 → rowPairs row base v left ≡ []
-unfolding rowPairs
-rowPairs-none row base v left h = ap (rowPairs row base v) (none-left left h)
-
-module _ (row : List ℕ) (base v left value : ℕ) (more : 0 < left) (is : value ≡ getD row (base + v) 0) where
-  pub rowPairs-skip : value ≡ 255 → rowPairs row base v left ≡ rowPairs row base (v + 1) (left - 1)
-  unfolding rowPairs
-  rowPairs-skip e = ap (rowPairs row base v) (one-more left more) ∙ rw (eq-eqb (getD row (base + v) 0) 255 (sym is ∙ e)) refl
-
-  pub rowPairs-next : (value ≡ 255 → ⊥) → rowPairs row base v left ≡ pair v value ∷ rowPairs row base (v + 1) (left - 1)
-  unfolding rowPairs
-  rowPairs-next d =
-      ap (rowPairs row base v) (one-more left more)
-      ∙ rw (ne-eqb (getD row (base + v) 0) 255 (λ q. d (is ∙ q))) (ap (λ (n : ℕ). pair v n ∷ rowPairs row base (v + 1) (left - 1)) (sym is))
-
 -- the bytes of a row's pairs, as a loop that counts down writes them
 pub placed-pairs-none : (b : List ℕ) (at : ℕ) (row : List ℕ) (base v left : ℕ) → left ≤ 0 → b ≡ placed b at (pairBytes (rowPairs row base v left))
 unfolding placed pairBytes
@@ -94,7 +78,7 @@ module _ (b : List ℕ) (at : ℕ) (row : List ℕ) (base v left value : ℕ) (m
       → placed c next (pairBytes (rowPairs row base (v + 1) (left - 1))) ≡ placed b at (pairBytes (rowPairs row base v left))
   placed-pairs-skip c next p q e =
       ap₂ (λ (l : List ℕ) (n : ℕ). placed l n (pairBytes (rowPairs row base (v + 1) (left - 1)))) p q
-      ∙ sym (ap (λ (l : List Pair). placed b at (pairBytes l)) (rowPairs-skip row base v left value more is e))
+      ∙ sym (ap (λ (l : List Pair). placed b at (pairBytes l)) (rowPairs-skip row base v left value (one-more left more) is e))
 
   pub placed-pairs-next : (c : List ℕ) (next : ℕ)
       → c ≡ placed b at (u16Bytes v ++ u16Bytes value)
@@ -104,7 +88,7 @@ module _ (b : List ℕ) (at : ℕ) (row : List ℕ) (base v left value : ℕ) (m
   unfolding pairBytes u16Bytes
   placed-pairs-next c next p q d =
       placed-then b c at next (u16Bytes v ++ u16Bytes value) (pairBytes (rowPairs row base (v + 1) (left - 1))) p q
-      ∙ sym (ap (λ (l : List Pair). placed b at (pairBytes l)) (rowPairs-next row base v left value more is d))
+      ∙ sym (ap (λ (l : List Pair). placed b at (pairBytes l)) (rowPairs-next row base v left value (one-more left more) is d))
 
 -- the record of an action from its parts: head, cost and counts, conditions, effects
 pub placed-action : (action : Action) (b head counts conditions effects : List ℕ) (at asked set middle : ℕ)
