@@ -8,6 +8,7 @@ pub mod Whole
 pub mod Countdown
 pub mod Tabulate
 pub mod Placed
+pub mod Lengths
 pub mod Writing
 pub mod WritingTasks
 pub mod WritingOrigins

@@ -1,4 +1,4 @@
--- Rows of the dense arrays: the pairs of a row, and that a row filled with pairs that rise holds just those pairs.
+-- Rows of the dense arrays: the numbers and pairs of a row, and that a row filled with pairs that rise holds just those pairs.
 use Prim.Native.Nat.{ℕ, zero, suc, _+_, _*_, _%_, _≤_, _<_}
 use mathlib.Core.Path.{_≡_, refl, sym, ap, ap₂, _∙_}
 use mathlib.Core.Bool.{Bool, true, false, cond}
@@ -11,9 +11,10 @@ use lib.Seq.{getD-set-same, getD-set-other}
 use lib.Dec.{eqb, ltb}
 use borrow.Author.Tests.{lt-ltb, eq-eqb, ne-eqb, eqb-true, eqb-false}
 use Rattle.files.specs.Task.{Pair, pair, valueIn}
-use Rattle.files.specs.Dense.{rowPairs}
+use Rattle.files.specs.Dense.{rowPairs, rowNumbers}
 use Rattle.files.specs.Rows.{cleared, stored, filled, filledRows}
 use Rattle.files.proofs.Countdown.{none-left}
+use Rattle.files.proofs.Tabulate.{tabulateFrom-length}
 
 -- pairs on variables from `low` on and below n that strictly rise, with values that a row can hold
 abbrev pub Ordered : ℕ → ℕ → List Pair → Type 0
@@ -164,6 +165,11 @@ rows-entry n rows base (ps ∷ rest) (suc a) v b h r k o =
     (omega (arith, filled-length (cleared rows base 64) base ps, cleared-length rows base 64))
     (omega arith)
     (λ i l. o (suc i) (omega arith))
+
+-- the numbers of a row
+pub rowNumbers-length : (row : List ℕ) (base count : ℕ) → length (rowNumbers row base count) ≡ count
+unfolding rowNumbers
+rowNumbers-length row base count = tabulateFrom-length (λ (i : ℕ). getD row (base + i) 0) 0 count
 
 -- the pairs of a row, one entry after another
 pub rowPairs-none : (row : List ℕ) (base v left : ℕ) → left ≤ 0 → rowPairs row base v left ≡ []
