@@ -13,11 +13,12 @@ use Rattle.files.specs.Task.{Action, Task, action}
 use Rattle.files.specs.TaskFile.{conditionsIn, effectsIn, actionLength, effectsPlace, actionFormAt, actionAt, actionsAt, pairsFrom, actionFrom, actionsFrom, pairBytes, actionBody, actionBytes}
 use Rattle.files.specs.Accepted.{validAction}
 use Rattle.files.proofs.Done.{facts}
+use Rattle.files.proofs.Lengths.{record-bytes-length, pair-bytes-length, action-body-length}
 use Rattle.files.proofs.Stands.{Octets, Stands, stands-none, stands-left, stands-right, stands-join, stands-u16, stands-u32, u16-stands, u32-stands}
-use Rattle.files.proofs.RecordStands.{record-length, Recorded, recorded, record-stands}
+use Rattle.files.proofs.RecordStands.{Recorded, recorded, record-stands}
 use Rattle.files.proofs.Valid.{Valid, action-valid}
 use Rattle.files.proofs.Variables.{States}
-use Rattle.files.proofs.Pairs.{pairs-length, pair-bytes-length, pairs-stand, pairs-read, pairs-checked, pairs-pass}
+use Rattle.files.proofs.Pairs.{pairs-length, pairs-stand, pairs-read, pairs-checked, pairs-pass}
 
 pub actions-length : (s : List ℕ) (at count : ℕ) → length (actionsFrom s at count) ≡ count
 unfolding actionsFrom
@@ -51,10 +52,6 @@ module _ (a : Action) where
   front-length : length front ≡ 8 + 4 * length (a .conditions)
   unfolding u32Bytes u16Bytes
   front-length = omega (arith, length-append counts (pairBytes (a .conditions)), pair-bytes-length (a .conditions))
-
-  pub action-body-length : length (actionBody a) ≡ 8 + 4 * length (a .conditions) + 4 * length (a .effects)
-  unfolding actionBody
-  action-body-length = omega (arith, length-append front (pairBytes (a .effects)), front-length, pair-bytes-length (a .effects))
 
   parts : {f : List ℕ} {at : ℕ} → Stands f (at + 4) (actionBody a) → Parts f at a
   unfolding actionBody u32Bytes u16Bytes
@@ -147,7 +144,7 @@ module _ (f : List ℕ) where
         omega (
           arith,
           action-recorded at (found .0) o .long,
-          record-length 4 first,
+          record-bytes-length 4 first,
           length-append (recordBytes 4 first) (actionBytes (actionsFrom f (recordEnd f at) count)),
           actions-end (recordEnd f at) count (found .1),
         )
@@ -159,7 +156,7 @@ module _ (f : List ℕ) where
         let found = simp facts at e in
         let first = actionBody (actionFrom f at) in
         let r = action-recorded at (found .0) o in
-        let long = record-length 4 first in
+        let long = record-bytes-length 4 first in
         stands-join (recordBytes 4 first) (actionBytes (actionsFrom f (recordEnd f at) count)) (omega (arith, r .long)) (record-stands o r)
         (actions-stand (recordEnd f at) count (omega (arith, r .long, r .stands .room)) (found .1))
 
@@ -197,7 +194,7 @@ module _ (f : List ℕ) where
                 ),
               );
           same = λ i. action (cost i) (conditions i) (effects i);
-          end = omega (arith, record-length 4 (actionBody a), r .long);
+          end = omega (arith, record-bytes-length 4 (actionBody a), r .long);
         }
 
     pub actions-read : (actions : List Action) (at : ℕ) → Stands f at (actionBytes actions) → allOf (validAction t) actions ≡ true → actionsFrom f at (length actions) ≡ actions

@@ -23,11 +23,6 @@ numbers-entry s at zero i h = absurd (omega arith)
 numbers-entry s at (suc k) zero h = ap (u16At s) (omega arith)
 numbers-entry s at (suc k) (suc i) h = numbers-entry s (at + 2) k i (omega arith) ∙ ap (u16At s) (omega arith)
 
-pub number-bytes-length : (ns : List ℕ) → length (numberBytes ns) ≡ 2 * length ns
-unfolding numberBytes u16Bytes
-number-bytes-length [] = refl
-number-bytes-length (n ∷ ns) = omega (arith, number-bytes-length ns)
-
 abbrev pub allUnder : ℕ → List ℕ → Bool
 allUnder limit ns = allOf (λ n. ltb n limit) ns
 

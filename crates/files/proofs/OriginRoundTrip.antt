@@ -13,12 +13,13 @@ use Rattle.files.specs.Accepted.{validSigner, acceptedOrigin}
 use Rattle.files.proofs.Done.{facts}
 use Rattle.files.proofs.Whole.{origin-check-done}
 use Rattle.files.proofs.ReadAs.{reads-as, read-as}
+use Rattle.files.proofs.Lengths.{number-bytes-length, record-bytes-length, number-record-length, signed-length}
 use Rattle.files.proofs.Stands.{Octets, stands-left, stands-right, stands-join}
-use Rattle.files.proofs.RecordStands.{record-length, Recorded, recorded, record-stands}
-use Rattle.files.proofs.Numbers.{numbers-length, number-bytes-length, numbers-read, numbers-stand}
+use Rattle.files.proofs.RecordStands.{Recorded, recorded, record-stands}
+use Rattle.files.proofs.Numbers.{numbers-length, numbers-read, numbers-stand}
 use Rattle.files.proofs.ValidOrigin.{ValidOrigin, origin-valid}
 use Rattle.files.proofs.Rising.{rising-under, action-origins-checked, action-origins-pass}
-use Rattle.files.proofs.SignOff.{records-stand, signed-length, signed-signer, signed-done, signed-off, file-signed}
+use Rattle.files.proofs.SignOff.{records-stand, signed-signer, signed-done, signed-off, file-signed}
 use Rattle.files.proofs.Origins.{OriginsRead, origins-read, origins-length, origin-bytes-few, origins-checked, origins-rise, origins-end, origins-stand}
 
 module _ (f : List ℕ) where
@@ -54,15 +55,12 @@ module _ (o : Origin) (signer : ℕ) (a : acceptedOrigin o ≡ true) (v : validS
   valid : ValidOrigin o
   valid = origin-valid o a
 
-  action-record-length : length actionRecord ≡ 4 + 2 * length (o .actions)
-  action-record-length = omega (arith, record-length 7 (numberBytes (o .actions)), number-bytes-length (o .actions))
-
   records-small : length (variableRecords ++ actionRecord) + 12 ≤ 65536
   records-small =
       omega (
         arith,
         length-append variableRecords actionRecord,
-        action-record-length,
+        number-record-length 7 (o .actions),
         origin-bytes-few (o .variables) (valid .variables),
         valid .variables-few,
         valid .actions-few,
@@ -127,7 +125,7 @@ module _ (o : Origin) (signer : ℕ) (a : acceptedOrigin o ≡ true) (v : validS
             (
               action-origins-pass written 0 (originActionsPlace written + 4) (bodyLength written (originActionsPlace written) / 2) (rw actions-read (valid .actions-rise)),
               signed-done signer (variableRecords ++ actionRecord) (omega arith) v (recordEnd written (originActionsPlace written))
-                  (omega (arith, length-append variableRecords actionRecord, action-record-length, place-read, r .long)),
+                  (omega (arith, length-append variableRecords actionRecord, number-record-length 7 (o .actions), place-read, r .long)),
             ),
           ),
         ),
@@ -208,7 +206,7 @@ module _ (f : List ℕ) (o : Octets f) (e : checkOrigin f .number ≡ 0) where
         arith,
         length-append variables actions,
         variables-end,
-        record-length 7 (numberBytes (originOf f .actions)),
+        record-bytes-length 7 (numberBytes (originOf f .actions)),
         actions-stand .long,
       ))
       (checked .sign-off)

@@ -13,10 +13,11 @@ use Rattle.files.specs.Records.{kindAt, recordEnd, recordsEnd, bodyRule,
 use Rattle.files.specs.OriginFile.{VariableOrigin, valuesIn, variableOriginAt, variableOriginsAt, variableOriginsFrom, originsFrom, originBody, variableOriginBytes}
 use Rattle.files.specs.Accepted.{rising, validValues}
 use Rattle.files.proofs.Done.{facts}
+use Rattle.files.proofs.Lengths.{number-bytes-length, record-bytes-length, origin-body-length}
 use Rattle.files.proofs.Stands.{Octets, Stands, stands-none, stands-left, stands-right, stands-join, stands-u16, u16-stands}
-use Rattle.files.proofs.RecordStands.{record-length, Recorded, recorded, record-stands}
+use Rattle.files.proofs.RecordStands.{Recorded, recorded, record-stands}
 use Rattle.files.proofs.ValidOrigin.{numbersOf}
-use Rattle.files.proofs.Numbers.{numbers-length, number-bytes-length, numbers-read, numbers-under, under-numbers, numbers-stand}
+use Rattle.files.proofs.Numbers.{numbers-length, numbers-read, numbers-under, under-numbers, numbers-stand}
 
 abbrev originRead : List ℕ → ℕ → VariableOrigin
 originRead f at = record { variable = u16At f (at + 4); values = numbersFrom f (at + 6) (valuesIn f at) }
@@ -25,10 +26,6 @@ pub origins-length : (s : List ℕ) (at count : ℕ) → length (originsFrom s a
 unfolding originsFrom
 origins-length s at zero = refl
 origins-length s at (suc count) = ap suc (origins-length s (recordEnd s at) count)
-
-pub origin-body-length : (v : VariableOrigin) → length (originBody v) ≡ 2 + 2 * length (v .values)
-unfolding originBody u16Bytes
-origin-body-length v = omega (arith, number-bytes-length (v .values))
 
 -- each record has at most 32 values
 pub origin-bytes-few : (vs : List VariableOrigin) → allOf validValues vs ≡ true → length (variableOriginBytes vs) ≤ 70 * length vs
@@ -39,7 +36,7 @@ origin-bytes-few (v ∷ vs) h =
     omega (
       arith,
       origin-body-length v,
-      record-length 6 (originBody v),
+      record-bytes-length 6 (originBody v),
       length-append (recordBytes 6 (originBody v)) (variableOriginBytes vs),
       origin-bytes-few vs (valid .1),
     )
@@ -93,7 +90,7 @@ module _ (f : List ℕ) where
         omega (
           arith,
           origin-recorded low at (found .0) o .long,
-          record-length 6 first,
+          record-bytes-length 6 first,
           length-append (recordBytes 6 first) (variableOriginBytes (originsFrom f (recordEnd f at) count)),
           origins-end (u16At f (at + 4) + 1) (recordEnd f at) count (found .1),
         )
@@ -105,7 +102,7 @@ module _ (f : List ℕ) where
         let found = simp facts at e in
         let first = originBody (originRead f at) in
         let r = origin-recorded low at (found .0) o in
-        let long = record-length 6 first in
+        let long = record-bytes-length 6 first in
         stands-join (recordBytes 6 first) (variableOriginBytes (originsFrom f (recordEnd f at) count)) (omega (arith, r .long)) (record-stands o r)
         (origins-stand (u16At f (at + 4) + 1) (recordEnd f at) count (omega (arith, r .long, r .stands .room)) (found .1))
 
@@ -144,7 +141,7 @@ module _ (f : List ℕ) where
             );
         same = λ i. record { variable = variable i; values = values i };
         kind = r .named;
-        end = omega (arith, record-length 6 (originBody v), r .long);
+        end = omega (arith, record-bytes-length 6 (originBody v), r .long);
       }
 
   -- records of kind 6 are counted up to the first of another kind

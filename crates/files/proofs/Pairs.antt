@@ -19,11 +19,6 @@ unfolding pairsFrom
 pairs-length s at zero = refl
 pairs-length s at (suc count) = ap suc (pairs-length s (at + 4) count)
 
-pub pair-bytes-length : (ps : List Pair) → length (pairBytes ps) ≡ 4 * length ps
-unfolding pairBytes u16Bytes
-pair-bytes-length [] = refl
-pair-bytes-length (p ∷ ps) = omega (arith, pair-bytes-length ps)
-
 pub pairs-stand : (f : List ℕ) → Octets f → (at count : ℕ) → at + 4 * count ≤ length f → Stands f at (pairBytes (pairsFrom f at count))
 unfolding pairsFrom pairBytes u16Bytes
 pairs-stand f o at zero h = stands-none f at (omega arith)

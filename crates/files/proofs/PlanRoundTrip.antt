@@ -1,5 +1,5 @@
 -- A plan file that is written reads back, and a file that reads as a plan is the one written for it.
-use Prim.Native.Nat.{ℕ, _+_, _*_, _/_, _≤_}
+use Prim.Native.Nat.{ℕ, _/_, _≤_}
 use mathlib.Core.Path.{_≡_, refl, _∙_}
 use mathlib.Core.Bool.{true}
 use mathlib.Core.List.{List}
@@ -13,10 +13,11 @@ use Rattle.files.specs.Accepted.{validSigner, acceptedPlan}
 use Rattle.files.proofs.Done.{facts}
 use Rattle.files.proofs.Whole.{plan-check-done}
 use Rattle.files.proofs.ReadAs.{reads-as, read-as}
+use Rattle.files.proofs.Lengths.{number-bytes-length, record-bytes-length, number-record-length, signed-length}
 use Rattle.files.proofs.Stands.{Octets}
-use Rattle.files.proofs.RecordStands.{record-length, Recorded, recorded, record-stands}
-use Rattle.files.proofs.Numbers.{allUnder, numbers-length, number-bytes-length, numbers-read, numbers-under, under-numbers, numbers-stand}
-use Rattle.files.proofs.SignOff.{records-stand, signed-length, signed-signer, signed-done, signed-off, file-signed}
+use Rattle.files.proofs.RecordStands.{Recorded, recorded, record-stands}
+use Rattle.files.proofs.Numbers.{allUnder, numbers-length, numbers-read, numbers-under, under-numbers, numbers-stand}
+use Rattle.files.proofs.SignOff.{records-stand, signed-signer, signed-done, signed-off, file-signed}
 
 pub plan-length : (f : List ℕ) → length (planOf f) ≡ stepsIn f
 unfolding planOf
@@ -50,9 +51,6 @@ module _ (actions : ℕ) (plan : List ℕ) (signer : ℕ) (few : actions ≤ 655
   unfolding acceptedPlan
   steps-under = simp facts at a .1
 
-  records-length : length records ≡ 4 + 2 * length plan
-  records-length = omega (arith, record-length 8 (numberBytes plan), number-bytes-length plan)
-
   plan-recorded : Recorded written 0 8 (numberBytes plan)
   unfolding planFile
   plan-recorded =
@@ -69,7 +67,7 @@ module _ (actions : ℕ) (plan : List ℕ) (signer : ℕ) (few : actions ≤ 655
   unfolding checkPlanFile planFile planOf sizeFits headAt bodyFits bodyRule recordEnd
   plan-done =
       let few-steps = steps-few in
-      let short = records-length in
+      let short = number-record-length 8 plan in
       let long = number-bytes-length plan in
       let r = plan-recorded in
       simp facts (
@@ -87,7 +85,7 @@ module _ (actions : ℕ) (plan : List ℕ) (signer : ℕ) (few : actions ≤ 655
   unfolding readPlan planFile
   plan-reads-back =
       reads-as (checkPlanFile actions written) (planOf written) (signerOf written) plan signer plan-done plan-read
-      (signed-signer signer records (omega (arith, steps-few, records-length)) v)
+      (signed-signer signer records (omega (arith, steps-few, number-record-length 8 plan)) v)
 
 -- a file whose check is done
 module _ (actions : ℕ) (f : List ℕ) (o : Octets f) (e : checkPlanFile actions f .number ≡ 0) where
@@ -110,7 +108,7 @@ module _ (actions : ℕ) (f : List ℕ) (o : Octets f) (e : checkPlanFile action
       let r : Recorded f 0 8 (numberBytes (planOf f)) =
       record { long = omega arith; named = omega arith; stands = numbers-stand f o 4 (stepsIn f) (omega arith) } in
       file-signed f (recordBytes 8 (numberBytes (planOf f))) (recordEnd f 0) o (record-stands o r)
-      (omega (arith, record-length 8 (numberBytes (planOf f)))) (found .1 .1 .1)
+      (omega (arith, record-bytes-length 8 (numberBytes (planOf f)))) (found .1 .1 .1)
 
 pub plan-file-unique : (actions : ℕ) (f : List ℕ) (plan : List ℕ) (signer : ℕ) → Octets f → readPlan actions f ≡ under plan signer → f ≡ planFile plan signer
 unfolding readPlan

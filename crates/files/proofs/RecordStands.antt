@@ -8,10 +8,6 @@ use Rattle.files.specs.Bytes.{u16Bytes}
 use Rattle.files.specs.Records.{bodyLength, kindAt, recordBytes}
 use Rattle.files.proofs.Stands.{Octets, Stands, stands-left, stands-right, stands-join, stands-u16, u16-stands}
 
-pub record-length : (kind : ℕ) (body : List ℕ) → length (recordBytes kind body) ≡ 4 + length body
-unfolding recordBytes u16Bytes
-record-length kind body = omega arith
-
 -- a record that is read at a place
 pub record Recorded (f : List ℕ) (at kind : ℕ) (body : List ℕ) : Type 0 where
   pub long : bodyLength f at ≡ length body

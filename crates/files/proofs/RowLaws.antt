@@ -1,4 +1,4 @@
--- Rows of the dense arrays: a row filled with pairs that rise holds just those pairs.
+-- Rows of the dense arrays: the numbers and pairs of a row, and that a row filled with pairs that rise holds just those pairs.
 use Prim.Native.Nat.{ℕ, zero, suc, _+_, _*_, _%_, _≤_, _<_}
 use mathlib.Core.Path.{_≡_, refl, sym, ap, ap₂, _∙_}
 use mathlib.Core.Bool.{Bool, true, false, cond}
@@ -9,10 +9,12 @@ use native.Mathlib.Nat.{add-zero}
 use lib.ListN.{length, getD, set, length-set}
 use lib.Seq.{getD-set-same, getD-set-other}
 use lib.Dec.{eqb, ltb}
-use borrow.Author.Tests.{lt-ltb, le-ltb, eq-eqb, ne-eqb, eqb-true, eqb-false}
+use borrow.Author.Tests.{lt-ltb, eq-eqb, ne-eqb, eqb-true, eqb-false}
 use Rattle.files.specs.Task.{Pair, pair, valueIn}
-use Rattle.files.specs.Dense.{rowPairs}
+use Rattle.files.specs.Dense.{rowPairs, rowNumbers}
 use Rattle.files.specs.Rows.{cleared, stored, filled, filledRows}
+use Rattle.files.proofs.Countdown.{none-left}
+use Rattle.files.proofs.Tabulate.{tabulateFrom-length}
 
 -- pairs on variables from `low` on and below n that strictly rise, with values that a row can hold
 abbrev pub Ordered : ℕ → ℕ → List Pair → Type 0
@@ -164,16 +166,28 @@ rows-entry n rows base (ps ∷ rest) (suc a) v b h r k o =
     (omega arith)
     (λ i l. o (suc i) (omega arith))
 
+-- the numbers of a row
+pub rowNumbers-length : (row : List ℕ) (base count : ℕ) → length (rowNumbers row base count) ≡ count
+unfolding rowNumbers
+rowNumbers-length row base count = tabulateFrom-length (λ (i : ℕ). getD row (base + i) 0) 0 count
+
+-- the pairs of a row, one entry after another
+pub rowPairs-none : (row : List ℕ) (base v left : ℕ) → left ≤ 0 → rowPairs row base v left ≡ []
+unfolding rowPairs
+rowPairs-none row base v left h = ap (rowPairs row base v) (none-left left h)
+
+module _ (row : List ℕ) (base v left : ℕ) {rest : ℕ} (value : ℕ) (more : left ≡ suc rest) (is : value ≡ getD row (base + v) 0) where
+  pub rowPairs-skip : value ≡ 255 → rowPairs row base v left ≡ rowPairs row base (v + 1) rest
+  unfolding rowPairs
+  rowPairs-skip e = ap (rowPairs row base v) more ∙ rw (eq-eqb (getD row (base + v) 0) 255 (sym is ∙ e)) refl
+
+  pub rowPairs-next : (value ≡ 255 → ⊥) → rowPairs row base v left ≡ pair v value ∷ rowPairs row base (v + 1) rest
+  unfolding rowPairs
+  rowPairs-next d =
+      ap (rowPairs row base v) more
+      ∙ rw (ne-eqb (getD row (base + v) 0) 255 (λ q. d (is ∙ q))) (ap (λ (n : ℕ). pair v n ∷ rowPairs row base (v + 1) rest) (sym is))
+
 -- a row with the entries of pairs holds just those pairs
-rowPairs-skip : (row : List ℕ) (base v count : ℕ) → getD row (base + v) 0 ≡ 255 → rowPairs row base v (suc count) ≡ rowPairs row base (v + 1) count
-unfolding rowPairs
-rowPairs-skip row base v count e = rw (eq-eqb (getD row (base + v) 0) 255 e) refl
-
-rowPairs-take : (row : List ℕ) (base v count x : ℕ) → getD row (base + v) 0 ≡ x → (x ≡ 255 → ⊥) → rowPairs row base v (suc count) ≡ pair v x ∷ rowPairs row base (v + 1) count
-unfolding rowPairs
-rowPairs-take row base v count x e d =
-    rw (ne-eqb (getD row (base + v) 0) 255 (λ q. d (sym e ∙ q))) (ap (λ (y : ℕ). pair v y ∷ rowPairs row base (v + 1) count) e)
-
 Ordered-from : (n low next : ℕ) (ps : List Pair) → Ordered n low ps → ((p : Pair) → low ≤ p .variable → next ≤ p .variable) → Ordered n next ps
 Ordered-from n low next [] o h = tt
 Ordered-from n low next (p ∷ ps) o h = (h p (o .0), o .1, o .2, o .3)
@@ -184,7 +198,7 @@ unfolding rowPairs
 rowPairs-is n row base v zero [] e o h = refl
 rowPairs-is n row base v zero (p ∷ ps) e o h = absurd (omega (arith, o .0, o .1))
 rowPairs-is n row base v (suc count) [] e o h =
-    rowPairs-skip row base v count (h v (omega arith) (omega arith))
+    rowPairs-skip row base v (suc count) 255 refl (sym (h v (omega arith) (omega arith))) refl
     ∙ rowPairs-is n row base (v + 1) count [] (omega arith) tt (λ w a b. h w (omega arith) b)
 rowPairs-is n row base v (suc count) (p ∷ ps) e o h =
     go
@@ -200,7 +214,7 @@ rowPairs-is n row base v (suc count) (p ∷ ps) e o h =
         let here : p .variable ≡ v = eqb-true (p .variable) v q in
         let entry : getD row (base + v) 0 ≡ p .value =
         h v (omega arith) (omega (arith, o .1)) ∙ ap (λ (x : Option ℕ). Option·getD x 255) (valueIn-here p ps v here) in
-        rowPairs-take row base v count (p .value) entry (λ z. omega (arith, o .2))
+        rowPairs-next row base v (suc count) (p .value) refl (sym entry) (λ z. omega (arith, o .2))
         ∙ ap₂ (λ (w : ℕ) (l : List Pair). pair w (p .value) ∷ l) (sym here)
         (rest
         (Ordered-from n (p .variable + 1) (v + 1) ps (o .3) (λ r l. omega arith))
@@ -211,5 +225,5 @@ rowPairs-is n row base v (suc count) (p ∷ ps) e o h =
         let entry : getD row (base + v) 0 ≡ 255 =
         h v (omega arith) (omega (arith, o .1))
         ∙ ap (λ (x : Option ℕ). Option·getD x 255) (valueIn-past p ps v past ∙ valueIn-below n (p .variable + 1) ps v (o .3) (omega arith)) in
-        rowPairs-skip row base v count entry
+        rowPairs-skip row base v (suc count) 255 refl (sym entry) refl
         ∙ more (above, o .1, o .2, o .3) (λ w a b. h w (omega arith) b)

@@ -1,29 +1,21 @@
 -- Signed files: the sign-off that stands behind the records, what is read there, and what a check has found there.
 use Prim.Native.Nat.{ℕ, _+_, _≤_}
-use mathlib.Core.Path.{_≡_, refl, ap, _∙_}
+use mathlib.Core.Path.{_≡_, ap, _∙_}
 use mathlib.Core.Bool.{true}
 use mathlib.Core.List.{List, _++_}
 use native.Mathlib.Omega.{arith}
-use lib.ListN.{length, length-append}
+use lib.ListN.{length}
 use Rattle.files.specs.Bytes.{u32At, u16Bytes, u32Bytes}
 use Rattle.files.specs.Records.{recordEnd, bodyRule, bodyFits, headAt, signOffAt, signerOf, recordBytes, signed}
 use Rattle.files.specs.Accepted.{validSigner}
 use Rattle.files.proofs.Done.{facts}
+use Rattle.files.proofs.Lengths.{signed-length}
 use Rattle.files.proofs.Stands.{Octets, Stands, whole-stands, stands-whole, stands-left, stands-right, stands-join, stands-u32, u32-stands, u32-below}
 use Rattle.files.proofs.RecordStands.{recorded, record-stands}
 
 -- the sign-off of records of so many bytes
 abbrev pub signOffBytes : ℕ → ℕ → List ℕ
 signOffBytes signer count = recordBytes 5 (u32Bytes signer ++ u32Bytes count)
-
-pub sign-off-length : (signer count : ℕ) → length (signOffBytes signer count) ≡ 12
-unfolding u32Bytes u16Bytes recordBytes
-sign-off-length signer count = refl
-
-pub signed-length : (signer : ℕ) (records : List ℕ) → length (signed signer records) ≡ length records + 12
-unfolding signed
-signed-length signer records =
-    omega (arith, length-append records (signOffBytes signer (length records)), sign-off-length signer (length records))
 
 -- the sign-off that stands at the end of a file
 module _ {f : List ℕ} {at : ℕ} (signer : ℕ) (s : Stands f at (signOffBytes signer at)) (end : length f ≡ at + 12) (small : at ≤ 65536) (valid : validSigner signer ≡ true) where

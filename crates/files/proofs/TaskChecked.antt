@@ -11,13 +11,14 @@ use Rattle.files.specs.Task.{variableCount, actionCount}
 use Rattle.files.specs.TaskFile.{headerAt, variablesIn, actionsIn, variablesAt, variablePlace, pairsAt, goalAt, actionsAt, goalPlace, actionsPlace, checkTask, taskOf, pairBytes, taskRecords, taskFile}
 use Rattle.files.specs.Accepted.{validSigner, acceptedTask}
 use Rattle.files.proofs.Done.{facts}
+use Rattle.files.proofs.Lengths.{pair-bytes-length, signed-length, task-records-length}
 use Rattle.files.proofs.Stands.{Octets, Stands, stands-at, stands-join, u16-stands}
 use Rattle.files.proofs.RecordStands.{record-stands}
-use Rattle.files.proofs.SignOff.{signed-length, signed-off, file-signed}
+use Rattle.files.proofs.SignOff.{signed-off, file-signed}
 use Rattle.files.proofs.Variables.{variables-length, variables-stand, variables-checked, States, states}
-use Rattle.files.proofs.Pairs.{pairs-length, pair-bytes-length, pairs-stand, pairs-checked}
+use Rattle.files.proofs.Pairs.{pairs-length, pairs-stand, pairs-checked}
 use Rattle.files.proofs.Actions.{actions-length, actions-stand, actions-end, actions-signed, actions-checked}
-use Rattle.files.proofs.TaskLaid.{Laid, laid-records, task-records-length, headerBody, goalStart, actionsStart}
+use Rattle.files.proofs.TaskLaid.{Laid, laid-records, headerBody, goalStart, actionsStart}
 
 module _ (f : List ℕ) where
   pub variable-count : variableCount (taskOf f) ≡ variablesIn f

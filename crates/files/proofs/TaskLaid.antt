@@ -9,11 +9,12 @@ use Rattle.files.specs.Records.{bodyLength, recordEnd, bodyRule, bodyFit
 use Rattle.files.specs.Task.{Task, variableCount, actionCount}
 use Rattle.files.specs.TaskFile.{headerAt, variablesIn, actionsIn, variablePlace, goalAt, goalPlace, actionsPlace, checkTask, pairsFrom, variablesFrom, actionsFrom, taskOf, pairBytes, variableBytes, actionBytes, taskRecords}
 use Rattle.files.proofs.Done.{facts}
+use Rattle.files.proofs.Lengths.{record-bytes-length, pair-bytes-length, variable-bytes-length, task-records-length}
 use Rattle.files.proofs.Stands.{Stands, stands-left, stands-right, stands-join, stands-u16}
-use Rattle.files.proofs.RecordStands.{record-length, Recorded, recorded}
+use Rattle.files.proofs.RecordStands.{Recorded, recorded}
 use Rattle.files.proofs.Valid.{Valid}
-use Rattle.files.proofs.Variables.{variable-bytes-length, variables-read, variables-pass, States, states}
-use Rattle.files.proofs.Pairs.{pair-bytes-length, pairs-read, pairs-pass}
+use Rattle.files.proofs.Variables.{variables-read, variables-pass, States, states}
+use Rattle.files.proofs.Pairs.{pairs-read, pairs-pass}
 use Rattle.files.proofs.Actions.{actions-read, actions-pass}
 
 module _ (t : Task) where
@@ -43,13 +44,9 @@ module _ (t : Task) where
         arith,
         length-append toVariables (recordBytes 3 (pairBytes (t .goal))),
         to-variables-length,
-        record-length 3 (pairBytes (t .goal)),
+        record-bytes-length 3 (pairBytes (t .goal)),
         pair-bytes-length (t .goal),
       )
-
-  pub task-records-length : length (taskRecords t) ≡ actionsStart + length (actionBytes (t .actions))
-  unfolding taskRecords
-  task-records-length = omega (arith, length-append toGoal (actionBytes (t .actions)), to-goal-length)
 
 -- the records of a task, each at its place
 pub record Laid (f : List ℕ) (t : Task) : Type 0 where

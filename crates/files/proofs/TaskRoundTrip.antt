@@ -13,8 +13,9 @@ use Rattle.files.specs.Reading.{under, readTask}
 use Rattle.files.specs.Accepted.{validSigner, acceptedTask}
 use Rattle.files.proofs.Whole.{task-check-done}
 use Rattle.files.proofs.ReadAs.{reads-as, read-as}
+use Rattle.files.proofs.Lengths.{signed-length}
 use Rattle.files.proofs.Stands.{Octets}
-use Rattle.files.proofs.SignOff.{records-stand, signed-length, signed-signer, signed-done}
+use Rattle.files.proofs.SignOff.{records-stand, signed-signer, signed-done}
 use Rattle.files.proofs.Valid.{task-valid}
 use Rattle.files.proofs.TaskLaid.{records-laid, laid-task, laid-done}
 use Rattle.files.proofs.TaskChecked.{task-written}

@@ -26,11 +26,6 @@ unfolding variablesFrom
 variables-length s at zero = refl
 variables-length s at (suc count) = ap suc (variables-length s (at + 8) count)
 
-pub variable-bytes-length : (vs : List Variable) → length (variableBytes vs) ≡ 8 * length vs
-unfolding variableBytes recordBytes u16Bytes
-variable-bytes-length [] = refl
-variable-bytes-length (v ∷ vs) = omega (arith, variable-bytes-length vs)
-
 module _ (f : List ℕ) where
   -- a variable whose check is done
   variable-stands : Octets f → (at : ℕ) → variableAt f at .number ≡ 0 → Stands f at (recordBytes 2 (variableBody (variableRead f at)))

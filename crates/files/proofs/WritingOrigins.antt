@@ -1,50 +1,20 @@
--- Laws of what the writer of origin files writes: the records of variable origins, and the file's length.
-use Prim.Native.Nat.{ℕ, zero, suc, _+_, _*_, _-_, _≤_, _<_}
-use mathlib.Core.Path.{_≡_, refl, ap, ap₂, _∙_}
+-- Laws of what the writer of origin files writes: the records of variable origins, and the file.
+use Prim.Native.Nat.{ℕ, _+_, _*_, _-_, _≤_, _<_}
+use mathlib.Core.Path.{_≡_, ap, ap₂, _∙_}
 use mathlib.Core.List.{List, _++_}
 use native.Mathlib.Omega.{arith}
-use lib.ListN.{length, getD, length-append}
-use Rattle.files.specs.Below.{tabulate, tabulateFrom}
+use lib.ListN.{getD, length-append}
+use Rattle.files.specs.Below.{tabulate}
 use Rattle.files.specs.Bytes.{u16Bytes, u32Bytes, placed}
 use Rattle.files.specs.Dense.{OriginArrays, rowNumbers, rowOrigin, heldOrigin}
-use Rattle.files.specs.Lengths.{originsNeeded, originNeeded}
+use Rattle.files.specs.Lengths.{originsNeeded}
 use Rattle.files.specs.OriginFile.{originBody, variableOriginBytes, originFile}
 use Rattle.files.specs.Records.{recordBytes, numberBytes}
 use Rattle.files.proofs.Countdown.{one-more, none-left}
 use Rattle.files.proofs.Placed.{placed-then}
-use Rattle.files.proofs.Writing.{u16Bytes-length, recordBytes-length, numberBytes-length, signed-length, placed-u16-then, placed-record, placed-signed, tabulateFrom-length}
-
--- lengths
-pub rowNumbers-length : (row : List ℕ) (base count : ℕ) → length (rowNumbers row base count) ≡ count
-unfolding rowNumbers
-rowNumbers-length row base count = tabulateFrom-length 0 count (λ (i : ℕ). getD row (base + i) 0)
-
-pub rowOrigin-length : (numbers sizes values : List ℕ) (i : ℕ) → length (recordBytes 6 (originBody (rowOrigin numbers sizes values i))) ≡ 6 + 2 * getD sizes i 0
-unfolding rowOrigin originBody
-rowOrigin-length numbers sizes values i =
-    simp (recordBytes-length, length-append, u16Bytes-length, numberBytes-length, rowNumbers-length) (omega arith)
-
-pub variableOriginBytes-length : (numbers sizes values : List ℕ) (i count : ℕ)
-    → length (variableOriginBytes (tabulateFrom i count (rowOrigin numbers sizes values))) ≡ originsNeeded sizes i count
-unfolding variableOriginBytes originsNeeded
-variableOriginBytes-length numbers sizes values i zero = refl
-variableOriginBytes-length numbers sizes values i (suc count) =
-    let origin = rowOrigin numbers sizes values in
-    length-append (recordBytes 6 (originBody (origin i))) (variableOriginBytes (tabulateFrom (i + 1) count origin))
-    ∙ ap₂ (λ (m n : ℕ). m + n) (rowOrigin-length numbers sizes values i) (variableOriginBytes-length numbers sizes values (i + 1) count)
-
-pub origin-file-length : (d : OriginArrays) (signer : ℕ) → length (originFile (heldOrigin d) signer) ≡ originNeeded (d .variables) (d .actions) (d .sizes)
-unfolding originFile heldOrigin originNeeded
-origin-file-length d signer =
-    simp (
-      signed-length,
-      length-append,
-      recordBytes-length,
-      numberBytes-length,
-      rowNumbers-length,
-      variableOriginBytes-length (d .numbers) (d .sizes) (d .values) 0 (d .variables),
-    )
-    (omega arith)
+use Rattle.files.proofs.RowLaws.{rowNumbers-length}
+use Rattle.files.proofs.Lengths.{u16-bytes-length, record-bytes-length, number-bytes-length, variable-origin-bytes-length}
+use Rattle.files.proofs.Writing.{placed-u16-then, placed-record, placed-signed}
 
 -- the bytes that variable origins take, as a loop that counts down adds them up
 pub originsNeeded-none : (sizes : List ℕ) (i left : ℕ) → left ≤ 0 → originsNeeded sizes i left ≡ 0
@@ -67,7 +37,7 @@ unfolding rowOrigin originBody
 placed-origin numbers sizes values i b head number all at n size p q h e f =
     let row = numberBytes (rowNumbers values (32 * i) size) in
     placed-record b head all at 6 (2 + 2 * size) (u16Bytes n ++ row) h
-    (simp (length-append, u16Bytes-length, numberBytes-length, rowNumbers-length) (omega arith))
+    (simp (length-append, u16-bytes-length, number-bytes-length, rowNumbers-length) (omega arith))
     (f ∙ placed-u16-then head number (at + 4) (at + 6) n row e (omega arith))
     ∙ ap₂ (λ (j k : ℕ). placed b at (recordBytes 6 (u16Bytes j ++ numberBytes (rowNumbers values (32 * i) k)))) q p
 
@@ -82,10 +52,10 @@ pub placed-origins : (d : OriginArrays) (signer : ℕ) (b variables head numbers
 unfolding originFile heldOrigin
 placed-origins d signer b variables head numbers all at v p h n s =
     let o = heldOrigin d in
-    let written = variableOriginBytes-length (d .numbers) (d .sizes) (d .values) 0 (d .variables) in
+    let written = variable-origin-bytes-length (d .numbers) (d .sizes) (d .values) 0 (d .variables) in
     let actions = recordBytes 7 (numberBytes (o .actions)) in
     placed-signed b numbers all (at + 4 + 2 * d .actions) signer (variableOriginBytes (o .variables) ++ actions)
-    (placed-record variables head numbers at 7 (2 * d .actions) (numberBytes (o .actions)) h (simp (numberBytes-length, rowNumbers-length)) n
+    (placed-record variables head numbers at 7 (2 * d .actions) (numberBytes (o .actions)) h (simp (number-bytes-length, rowNumbers-length)) n
     ∙ placed-then b variables 0 at (variableOriginBytes (o .variables)) actions v (omega arith))
-    (simp (length-append, recordBytes-length, numberBytes-length, rowNumbers-length) (omega arith))
+    (simp (length-append, record-bytes-length, number-bytes-length, rowNumbers-length) (omega arith))
     s

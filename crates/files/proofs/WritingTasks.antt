@@ -1,57 +1,22 @@
--- Laws of what the writer of task files writes: the pairs of a row, the records of actions, and the file's length.
-use Prim.Native.Nat.{ℕ, zero, suc, _+_, _*_, _-_, _≤_, _<_}
-use mathlib.Core.Path.{_≡_, refl, sym, ap, ap₂, _∙_}
-use mathlib.Core.List.{List, [], _∷_, _++_}
+-- Laws of what the writer of task files writes: the pairs of a row, the records of actions, and the file.
+use Prim.Native.Nat.{ℕ, _+_, _*_, _-_, _≤_, _<_}
+use mathlib.Core.Path.{_≡_, sym, ap, ap₂, _∙_}
+use mathlib.Core.List.{List, _++_}
 use native.Mathlib.Omega.{arith}
 use lib.ListN.{length, getD, length-append}
-use borrow.Author.Tests.{eq-eqb, ne-eqb}
-use Rattle.files.specs.Below.{tabulate, tabulateFrom}
+use Rattle.files.specs.Below.{tabulate}
 use Rattle.files.specs.Bytes.{u16Bytes, u32Bytes, placed}
 use Rattle.files.specs.Dense.{Arrays, rowPairs, rowVariable, rowAction, held}
-use Rattle.files.specs.Lengths.{actionNeeded, actionsNeeded, taskNeeded}
+use Rattle.files.specs.Lengths.{actionNeeded, actionsNeeded}
 use Rattle.files.specs.Records.{recordBytes}
-use Rattle.files.specs.Task.{Pair, Variable, Action, Task, pair, variableCount, actionCount}
+use Rattle.files.specs.Task.{Pair, Action, variableCount, actionCount}
 use Rattle.files.specs.TaskFile.{pairBytes, variableBytes, actionBody, actionBytes, taskRecords, taskFile}
 use Rattle.files.proofs.Countdown.{one-more, none-left}
+use Rattle.files.proofs.Tabulate.{tabulateFrom-length}
 use Rattle.files.proofs.Placed.{placed-then}
-use Rattle.files.proofs.Writing.{u16Bytes-length, recordBytes-length, signed-length, placed-record, placed-signed, tabulateFrom-length}
-
--- lengths
-pub pairBytes-length : (ps : List Pair) → length (pairBytes ps) ≡ 4 * length ps
-unfolding pairBytes u16Bytes
-pairBytes-length [] = refl
-pairBytes-length (p ∷ ps) = omega (arith, pairBytes-length ps)
-
-pub variableBytes-length : (vs : List Variable) → length (variableBytes vs) ≡ 8 * length vs
-unfolding variableBytes recordBytes u16Bytes
-variableBytes-length [] = refl
-variableBytes-length (v ∷ vs) = omega (arith, variableBytes-length vs)
-
-pub actionBody-length : (a : Action) → length (actionBody a) ≡ 8 + 4 * length (a .conditions) + 4 * length (a .effects)
-unfolding actionBody u32Bytes u16Bytes
-actionBody-length a =
-    omega (
-      arith,
-      length-append (pairBytes (a .conditions)) (pairBytes (a .effects)),
-      pairBytes-length (a .conditions),
-      pairBytes-length (a .effects),
-    )
-
-pub rowAction-length : (variables : ℕ) (costs conditions effects : List ℕ) (a : ℕ)
-    → length (recordBytes 4 (actionBody (rowAction variables costs conditions effects a))) ≡ actionNeeded variables conditions effects a
-unfolding rowAction actionNeeded
-rowAction-length variables costs conditions effects a =
-    let action = rowAction variables costs conditions effects a in
-    omega (arith, recordBytes-length 4 (actionBody action), actionBody-length action)
-
-pub actionBytes-length : (variables : ℕ) (costs conditions effects : List ℕ) (a count : ℕ)
-    → length (actionBytes (tabulateFrom a count (rowAction variables costs conditions effects))) ≡ actionsNeeded variables conditions effects a count
-unfolding actionBytes actionsNeeded
-actionBytes-length variables costs conditions effects a zero = refl
-actionBytes-length variables costs conditions effects a (suc count) =
-    let action = rowAction variables costs conditions effects in
-    length-append (recordBytes 4 (actionBody (action a))) (actionBytes (tabulateFrom (a + 1) count action))
-    ∙ ap₂ (λ (m n : ℕ). m + n) (rowAction-length variables costs conditions effects a) (actionBytes-length variables costs conditions effects (a + 1) count)
+use Rattle.files.proofs.RowLaws.{rowPairs-none, rowPairs-skip, rowPairs-next}
+use Rattle.files.proofs.Lengths.{u16-bytes-length, record-bytes-length, pair-bytes-length, variable-bytes-length, action-body-length, action-bytes-length, task-records-length}
+use Rattle.files.proofs.Writing.{placed-record, placed-signed}
 
 -- the bytes that actions take, as a loop that counts down adds them up
 pub actionsNeeded-none : (variables : ℕ) (conditions effects : List ℕ) (a left : ℕ) → left ≤ 0 → actionsNeeded variables conditions effects a left ≡ 0
@@ -63,22 +28,6 @@ pub actionsNeeded-next : (variables : ℕ) (conditions effects : List ℕ) (a le
     → actionsNeeded variables conditions effects a left ≡ actionNeeded variables conditions effects a + actionsNeeded variables conditions effects (a + 1) (left - 1)
 unfolding actionsNeeded
 actionsNeeded-next variables conditions effects a left h = ap (actionsNeeded variables conditions effects a) (one-more left h)
-
--- the pairs of a row, as a loop that counts down finds them
-pub rowPairs-none : (row : List ℕ) (base v left : ℕ) → left ≤ 0 → rowPairs row base v left ≡ []
-unfolding rowPairs
-rowPairs-none row base v left h = ap (rowPairs row base v) (none-left left h)
-
-module _ (row : List ℕ) (base v left value : ℕ) (more : 0 < left) (is : value ≡ getD row (base + v) 0) where
-  pub rowPairs-skip : value ≡ 255 → rowPairs row base v left ≡ rowPairs row base (v + 1) (left - 1)
-  unfolding rowPairs
-  rowPairs-skip e = ap (rowPairs row base v) (one-more left more) ∙ rw (eq-eqb (getD row (base + v) 0) 255 (sym is ∙ e)) refl
-
-  pub rowPairs-next : (value ≡ 255 → ⊥) → rowPairs row base v left ≡ pair v value ∷ rowPairs row base (v + 1) (left - 1)
-  unfolding rowPairs
-  rowPairs-next d =
-      ap (rowPairs row base v) (one-more left more)
-      ∙ rw (ne-eqb (getD row (base + v) 0) 255 (λ q. d (is ∙ q))) (ap (λ (n : ℕ). pair v n ∷ rowPairs row base (v + 1) (left - 1)) (sym is))
 
 -- the bytes of a row's pairs, as a loop that counts down writes them
 pub placed-pairs-none : (b : List ℕ) (at : ℕ) (row : List ℕ) (base v left : ℕ) → left ≤ 0 → b ≡ placed b at (pairBytes (rowPairs row base v left))
@@ -93,7 +42,7 @@ module _ (b : List ℕ) (at : ℕ) (row : List ℕ) (base v left value : ℕ) (m
       → placed c next (pairBytes (rowPairs row base (v + 1) (left - 1))) ≡ placed b at (pairBytes (rowPairs row base v left))
   placed-pairs-skip c next p q e =
       ap₂ (λ (l : List ℕ) (n : ℕ). placed l n (pairBytes (rowPairs row base (v + 1) (left - 1)))) p q
-      ∙ sym (ap (λ (l : List Pair). placed b at (pairBytes l)) (rowPairs-skip row base v left value more is e))
+      ∙ sym (ap (λ (l : List Pair). placed b at (pairBytes l)) (rowPairs-skip row base v left value (one-more left more) is e))
 
   pub placed-pairs-next : (c : List ℕ) (next : ℕ)
       → c ≡ placed b at (u16Bytes v ++ u16Bytes value)
@@ -103,7 +52,7 @@ module _ (b : List ℕ) (at : ℕ) (row : List ℕ) (base v left value : ℕ) (m
   unfolding pairBytes u16Bytes
   placed-pairs-next c next p q d =
       placed-then b c at next (u16Bytes v ++ u16Bytes value) (pairBytes (rowPairs row base (v + 1) (left - 1))) p q
-      ∙ sym (ap (λ (l : List Pair). placed b at (pairBytes l)) (rowPairs-next row base v left value more is d))
+      ∙ sym (ap (λ (l : List Pair). placed b at (pairBytes l)) (rowPairs-next row base v left value (one-more left more) is d))
 
 -- the record of an action from its parts: head, cost and counts, conditions, effects
 pub placed-action : (action : Action) (b head counts conditions effects : List ℕ) (at asked set middle : ℕ)
@@ -120,27 +69,10 @@ placed-action action b head counts conditions effects at asked set middle p q h 
     let counted = u32Bytes (action .cost) ++ u16Bytes (length (action .conditions)) ++ u16Bytes (length (action .effects)) in
     let counts-placed : counts ≡ placed head (at + 4) counted = n ∙ ap₂ (λ (i j : ℕ). placed head (at + 4) (u32Bytes (action .cost) ++ u16Bytes i ++ u16Bytes j)) p q in
     let conditions-placed : conditions ≡ placed head (at + 4) (counted ++ pairBytes (action .conditions)) = e ∙ placed-then head counts (at + 4) (at + 12) counted (pairBytes (action .conditions)) counts-placed (omega arith) in
-    placed-record b head effects at 4 (8 + 4 * asked + 4 * set) (actionBody action) h (omega (arith, actionBody-length action))
+    placed-record b head effects at 4 (8 + 4 * asked + 4 * set) (actionBody action) h (omega (arith, action-body-length action))
     (f
     ∙ placed-then head conditions (at + 4) middle (counted ++ pairBytes (action .conditions)) (pairBytes (action .effects)) conditions-placed
-    (omega (arith, pairBytes-length (action .conditions))))
-
--- the records of a task
-pub taskRecords-length : (t : Task) → length (taskRecords t) ≡ 12 + 8 * variableCount t + 4 * length (t .goal) + length (actionBytes (t .actions))
-unfolding taskRecords
-taskRecords-length t =
-    simp (length-append, recordBytes-length, u16Bytes-length, variableBytes-length, pairBytes-length) (omega arith)
-
-pub task-file-length : (d : Arrays) (signer : ℕ) → length (taskFile (held d) signer) ≡ taskNeeded (d .variables) (d .actions) (d .goal) (d .conditions) (d .effects)
-unfolding taskFile held taskNeeded
-task-file-length d signer =
-    omega (
-      arith,
-      signed-length signer (taskRecords (held d)),
-      taskRecords-length (held d),
-      tabulateFrom-length 0 (d .variables) (rowVariable (d .sizes) (d .starts)),
-      actionBytes-length (d .variables) (d .costs) (d .conditions) (d .effects) 0 (d .actions),
-    )
+    (omega (arith, pair-bytes-length (action .conditions))))
 
 -- the file of a task from its parts: header, variables, goal, actions, sign-off
 pub placed-task : (d : Arrays) (signer : ℕ) (b header variables goal actions all : List ℕ) (first end : ℕ)
@@ -155,15 +87,15 @@ pub placed-task : (d : Arrays) (signer : ℕ) (b header variables goal actions a
 unfolding taskFile taskRecords held
 placed-task d signer b header variables goal actions all first end h v g f a e s =
     let t = held d in
-    let counted = tabulateFrom-length 0 (d .variables) (rowVariable (d .sizes) (d .starts)) in
-    let numbered = tabulateFrom-length 0 (d .actions) (rowAction (d .variables) (d .costs) (d .conditions) (d .effects)) in
+    let counted = tabulateFrom-length (rowVariable (d .sizes) (d .starts)) 0 (d .variables) in
+    let numbered = tabulateFrom-length (rowAction (d .variables) (d .costs) (d .conditions) (d .effects)) 0 (d .actions) in
     let toHeader = recordBytes 1 (u16Bytes (variableCount t) ++ u16Bytes (actionCount t)) in
     let toVariables = toHeader ++ variableBytes (t .variables) in
     let toGoal = toVariables ++ recordBytes 3 (pairBytes (t .goal)) in
     let header-placed : header ≡ placed b 0 toHeader = h ∙ sym (ap₂ (λ (m n : ℕ). placed b 0 (recordBytes 1 (u16Bytes m ++ u16Bytes n))) counted numbered) in
-    let variables-placed : variables ≡ placed b 0 toVariables = v ∙ placed-then b header 0 8 toHeader (variableBytes (t .variables)) header-placed (simp (recordBytes-length, length-append, u16Bytes-length) (omega arith)) in
-    let goal-placed : goal ≡ placed b 0 toGoal = g ∙ placed-then b variables 0 (8 + 8 * d .variables) toVariables (recordBytes 3 (pairBytes (t .goal))) variables-placed (simp (recordBytes-length, length-append, u16Bytes-length, variableBytes-length) (omega arith)) in
-    let actions-placed : actions ≡ placed b 0 (taskRecords t) = a ∙ placed-then b goal 0 first toGoal (actionBytes (t .actions)) goal-placed (simp (recordBytes-length, length-append, u16Bytes-length, variableBytes-length, pairBytes-length) (omega arith)) in
+    let variables-placed : variables ≡ placed b 0 toVariables = v ∙ placed-then b header 0 8 toHeader (variableBytes (t .variables)) header-placed (simp (record-bytes-length, length-append, u16-bytes-length) (omega arith)) in
+    let goal-placed : goal ≡ placed b 0 toGoal = g ∙ placed-then b variables 0 (8 + 8 * d .variables) toVariables (recordBytes 3 (pairBytes (t .goal))) variables-placed (simp (record-bytes-length, length-append, u16-bytes-length, variable-bytes-length) (omega arith)) in
+    let actions-placed : actions ≡ placed b 0 (taskRecords t) = a ∙ placed-then b goal 0 first toGoal (actionBytes (t .actions)) goal-placed (simp (record-bytes-length, length-append, u16-bytes-length, variable-bytes-length, pair-bytes-length) (omega arith)) in
     placed-signed b actions all end signer (taskRecords t) actions-placed
-    (omega (arith, taskRecords-length t, actionBytes-length (d .variables) (d .costs) (d .conditions) (d .effects) 0 (d .actions)))
+    (omega (arith, task-records-length t, action-bytes-length (d .variables) (d .costs) (d .conditions) (d .effects) 0 (d .actions)))
     s

@@ -6,7 +6,8 @@ use borrow.Author.Needs.{needs}
 use Rattle.files.specs.PlanFile.{planFile}
 use Rattle.files.specs.Records.{numberBytes}
 use Rattle.files.proofs.Placed.{placed-overwrite}
-use Rattle.files.proofs.Writing.{placed-record, placed-signed, recordBytes-length, numberBytes-length, plan-file-length}
+use Rattle.files.proofs.Lengths.{number-bytes-length, number-record-length, plan-file-length}
+use Rattle.files.proofs.Writing.{placed-record, placed-signed}
 use Rattle.files.proofs.plan.write.Statement.{statement}
 use Rattle.files.proofs.plan.write.Tie as tie
 
@@ -34,8 +35,8 @@ returns c =
     let args = c .before .before .before .before .before .before .before .before .before .before .before .before .before .before .args in
     let plan = now (args .plan) in
     placed-signed _ _ _ _ _ _
-    (placed-record _ _ _ 0 8 _ (numberBytes plan) (c .before .before .before .before .before .before .before .before .before .before .put-head .ensures) (omega (arith, numberBytes-length plan)) (c .before .before .before .before .before .before .put-steps .ensures))
-    (omega (arith, recordBytes-length 8 (numberBytes plan), numberBytes-length plan))
+    (placed-record _ _ _ 0 8 _ (numberBytes plan) (c .before .before .before .before .before .before .before .before .before .before .put-head .ensures) (omega (arith, number-bytes-length plan)) (c .before .before .before .before .before .before .put-steps .ensures))
+    (omega (arith, number-record-length 8 plan))
     (c .before .before .put-sign-off .ensures)
     ∙ placed-overwrite (now (args .buffer)) (planFile plan (args .signer)) (omega (arith, plan-file-length plan (args .signer)))
 

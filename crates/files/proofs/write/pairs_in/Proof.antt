@@ -7,7 +7,8 @@ use lib.ListN.{length}
 use denote.Ref.{now}
 use borrow.Author.Needs.{needs}
 use Rattle.files.specs.Dense.{rowPairs}
-use Rattle.files.proofs.WritingTasks.{rowPairs-none, rowPairs-next, rowPairs-skip}
+use Rattle.files.proofs.Countdown.{one-more}
+use Rattle.files.proofs.RowLaws.{rowPairs-none, rowPairs-next, rowPairs-skip}
 use Rattle.files.proofs.write.pairs_in.Statement.{statement}
 use Rattle.files.proofs.write.pairs_in.Tie as tie
 
@@ -48,8 +49,8 @@ loop-again c =
     let more = c .before .before .loop-test .taken in
     let is = c .before .byte-at .ensures .0 in
     ⊎-elim
-    (λ w. omega (arith, ap length (rowPairs-next (now (args .rows)) (args .base) (loop .v) (loop .left) _ more is (w .0 .taken))))
-    (λ w. omega (arith, ap length (rowPairs-skip (now (args .rows)) (args .base) (loop .v) (loop .left) _ more is (w .0 .left))))
+    (λ w. omega (arith, ap length (rowPairs-next (now (args .rows)) (args .base) (loop .v) (loop .left) _ (one-more _ more) is (w .0 .taken))))
+    (λ w. omega (arith, ap length (rowPairs-skip (now (args .rows)) (args .base) (loop .v) (loop .left) _ (one-more _ more) is (w .0 .left))))
     (c .if1 .came)
 
 returns : tie.Need-returns Inv-loop μ-loop

@@ -12,8 +12,9 @@ use Rattle.files.specs.Lengths.{actionsNeeded}
 use Rattle.files.specs.Records.{recordBytes}
 use Rattle.files.specs.Task.{Action}
 use Rattle.files.specs.TaskFile.{actionBody, actionBytes}
+use Rattle.files.proofs.Lengths.{row-action-length}
 use Rattle.files.proofs.Writing.{placed-none, placed-next}
-use Rattle.files.proofs.WritingTasks.{rowAction-length, actionsNeeded-none, actionsNeeded-next}
+use Rattle.files.proofs.WritingTasks.{actionsNeeded-none, actionsNeeded-next}
 use Rattle.files.proofs.write.put_actions.Statement.{statement}
 use Rattle.files.proofs.write.put_actions.Tie as tie
 
@@ -52,7 +53,7 @@ loop-again c =
     let args = c .before .before .before .before .before .before .before .before .before .before .args in
     let loop = c .before .before .before .before .before .loop in
     let next = actionsNeeded-next (args .variables) (now (args .conditions)) (now (args .effects)) (loop .a) (loop .left) (c .before .before .before .before .loop-test .taken) in
-    let written = rowAction-length (args .variables) (now (args .costs)) (now (args .conditions)) (now (args .effects)) (loop .a) in (
+    let written = row-action-length (args .variables) (now (args .costs)) (now (args .conditions)) (now (args .effects)) (loop .a) in (
       placed-next actionBytes (rowAction (args .variables) (now (args .costs)) (now (args .conditions)) (now (args .effects))) (loop .buffer) (loop .place) (loop .a) (loop .left) (λ (action : Action). recordBytes 4 (actionBody action)) _ _ (c .before .before .before .before .loop-test .taken) refl
           (c .before .before .put-action .ensures .0) (omega arith)
           ∙ loop .inv .0,

@@ -3,8 +3,8 @@ use native.Mathlib.Omega.{arith}
 use denote.Ref.{now}
 use borrow.Author.Needs.{needs}
 use Rattle.files.specs.Dense.{rowPairs}
+use Rattle.files.proofs.Lengths.{pair-bytes-length}
 use Rattle.files.proofs.Writing.{placed-record}
-use Rattle.files.proofs.WritingTasks.{pairBytes-length}
 use Rattle.files.proofs.write.put_goal.Statement.{statement}
 use Rattle.files.proofs.write.put_goal.Tie as tie
 
@@ -29,7 +29,7 @@ same-length c = search needs
 returns : tie.Need-returns
 returns c =
     let args = c .before .before .before .before .before .before .before .before .before .before .before .args in (
-      placed-record _ _ _ _ _ _ _ (c .before .before .before .before .before .before .put-head .ensures) (omega (arith, pairBytes-length (rowPairs (now (args .goal)) 0 0 (args .variables)))) (c .before .before .put-pairs .ensures .0),
+      placed-record _ _ _ _ _ _ _ (c .before .before .before .before .before .before .put-head .ensures) (omega (arith, pair-bytes-length (rowPairs (now (args .goal)) 0 0 (args .variables)))) (c .before .before .put-pairs .ensures .0),
       c .before .before .put-pairs .ensures .1,
     )
 

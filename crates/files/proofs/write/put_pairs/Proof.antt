@@ -9,7 +9,9 @@ use borrow.Author.Needs.{needs}
 use Rattle.files.specs.Bytes.{placed}
 use Rattle.files.specs.Dense.{rowPairs}
 use Rattle.files.specs.TaskFile.{pairBytes}
-use Rattle.files.proofs.WritingTasks.{rowPairs-none, rowPairs-next, rowPairs-skip, placed-pairs-none, placed-pairs-next, placed-pairs-skip}
+use Rattle.files.proofs.Countdown.{one-more}
+use Rattle.files.proofs.RowLaws.{rowPairs-none, rowPairs-next, rowPairs-skip}
+use Rattle.files.proofs.WritingTasks.{placed-pairs-none, placed-pairs-next, placed-pairs-skip}
 use Rattle.files.proofs.write.put_pairs.Statement.{statement}
 use Rattle.files.proofs.write.put_pairs.Tie as tie
 
@@ -36,13 +38,13 @@ put-pair-requires : tie.Need-put-pair-requires Inv-loop μ-loop
 put-pair-requires c κs =
     let args = c .before .before .before .before .before .before .before .args in
     let loop = c .before .before .before .before .loop in
-    omega (arith, ap length (rowPairs-next (now (args .rows)) (args .base) (loop .v) (loop .left) _ (c .before .before .before .loop-test .taken) (c .before .before .byte-at .ensures .0) (c .before .if1 .taken)))
+    omega (arith, ap length (rowPairs-next (now (args .rows)) (args .base) (loop .v) (loop .left) _ (one-more _ (c .before .before .before .loop-test .taken)) (c .before .before .byte-at .ensures .0) (c .before .if1 .taken)))
 
 add-place : tie.Need-add-place Inv-loop μ-loop
 add-place c =
     let args = c .before .before .before .before .before .before .before .before .before .before .args in
     let loop = c .before .before .before .before .before .before .before .loop in
-    omega (arith, ap length (rowPairs-next (now (args .rows)) (args .base) (loop .v) (loop .left) _ (c .before .before .before .before .before .before .loop-test .taken) (c .before .before .before .before .before .byte-at .ensures .0) (c .before .before .before .before .if1 .taken)))
+    omega (arith, ap length (rowPairs-next (now (args .rows)) (args .base) (loop .v) (loop .left) _ (one-more _ (c .before .before .before .before .before .before .loop-test .taken)) (c .before .before .before .before .before .byte-at .ensures .0) (c .before .before .before .before .if1 .taken)))
 
 add-v : tie.Need-add-v Inv-loop μ-loop
 add-v c = search needs
@@ -62,13 +64,13 @@ loop-again c =
     ⊎-elim
     (λ w. (
       placed-pairs-next _ _ _ _ _ _ _ more is (c .if1 .buffer) (c .if1 .place) (w .5 ∙ w .2 .ensures) (w .6) (w .0 .taken) ∙ loop .inv .0,
-      omega (arith, ap length (rowPairs-next (now (args .rows)) (args .base) (loop .v) (loop .left) _ more is (w .0 .taken))),
+      omega (arith, ap length (rowPairs-next (now (args .rows)) (args .base) (loop .v) (loop .left) _ (one-more _ more) is (w .0 .taken))),
       omega arith,
       omega (arith, ap length (w .5)),
     ))
     (λ w. (
       placed-pairs-skip _ _ _ _ _ _ _ more is (c .if1 .buffer) (c .if1 .place) (w .1) (w .2) (w .0 .left) ∙ loop .inv .0,
-      omega (arith, ap length (rowPairs-skip (now (args .rows)) (args .base) (loop .v) (loop .left) _ more is (w .0 .left))),
+      omega (arith, ap length (rowPairs-skip (now (args .rows)) (args .base) (loop .v) (loop .left) _ (one-more _ more) is (w .0 .left))),
       omega arith,
       omega (arith, ap length (w .1)),
     ))

@@ -7,7 +7,8 @@ use Rattle.files.specs.Dense.{held, arrays}
 use Rattle.files.specs.Lengths.{taskNeeded}
 use Rattle.files.specs.TaskFile.{taskFile}
 use Rattle.files.proofs.Placed.{placed-overwrite}
-use Rattle.files.proofs.WritingTasks.{placed-task, task-file-length}
+use Rattle.files.proofs.Lengths.{task-file-length}
+use Rattle.files.proofs.WritingTasks.{placed-task}
 use Rattle.files.proofs.write.write_task.Statement.{statement}
 use Rattle.files.proofs.write.write_task.Tie as tie
 

@@ -11,8 +11,9 @@ use Rattle.files.specs.Dense.{rowOrigin}
 use Rattle.files.specs.Lengths.{originsNeeded}
 use Rattle.files.specs.OriginFile.{VariableOrigin, originBody, variableOriginBytes}
 use Rattle.files.specs.Records.{recordBytes}
+use Rattle.files.proofs.Lengths.{row-origin-length}
 use Rattle.files.proofs.Writing.{placed-none, placed-next}
-use Rattle.files.proofs.WritingOrigins.{rowOrigin-length, originsNeeded-none, originsNeeded-next}
+use Rattle.files.proofs.WritingOrigins.{originsNeeded-none, originsNeeded-next}
 use Rattle.files.proofs.write_origin.put_origins.Statement.{statement}
 use Rattle.files.proofs.write_origin.put_origins.Tie as tie
 
@@ -52,7 +53,7 @@ loop-again c =
     let args = c .before .before .before .before .before .before .before .before .before .before .args in
     let loop = c .before .before .before .before .before .loop in
     let next = originsNeeded-next (now (args .sizes)) (loop .i) (loop .left) (c .before .before .before .before .loop-test .taken) in
-    let written = rowOrigin-length (now (args .numbers)) (now (args .sizes)) (now (args .values)) (loop .i) in (
+    let written = row-origin-length (now (args .numbers)) (now (args .sizes)) (now (args .values)) (loop .i) in (
       placed-next variableOriginBytes (rowOrigin (now (args .numbers)) (now (args .sizes)) (now (args .values))) (loop .buffer) (loop .place) (loop .i) (loop .left) (λ (o : VariableOrigin). recordBytes 6 (originBody o)) _ _ (c .before .before .before .before .loop-test .taken) refl
           (c .before .before .put-origin .ensures .0) (omega arith)
           ∙ loop .inv .0,

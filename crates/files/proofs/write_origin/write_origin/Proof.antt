@@ -7,7 +7,8 @@ use Rattle.files.specs.Dense.{heldOrigin, originArrays}
 use Rattle.files.specs.Lengths.{originNeeded}
 use Rattle.files.specs.OriginFile.{originFile}
 use Rattle.files.proofs.Placed.{placed-overwrite}
-use Rattle.files.proofs.WritingOrigins.{placed-origins, origin-file-length}
+use Rattle.files.proofs.Lengths.{origin-file-length}
+use Rattle.files.proofs.WritingOrigins.{placed-origins}
 use Rattle.files.proofs.write_origin.write_origin.Statement.{statement}
 use Rattle.files.proofs.write_origin.write_origin.Tie as tie
 
