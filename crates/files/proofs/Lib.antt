@@ -11,6 +11,7 @@ pub mod Countdown
 pub mod Tabulate
 pub mod Placed
 pub mod RowLaws
+pub mod RowValues
 pub mod Lengths
 pub mod Writing
 pub mod WritingTasks

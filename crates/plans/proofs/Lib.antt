@@ -1,4 +1,5 @@
--- Laws about the crate's definitions.
+-- Laws about the crate's definitions: the order on cost and steps, plans by their steps, and rows of entries as states.
 pub mod Computes
 pub mod OrderLaws
 pub mod RunLaws
+pub mod RowStates

@@ -1,6 +1,6 @@
 -- The tally of a plan: the state reached, minutes and steps; and an action as the tally takes it.
 use Prim.Native.Nat.{ℕ}
-use mathlib.Core.Bool.{cond}
+use mathlib.Core.Bool.{Bool, true, cond}
 use mathlib.Core.List.{List}
 use lib.Dec.{eqb}
 use lib.ListN.{getD}
@@ -19,6 +19,10 @@ use Rattle.plans.specs.declared.tally.Tally.{Tally}
 -- a list of values as a state
 unfoldable pub listState : List ℕ → State
 listState values v = getD values v 0
+
+-- whether a value meets a condition's entry: 255 is no condition
+unfoldable pub meetsEntry : ℕ → ℕ → Bool
+meetsEntry condition value = cond (eqb condition 255) true (eqb condition value)
 
 -- the value that an effect's entry leaves: 255 is no effect
 unfoldable pub afterEntry : ℕ → ℕ → ℕ

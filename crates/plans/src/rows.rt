@@ -6,7 +6,7 @@ ghost use lib.ListN.{length, getD};
 ghost use Rattle.files.specs.Dense.{rowPairs};
 ghost use Rattle.files.specs.Task.{valueIn};
 ghost use Rattle.plans.specs.State.{allHold};
-ghost use Rattle.plans.specs.Tally.{listState, afterEntry};
+ghost use Rattle.plans.specs.Tally.{listState, meetsEntry, afterEntry};
 
 // The first `count` entries of the row at `base`; no pair for the other variables.
 pub fn row_at(rows: &[u8], base: usize, count: usize) -> [u8; 64]
@@ -43,13 +43,23 @@ pub fn all_hold(row: [u8; 64], state: [u8; 64]) -> bool
     let mut v: usize = 0;
     let mut left: usize = 64;
     while 0 < left {
-        if row[v] != 255 && row[v] != state[v] {
+        if !meets(row[v], state[v]) {
             return false;
         }
         v += 1;
         left -= 1;
     }
     true
+}
+
+// Whether a value meets a condition's entry.
+fn meets(condition: u8, value: u8) -> bool
+    ensures { λ r. ⌜ r ≡ meetsEntry condition value ⌝ }
+{
+    if condition == 255 {
+        return true;
+    }
+    condition == value
 }
 
 // The state after the effects of a row.

@@ -2,6 +2,7 @@ use Rattle.plans.proofs.rows.all_hold.Statement.{statement}
 use Rattle.plans.proofs.rows.all_hold.Tie as tie
 use Rattle.plans.proofs.rows.all_hold.Reads as reads
 use Rattle.plans.proofs.rows.all_hold.Lts as lts
+use Rattle.plans.proofs.rows.meets.Reads as meets-reads
 
 abbrev Inv-loop : tie.InvT-loop
 Inv-loop row state v₀ left₀ v left = ?
@@ -13,17 +14,17 @@ abbrev μ-loop : tie.MeasureT-loop
 loop-holds : tie.Need-loop-holds Inv-loop μ-loop
 loop-holds c = ?
 
--- src/rows.rt:46:12
-array-read-if1 : tie.Need-array-read-if1 Inv-loop μ-loop
-array-read-if1 c = ?
+-- src/rows.rt:46:19
+array-read-meets : tie.Need-array-read-meets Inv-loop μ-loop
+array-read-meets c = ?
 
--- src/rows.rt:46:29
-array-read-if2 : tie.Need-array-read-if2 Inv-loop μ-loop
-array-read-if2 c = ?
+-- src/rows.rt:46:27
+array-read-meets-2 : tie.Need-array-read-meets-2 Inv-loop μ-loop
+array-read-meets-2 c = ?
 
--- src/rows.rt:46:39
-array-read-if2-2 : tie.Need-array-read-if2-2 Inv-loop μ-loop
-array-read-if2-2 c = ?
+-- src/rows.rt:46:13
+meets-requires : tie.Need-meets-requires Inv-loop μ-loop
+meets-requires c κs = ?
 
 -- src/rows.rt:47:13
 returns : tie.Need-returns Inv-loop μ-loop
@@ -56,9 +57,9 @@ all-hold-spec =
     Inv-loop
     μ-loop
     loop-holds
-    array-read-if1
-    array-read-if2
-    array-read-if2-2
+    array-read-meets
+    array-read-meets-2
+    meets-requires
     returns
     add-v
     sub-left
