@@ -1,5 +1,5 @@
 // Bytes in hexadecimal, with repeats.
-ghost use Prim.Native.Nat.{_≤_, _<_};
+ghost use Prim.Native.Nat.{_≤_};
 ghost use lib.ListN.{length};
 
 // What is read so far: how many bytes, the last of them, a first digit (16: none), and how often
@@ -122,8 +122,8 @@ fn step(h: Hex, letter: usize, file: &mut [u8]) -> Hex {
 }
 
 // Reads the bytes that the text has from `from` up to `to` into `file`, and says how many.
-pub fn read(text: &[u8], from: usize, to: usize, file: &mut [u8; 70000]) -> usize
-    ensures { λ r. ⌜ r ≤ 70000 ⌝ }
+pub fn read(text: &[u8], from: usize, to: usize, file: &mut [u8]) -> usize
+    ensures { λ r. ⌜ r ≤ length (now (file .exit)) ⌝ }
 {
     let mut h = Hex {
         count: 0,
@@ -139,5 +139,9 @@ pub fn read(text: &[u8], from: usize, to: usize, file: &mut [u8; 70000]) -> usiz
     }
     h = step(h, 32, file);
     let count = h.count;
-    if count < 70000 { count } else { 70000 }
+    if count < file.len() {
+        count
+    } else {
+        file.len()
+    }
 }

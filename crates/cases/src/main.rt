@@ -17,7 +17,9 @@ fn main() {
 }
 
 // The lines of the first `read` bytes.
-fn run_all(text: &[u8], read: usize, file: &mut [u8; 70000], written: &mut [u8; 70000]) {
+fn run_all(text: &[u8], read: usize, file: &mut [u8], written: &mut [u8; 70000])
+    requires { ⌜ read ≤ length (now text) ⌝ }
+{
     let mut at: usize = 0;
     while at < read {
         let end = lines::line_end(text, at, read);

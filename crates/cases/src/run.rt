@@ -1,18 +1,10 @@
 // What a line calls.
-ghost use Prim.Native.Nat.{_≤_, _<_};
-ghost use lib.ListN.{length};
 use crate::hex;
 use crate::lines;
 
 // t: a task file is checked. o: an origin file is checked. p: a plan file is checked against a
 // task of so many actions as the first byte says. a: a task file is read and written again.
-pub fn run_line(
-    text: &[u8],
-    from: usize,
-    to: usize,
-    file: &mut [u8; 70000],
-    written: &mut [u8; 70000],
-) {
+pub fn run_line(text: &[u8], from: usize, to: usize, file: &mut [u8], written: &mut [u8; 70000]) {
     let letter = files::bytes::byte_at(text, from);
     if letter == 35 {
         lines::print_part(text, from, to);
@@ -20,29 +12,27 @@ pub fn run_line(
         return;
     }
     let length = hex::read(text, from, to, file);
-    run_call(letter, file, length, written);
+    run_call(letter, &file[..length], written);
     lines::print_byte(10);
 }
 
-fn run_call(letter: usize, file: &[u8], length: usize, written: &mut [u8; 70000])
-    requires { ⌜ length ≤ lib.ListN.length (now file) ⌝ }
-{
+fn run_call(letter: usize, file: &[u8], written: &mut [u8; 70000]) {
     if letter == 116 {
-        lines::print_outcome(files::check_task(&file[..length]));
+        lines::print_outcome(files::check_task(file));
     }
     if letter == 111 {
-        lines::print_outcome(files::check_origin(&file[..length]));
+        lines::print_outcome(files::check_origin(file));
     }
-    if letter == 112 && 0 < length {
+    if letter == 112 && 0 < file.len() {
         let actions = files::bytes::byte_at(file, 0);
-        lines::print_outcome(files::plan::check(&file[1..length], actions));
+        lines::print_outcome(files::plan::check(&file[1..], actions));
     }
     if letter == 97 {
-        write_again(&file[..length], written);
+        write_again(file, written);
     }
 }
 
-// Reads a task, writes it under its signer, and prints both lengths and whether all bytes agree.
+// Reads a task, and writes it again where it is accepted.
 fn write_again(file: &[u8], written: &mut [u8; 70000]) {
     let mut sizes = [0u8; 64];
     let mut starts = [0u8; 64];
@@ -59,29 +49,60 @@ fn write_again(file: &[u8], written: &mut [u8; 70000]) {
         &mut conditions,
         &mut effects,
     );
-    let variables = files::task::variables_in(file);
-    let actions = files::task::actions_in(file);
-    if outcome.number != 0 || 64 < variables || 512 < actions || 65536 < file.len() {
+    if outcome.number != 0 {
         lines::print_outcome(outcome);
         return;
     }
-    let needed = files::write::task_needed(variables, actions, &goal, &conditions, &effects);
-    if 70000 < needed {
-        return;
-    }
-    let signer = files::records::signer(file);
-    files::write::write_task(
+    write_held(
+        file,
         written,
-        variables,
-        actions,
         &sizes,
         &starts,
         &goal,
         &costs,
         &conditions,
         &effects,
-        signer,
     );
+}
+
+// Writes the task that arrays hold under the signer of `file`, its own file, and compares the two.
+// An accepted file passes both tests.
+fn write_held(
+    file: &[u8],
+    written: &mut [u8; 70000],
+    sizes: &[u8; 64],
+    starts: &[u8; 64],
+    goal: &[u8; 64],
+    costs: &[u32; 512],
+    conditions: &[u8; 32768],
+    effects: &[u8; 32768],
+) {
+    let variables = files::task::variables_in(file);
+    let actions = files::task::actions_in(file);
+    if 64 < variables || 512 < actions || 65536 < file.len() {
+        return;
+    }
+    let needed = files::write::task_needed(variables, actions, goal, conditions, effects);
+    if 70000 < needed {
+        return;
+    }
+    files::write::write_task(
+        written,
+        variables,
+        actions,
+        sizes,
+        starts,
+        goal,
+        costs,
+        conditions,
+        effects,
+        files::records::signer(file),
+    );
+    print_alike(file, needed, written);
+}
+
+// Prints both lengths, and how many bytes at the front agree.
+fn print_alike(file: &[u8], needed: usize, written: &[u8]) {
     lines::print_number(file.len());
     lines::print_byte(b' ');
     lines::print_number(needed);
