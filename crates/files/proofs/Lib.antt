@@ -9,6 +9,7 @@ pub mod Whole
 pub mod ReadAs
 pub mod Countdown
 pub mod Tabulate
+pub mod Filling
 pub mod Placed
 pub mod RowLaws
 pub mod RowValues

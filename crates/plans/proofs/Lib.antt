@@ -3,3 +3,5 @@ pub mod Computes
 pub mod OrderLaws
 pub mod RunLaws
 pub mod RowStates
+pub mod WalkLaws
+pub mod CheckLaws

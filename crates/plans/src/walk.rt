@@ -27,6 +27,13 @@ pub fn refused(outcome: files::Outcome) -> Checked
     }
 }
 
+// The cost of an action as minutes.
+fn minutes_of(cost: u32) -> Minutes
+    ensures { λ r. ⌜ (r .0 ≡ cost) × (r .0 < 4294967296) ⌝ }
+{
+    Minutes(cost as u64)
+}
+
 // The row of action `a`.
 fn action_at(
     a: usize,
@@ -41,8 +48,9 @@ fn action_at(
     let base = 64 * a;
     let asked = rows::row_at(conditions, base, variables);
     let set = rows::row_at(effects, base, variables);
+    let cost = minutes_of(costs[a]);
     Row {
-        cost: Minutes(costs[a] as u64),
+        cost: cost,
         conditions: asked,
         effects: set,
     }

@@ -1,54 +1,52 @@
+-- The loop's invariant: the conditions of the entries that are left hold exactly where all do.
+use Prim.Native.Nat.{ℕ, _+_, _-_, _≤_, _<_}
+use mathlib.Core.Path.{_≡_, refl, sym, ap, _∙_}
+use Rattle.files.specs.Dense.{rowPairs}
+use Rattle.plans.specs.State.{allHold}
+use Rattle.plans.specs.Tally.{listState}
+use Rattle.plans.proofs.RowStates.{hold-next, hold-stop, hold-none}
+use borrow.Author.Needs.{needs}
+use borrow.Author.Tests.{not-true, not-false}
 use Rattle.plans.proofs.rows.all_hold.Statement.{statement}
 use Rattle.plans.proofs.rows.all_hold.Tie as tie
-use Rattle.plans.proofs.rows.all_hold.Reads as reads
-use Rattle.plans.proofs.rows.all_hold.Lts as lts
-use Rattle.plans.proofs.rows.meets.Reads as meets-reads
 
 abbrev Inv-loop : tie.InvT-loop
-Inv-loop row state v₀ left₀ v left = ?
+Inv-loop row state v₀ left₀ v left =
+    (allHold (rowPairs row 0 v left) (listState state) ≡ allHold (rowPairs row 0 0 64) (listState state)) × (v + left ≡ 64)
 
 abbrev μ-loop : tie.MeasureT-loop
-μ-loop row state v₀ left₀ v left = ?
+μ-loop row state v₀ left₀ v left =
+    left
 
--- src/rows.rt:45:5
 loop-holds : tie.Need-loop-holds Inv-loop μ-loop
-loop-holds c = ?
+loop-holds c = search needs
 
--- src/rows.rt:46:19
 array-read-meets : tie.Need-array-read-meets Inv-loop μ-loop
-array-read-meets c = ?
+array-read-meets c = search needs
 
--- src/rows.rt:46:27
 array-read-meets-2 : tie.Need-array-read-meets-2 Inv-loop μ-loop
-array-read-meets-2 c = ?
+array-read-meets-2 c = search needs
 
--- src/rows.rt:46:13
 meets-requires : tie.Need-meets-requires Inv-loop μ-loop
-meets-requires c κs = ?
+meets-requires c κs = search needs
 
--- src/rows.rt:47:13
 returns : tie.Need-returns Inv-loop μ-loop
-returns c = ?
+returns c = search (hold-stop, not-true)
 
--- src/rows.rt:49:9
 add-v : tie.Need-add-v Inv-loop μ-loop
-add-v c = ?
+add-v c = search needs
 
--- src/rows.rt:50:9
 sub-left : tie.Need-sub-left Inv-loop μ-loop
-sub-left c = ?
+sub-left c = search needs
 
--- src/rows.rt:45:5
 loop-less : tie.Need-loop-less Inv-loop μ-loop
-loop-less c = ?
+loop-less c = search needs
 
--- src/rows.rt:45:5
 loop-again : tie.Need-loop-again Inv-loop μ-loop
-loop-again c = ?
+loop-again c = search (needs, hold-next, not-false)
 
--- src/rows.rt:40:1
 returns-2 : tie.Need-returns-2 Inv-loop μ-loop
-returns-2 c = ?
+returns-2 c = search hold-none
 
 pub all-hold-spec : {M : Type 1} → statement M
 all-hold-spec =

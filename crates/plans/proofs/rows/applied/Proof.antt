@@ -1,50 +1,64 @@
+-- The loop's invariant: each entry before `v` is as the effects leave it, and each from `v` on is as it was.
+use Prim.Native.Nat.{ℕ, _+_, _-_, _≤_, _<_}
+use mathlib.Core.Path.{_≡_, refl, sym, ap, _∙_}
+use native.Mathlib.Omega.{arith}
+use lib.ListN.{length, length-set, getD}
+use Rattle.files.proofs.Filling.{filled-before, filled-after}
+use Rattle.plans.specs.Tally.{afterEntry}
+use Rattle.plans.proofs.RowStates.{effects-applied}
+use borrow.Author.Needs.{needs}
 use Rattle.plans.proofs.rows.applied.Statement.{statement}
 use Rattle.plans.proofs.rows.applied.Tie as tie
-use Rattle.plans.proofs.rows.applied.Reads as reads
-use Rattle.plans.proofs.rows.applied.Lts as lts
-use Rattle.plans.proofs.rows.entry_after.Reads as entry-after-reads
 
 abbrev Inv-loop : tie.InvT-loop
-Inv-loop row next₀ v₀ next v = ?
+Inv-loop row next₀ v₀ next v =
+    ((w : ℕ) → w < v → getD next w 0 ≡ afterEntry (getD row w 0) (getD next₀ w 0))
+    × ((w : ℕ) → v ≤ w → getD next w 0 ≡ getD next₀ w 0)
+    × (v ≤ 64)
+    × (length next ≡ 64)
 
 abbrev μ-loop : tie.MeasureT-loop
-μ-loop row next₀ v₀ next v = ?
+μ-loop row next₀ v₀ next v =
+    64 - v
 
--- src/rows.rt:61:5
 loop-holds : tie.Need-loop-holds Inv-loop μ-loop
-loop-holds c = ?
+loop-holds c = (λ w h. absurd (omega arith), λ w h. refl, omega arith, omega arith)
 
--- src/rows.rt:62:31
 array-read-entry-after : tie.Need-array-read-entry-after Inv-loop μ-loop
-array-read-entry-after c = ?
+array-read-entry-after c = search needs
 
--- src/rows.rt:62:39
 array-read-entry-after-2 : tie.Need-array-read-entry-after-2 Inv-loop μ-loop
-array-read-entry-after-2 c = ?
+array-read-entry-after-2 c = search needs
 
--- src/rows.rt:62:19
 entry-after-requires : tie.Need-entry-after-requires Inv-loop μ-loop
-entry-after-requires c κs = ?
+entry-after-requires c κs = search needs
 
--- src/rows.rt:62:9
 array-write-next : tie.Need-array-write-next Inv-loop μ-loop
-array-write-next c = ?
+array-write-next c = search needs
 
--- src/rows.rt:63:9
 add-v : tie.Need-add-v Inv-loop μ-loop
-add-v c = ?
+add-v c = search needs
 
--- src/rows.rt:61:5
 loop-less : tie.Need-loop-less Inv-loop μ-loop
-loop-less c = ?
+loop-less c = search needs
 
--- src/rows.rt:61:5
 loop-again : tie.Need-loop-again Inv-loop μ-loop
-loop-again c = ?
+loop-again c =
+    let l = c .before .before .loop in
+    let row = c .before .before .before .args .t1 in
+    let state = c .before .before .before .args .state in
+    let entry : c .entry-after .result ≡ afterEntry (getD row (l .v) 0) (getD state (l .v) 0) =
+    c .entry-after .ensures ∙ ap (afterEntry (getD row (l .v) 0)) (l .inv .1 (l .v) (omega arith)) in (
+      filled-before (l .next) (l .v) _ (λ w x. x ≡ afterEntry (getD row w 0) (getD state w 0)) (omega arith) (l .inv .0) entry,
+      filled-after (l .next) (l .v) _ (λ w x. x ≡ getD state w 0) (l .inv .1),
+      omega arith,
+      length-set (l .next) (l .v) _ ∙ l .inv .3,
+    )
 
--- src/rows.rt:56:1
 returns : tie.Need-returns Inv-loop μ-loop
-returns c = ?
+returns c =
+    let l = c .before .loop in
+    effects-applied (c .before .before .args .t1) (c .before .before .args .state) (l .next) (omega arith) (omega arith) (λ w h. l .inv .0 w (omega arith))
 
 pub applied-spec : {M : Type 1} → statement M
 applied-spec =

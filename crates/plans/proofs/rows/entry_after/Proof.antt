@@ -1,15 +1,14 @@
+-- An entry of 255 sets nothing; any other sets its value.
+use Rattle.plans.proofs.RowStates.{after-none, after-some}
+use borrow.Author.Needs.{needs}
 use Rattle.plans.proofs.rows.entry_after.Statement.{statement}
 use Rattle.plans.proofs.rows.entry_after.Tie as tie
-use Rattle.plans.proofs.rows.entry_after.Reads as reads
-use Rattle.plans.proofs.rows.entry_after.Lts as lts
 
--- src/rows.rt:69:1
 returns : tie.Need-returns
-returns c = ?
+returns c = search after-none
 
--- src/rows.rt:69:1
 returns-2 : tie.Need-returns-2
-returns-2 c = ?
+returns-2 c = search after-some
 
 pub entry-after-spec : {M : Type 1} → statement M
 entry-after-spec = tie.close (tie.spec returns returns-2)

@@ -1,15 +1,14 @@
+-- An entry of 255 asks nothing; any other asks its value.
+use Rattle.plans.proofs.RowStates.{meets-none, meets-some}
+use borrow.Author.Needs.{needs}
 use Rattle.plans.proofs.rows.meets.Statement.{statement}
 use Rattle.plans.proofs.rows.meets.Tie as tie
-use Rattle.plans.proofs.rows.meets.Reads as reads
-use Rattle.plans.proofs.rows.meets.Lts as lts
 
--- src/rows.rt:60:9
 returns : tie.Need-returns
-returns c = ?
+returns c = search meets-none
 
--- src/rows.rt:56:1
 returns-2 : tie.Need-returns-2
-returns-2 c = ?
+returns-2 c = search meets-some
 
 pub meets-spec : {M : Type 1} → statement M
 meets-spec = tie.close (tie.spec returns returns-2)

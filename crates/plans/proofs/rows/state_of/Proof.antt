@@ -1,41 +1,49 @@
+-- The loop's invariant: each entry before `v` is copied, and each from `v` on is 0.
+use Prim.Native.Nat.{ℕ, _+_, _-_, _≤_, _<_}
+use mathlib.Core.Path.{_≡_, refl, sym, ap, _∙_}
+use native.Mathlib.Omega.{arith}
+use lib.ListN.{length, length-set, getD}
+use Rattle.files.proofs.Filling.{filled-before, filled-after, zeros-entry}
+use denote.Ref.{now}
+use borrow.Author.Needs.{needs}
 use Rattle.plans.proofs.rows.state_of.Statement.{statement}
 use Rattle.plans.proofs.rows.state_of.Tie as tie
-use Rattle.plans.proofs.rows.state_of.Reads as reads
-use Rattle.plans.proofs.rows.state_of.Lts as lts
 
 abbrev Inv-loop : tie.InvT-loop
-Inv-loop values count state₀ v₀ state v = ?
+Inv-loop values count state₀ v₀ state v =
+    ((w : ℕ) → w < v → getD state w 0 ≡ getD values w 0) × ((w : ℕ) → v ≤ w → getD state w 0 ≡ 0) × (v ≤ count) × (length state ≡ 64)
 
 abbrev μ-loop : tie.MeasureT-loop
-μ-loop values count state₀ v₀ state v = ?
+μ-loop values count state₀ v₀ state v =
+    count - v
 
--- src/rows.rt:32:5
 loop-holds : tie.Need-loop-holds Inv-loop μ-loop
-loop-holds c = ?
+loop-holds c = (λ w h. absurd (omega arith), λ w h. zeros-entry 64 w, omega arith, refl)
 
--- src/rows.rt:33:20
 element-copy-out-state : tie.Need-element-copy-out-state Inv-loop μ-loop
-element-copy-out-state c = ?
+element-copy-out-state c = search needs
 
--- src/rows.rt:33:9
 array-write-state : tie.Need-array-write-state Inv-loop μ-loop
-array-write-state c = ?
+array-write-state c = search needs
 
--- src/rows.rt:34:9
 add-v : tie.Need-add-v Inv-loop μ-loop
-add-v c = ?
+add-v c = search needs
 
--- src/rows.rt:32:5
 loop-less : tie.Need-loop-less Inv-loop μ-loop
-loop-less c = ?
+loop-less c = search needs
 
--- src/rows.rt:32:5
 loop-again : tie.Need-loop-again Inv-loop μ-loop
-loop-again c = ?
+loop-again c =
+    let l = c .before .before .loop in
+    let values = now (c .before .before .before .args .values) in (
+      filled-before (l .state) (l .v) _ (λ w x. x ≡ getD values w 0) (omega arith) (l .inv .0) refl,
+      filled-after (l .state) (l .v) _ (λ w x. x ≡ 0) (l .inv .1),
+      omega arith,
+      length-set (l .state) (l .v) _ ∙ l .inv .3,
+    )
 
--- src/rows.rt:26:1
 returns : tie.Need-returns Inv-loop μ-loop
-returns c = ?
+returns c = (λ w h. c .before .loop .inv .0 w (omega arith), λ w h. c .before .loop .inv .1 w (omega arith))
 
 pub state-of-spec : {M : Type 1} → statement M
 state-of-spec =

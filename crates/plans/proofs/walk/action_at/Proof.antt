@@ -1,37 +1,37 @@
+-- Both rows are copied, and the cost stands beside them.
+use Prim.Native.Nat.{ℕ, _+_, _*_, _-_, _≤_, _<_}
+use mathlib.Core.Path.{_≡_, refl, sym, ap, _∙_}
+use native.Mathlib.Omega.{arith}
+use denote.Ref.{now}
+use lib.ListN.{getD}
+use Rattle.files.specs.Task.{action}
+use Rattle.files.specs.Dense.{rowAction}
+use Rattle.plans.specs.Tally.{rowOf}
 use borrow.Author.Needs.{needs}
 use Rattle.plans.proofs.walk.action_at.Statement.{statement}
 use Rattle.plans.proofs.walk.action_at.Tie as tie
-use Rattle.plans.proofs.walk.action_at.Reads as reads
-use Rattle.plans.proofs.walk.action_at.Lts as lts
-use Rattle.plans.proofs.rows.row_at.Reads as row-at-reads
 
--- src/walk.rt:41:16
 mul-base : tie.Need-mul-base
 mul-base c = search needs
 
--- src/walk.rt:42:9
 row-at-requires : tie.Need-row-at-requires
 row-at-requires c κs = search needs
 
--- src/walk.rt:43:9
 row-at-requires-2 : tie.Need-row-at-requires-2
 row-at-requires-2 c κs = search needs
 
--- src/walk.rt:45:23
-mul-t13 : tie.Need-mul-t13
-mul-t13 c = search needs
+mul-minutes-of : tie.Need-mul-minutes-of
+mul-minutes-of c = search needs
 
--- src/walk.rt:45:23
-element-copy-out-t16 : tie.Need-element-copy-out-t16
-element-copy-out-t16 c = search needs
+element-copy-out-minutes-of : tie.Need-element-copy-out-minutes-of
+element-copy-out-minutes-of c = search needs
 
--- src/walk.rt:45:23
-cast-t17 : tie.Need-cast-t17
-cast-t17 c = ?
+minutes-of-requires : tie.Need-minutes-of-requires
+minutes-of-requires c κs = search needs
 
--- src/walk.rt:31:1
 returns : tie.Need-returns
-returns c = ?
+unfolding rowOf rowAction
+returns c = (λ i. action (c .minutes-of .ensures .0 i) (c .before .before .before .before .row-at .ensures i) (c .before .before .row-at2 .ensures i), c .minutes-of .ensures .1)
 
 pub action-at-spec : {M : Type 1} → statement M
 action-at-spec =
@@ -40,7 +40,7 @@ action-at-spec =
     mul-base
     row-at-requires
     row-at-requires-2
-    mul-t13
-    element-copy-out-t16
-    cast-t17
+    mul-minutes-of
+    element-copy-out-minutes-of
+    minutes-of-requires
     returns)

@@ -1,11 +1,14 @@
+-- Cost and steps are 0.
+use mathlib.Core.Path.{_≡_, refl, sym, ap, _∙_}
+use Rattle.plans.specs.Plan.{noSteps}
+use Rattle.plans.specs.Check.{withTotal}
+use borrow.Author.Needs.{needs}
 use Rattle.plans.proofs.walk.refused.Statement.{statement}
 use Rattle.plans.proofs.walk.refused.Tie as tie
-use Rattle.plans.proofs.walk.refused.Reads as reads
-use Rattle.plans.proofs.walk.refused.Lts as lts
 
--- src/walk.rt:20:1
 returns : tie.Need-returns
-returns c = ?
+unfolding withTotal noSteps
+returns c = refl
 
 pub refused-spec : {M : Type 1} → statement M
 refused-spec = tie.close (tie.spec returns)

@@ -1,11 +1,14 @@
+-- No step is taken yet.
+use mathlib.Core.Path.{_≡_, refl, sym, ap, _∙_}
+use Rattle.plans.specs.Plan.{noSteps}
+use Rattle.plans.specs.Tally.{stateOf, totalIn}
+use borrow.Author.Needs.{needs}
 use Rattle.plans.proofs.tally.Tally.start.Statement.{statement}
 use Rattle.plans.proofs.tally.Tally.start.Tie as tie
-use Rattle.plans.proofs.tally.Tally.start.Reads as reads
-use Rattle.plans.proofs.tally.Tally.start.Lts as lts
 
--- src/tally.rt:28:5
 returns : tie.Need-returns
-returns c = ?
+unfolding stateOf totalIn noSteps
+returns c = (refl, refl)
 
 pub start-spec : {M : Type 1} → statement M
 start-spec = tie.close (tie.spec returns)
