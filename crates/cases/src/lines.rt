@@ -34,6 +34,10 @@ pub fn print_number(n: usize) {
     io::print_decimal(1, n as u64);
 }
 
+pub fn print_minutes(n: u64) {
+    io::print_decimal(1, n);
+}
+
 // Prints an outcome: number, file, place.
 pub fn print_outcome(o: files::Outcome) {
     print_number(o.number as usize);

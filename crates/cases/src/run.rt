@@ -4,6 +4,7 @@ use crate::lines;
 
 // t: a task file is checked. o: an origin file is checked. p: a plan file is checked against a
 // task of so many actions as the first byte says. a: a task file is read and written again.
+// c: the plan checker; the first two bytes say how many of the others are the task file.
 pub fn run_line(text: &[u8], from: usize, to: usize, file: &mut [u8], written: &mut [u8; 70000]) {
     let letter = files::bytes::byte_at(text, from);
     if letter == 35 {
@@ -30,6 +31,29 @@ fn run_call(letter: usize, file: &[u8], written: &mut [u8; 70000]) {
     if letter == 97 {
         write_again(file, written);
     }
+    if letter == 99 {
+        check_both(file);
+    }
+}
+
+// Checks a plan against a task, and prints the outcome, the cost and the steps.
+fn check_both(file: &[u8]) {
+    if file.len() < 2 {
+        return;
+    }
+    let middle = 2 + files::bytes::u16_at(file, 0);
+    if file.len() < middle {
+        return;
+    }
+    let checked = plans::check_plan(&file[2..middle], &file[middle..]);
+    let outcome = checked.outcome;
+    let cost = checked.cost;
+    let steps = checked.steps;
+    lines::print_outcome(outcome);
+    lines::print_byte(b' ');
+    lines::print_minutes(cost.0);
+    lines::print_byte(b' ');
+    lines::print_number(steps.0 as usize);
 }
 
 // Reads a task, and writes it again where it is accepted.

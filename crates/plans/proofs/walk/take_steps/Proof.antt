@@ -46,8 +46,7 @@ loop-holds c =
     let plan = planOf (now (a .plan)) in
     let d : List ℕ → Arrays = λ sizes. arrays (a .variables) (a .actions) sizes (now (a .starts)) (now (a .goal)) (now (a .costs)) (now (a .conditions)) (now (a .effects)) in
     let zero : c .start .result .minutes .0 ≡ 0 = ap (λ (x : Total). x .minutes) (c .start .ensures .1) in
-    let none : c .start .result .steps .0 ≡ 0 = ap (λ (x : Total). x .steps) (c .start .ensures .1) in
-    (
+    let none : c .start .result .steps .0 ≡ 0 = ap (λ (x : Total). x .steps) (c .start .ensures .1) in (
       λ sizes. walking-begins (held (d sizes)) plan (c .start .result) (c .start .ensures .0 ∙ held-start (d sizes) _ (c .before .state-of .ensures .0) (c .before .state-of .ensures .1)) (c .start .ensures .1),
       omega arith,
       omega arith,
@@ -84,7 +83,7 @@ returns c =
     let below : l .i < length plan = omega (arith, c .before .before .before .before .before .before .before .before .before .before .before .before .steps .ensures .0, c .before .before .before .before .before .before .loop-test .taken) in
     let known : stepOf plan (l .i) < a .actions = c .before .before .before .before .before .before .before .before .before .before .before .before .before .before .pre .3 (l .i) below in
     let row : rowOf (c .before .before .before .before .action-at .result) ≡ rowAction (a .variables) (now (a .costs)) (now (a .conditions)) (now (a .effects)) (stepOf plan (l .i)) =
-        c .before .before .before .before .action-at .ensures .0 ∙ ap (rowAction (a .variables) (now (a .costs)) (now (a .conditions)) (now (a .effects))) (c .before .before .before .before .before .step .ensures .0) in
+    c .before .before .before .before .action-at .ensures .0 ∙ ap (rowAction (a .variables) (now (a .costs)) (now (a .conditions)) (now (a .effects))) (c .before .before .before .before .before .step .ensures .0) in
     let due : (sizes : List ℕ) → actionOf (held (d sizes)) (stepOf plan (l .i)) ≡ rowOf (c .before .before .before .before .action-at .result) = λ sizes. held-action (d sizes) (stepOf plan (l .i)) known ∙ sym row in
     λ sizes.
     walking-stops (held (d sizes)) plan (l .tally) (l .i) (l .inv .0 sizes) below _ (due sizes) _ _
@@ -111,16 +110,15 @@ loop-again c =
     let below : l .i < length plan = omega (arith, c .before .before .before .before .before .before .before .before .before .before .before .steps .ensures .0, c .before .before .before .before .before .loop-test .taken) in
     let known : stepOf plan (l .i) < a .actions = c .before .before .before .before .before .before .before .before .before .before .before .before .before .pre .3 (l .i) below in
     let row : rowOf (c .before .before .before .action-at .result) ≡ rowAction (a .variables) (now (a .costs)) (now (a .conditions)) (now (a .effects)) (stepOf plan (l .i)) =
-        c .before .before .before .action-at .ensures .0 ∙ ap (rowAction (a .variables) (now (a .costs)) (now (a .conditions)) (now (a .effects))) (c .before .before .before .before .step .ensures .0) in
+    c .before .before .before .action-at .ensures .0 ∙ ap (rowAction (a .variables) (now (a .costs)) (now (a .conditions)) (now (a .effects))) (c .before .before .before .before .step .ensures .0) in
     let due : (sizes : List ℕ) → actionOf (held (d sizes)) (stepOf plan (l .i)) ≡ rowOf (c .before .before .before .action-at .result) = λ sizes. held-action (d sizes) (stepOf plan (l .i)) known ∙ sym row in
     let minutes : c .step2 .result .minutes .0 ≡ c .before .before .before .action-at .result .cost .0 + l .tally .minutes .0 = ap (λ (x : Total). x .minutes) (c .step2 .ensures .1) in
-    let steps : c .step2 .result .steps .0 ≡ l .tally .steps .0 + 1 = ap (λ (x : Total). x .steps) (c .step2 .ensures .1) in
-    (
+    let steps : c .step2 .result .steps .0 ≡ l .tally .steps .0 + 1 = ap (λ (x : Total). x .steps) (c .step2 .ensures .1) in (
       λ sizes.
-      walking-next (held (d sizes)) plan (l .tally) (l .i) (l .inv .0 sizes) below _ (due sizes) (c .step2 .result)
-      (sym (c .before .before .meets .ensures) ∙ not-false _ (c .before .if1 .left))
-      (c .step2 .ensures .0)
-      (c .step2 .ensures .1),
+          walking-next (held (d sizes)) plan (l .tally) (l .i) (l .inv .0 sizes) below _ (due sizes) (c .step2 .result)
+          (sym (c .before .before .meets .ensures) ∙ not-false _ (c .before .if1 .left))
+          (c .step2 .ensures .0)
+          (c .step2 .ensures .1),
       omega arith,
       omega (arith, c .before .before .before .action-at .ensures .1),
       omega arith,
