@@ -26,6 +26,17 @@ use Rattle.plans.specs.Plan.{noSteps, totalOf, stepOf}
 use Rattle.plans.specs.Check.{takeSteps, planOutcome, withTotal, answer, walkAnswer, checkPlan}
 use Rattle.plans.specs.declared.Checked.{Checked}
 
+-- an accepted plan file: few steps, each an action of the task
+pub file-steps-few : (actions : ℕ) (plan : List ℕ) → Octets plan → checkPlanFile actions plan .number ≡ 0 → length (planOf plan) ≤ 4096
+unfolding acceptedPlan
+file-steps-few actions plan octets z = leb-true (length (planOf plan)) 4096 (and-split (leb (length (planOf plan)) 4096) _ (plan-accepted actions plan octets z) .0)
+
+pub file-steps-known : (actions : ℕ) (plan : List ℕ) → Octets plan → checkPlanFile actions plan .number ≡ 0 → (i : ℕ) → i < length (planOf plan) → stepOf (planOf plan) i < actions
+unfolding acceptedPlan
+file-steps-known actions plan octets z i h =
+    ltb-true (stepOf (planOf plan) i) actions
+    (all-at (λ n. ltb n actions) (planOf plan) 0 i (and-split (leb (length (planOf plan)) 4096) _ (plan-accepted actions plan octets z) .1) h)
+
 pub answer-refused : (o : Outcome) (t : Task) (plan : List ℕ) → (o .number ≡ 0 → ⊥) → withTotal o noSteps ≡ answer o t plan
 unfolding answer
 answer-refused o t plan d = ap (λ (b : Bool). withTotal o (cond b (totalOf t plan) noSteps)) (sym (is-refused o d))
@@ -53,19 +64,13 @@ module _ (task plan : List ℕ) (first : Outcome) (one : first ≡ checkTask tas
         ∙ ap (λ (x : Task). answer (takeSteps x (startState x) 0 (planOf plan)) x (planOf plan)) h
         ∙ ap (λ (o : Outcome). answer o (taskOf task) (planOf plan)) (goes-on _ _ _ first one passes (goes-on _ _ _ second second-is z refl))
 
-    -- an accepted plan file: few steps, each an action of the task
+    -- what the plan file's check gives the walk
     read-done : second .number ≡ 0 → checkPlanFile actions plan .number ≡ 0
     unfolding inSecond
     read-done z = ap (λ (o : Outcome). o .number) (sym two) ∙ ap (λ (o : Outcome). o .number) (sym three) ∙ z
 
     pub steps-few : Octets plan → second .number ≡ 0 → length (planOf plan) ≤ 4096
-    unfolding acceptedPlan
-    steps-few octets z = leb-true (length (planOf plan)) 4096 (and-split (leb (length (planOf plan)) 4096) _ (plan-accepted actions plan octets (read-done z)) .0)
+    steps-few octets z = file-steps-few actions plan octets (read-done z)
 
     pub steps-known : Octets plan → second .number ≡ 0 → (i : ℕ) → i < length (planOf plan) → stepOf (planOf plan) i < actions
-    unfolding acceptedPlan
-    steps-known octets z i h =
-        ltb-true (stepOf (planOf plan) i) actions
-        (all-at (λ n. ltb n actions) (planOf plan) 0 i
-        (and-split (leb (length (planOf plan)) 4096) _ (plan-accepted actions plan octets (read-done z)) .1)
-        h)
+    steps-known octets z = file-steps-known actions plan octets (read-done z)

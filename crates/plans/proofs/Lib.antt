@@ -5,3 +5,4 @@ pub mod RunLaws
 pub mod RowStates
 pub mod WalkLaws
 pub mod CheckLaws
+pub mod PlanChecker

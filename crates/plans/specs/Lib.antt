@@ -3,3 +3,4 @@ pub mod State
 pub mod Plan
 pub mod Check
 pub mod Tally
+pub mod Checker
