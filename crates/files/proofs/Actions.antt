@@ -7,14 +7,14 @@ use native.Mathlib.Omega.{arith}
 use native.Mathlib.Nat.{add-zero}
 use lib.ListN.{length, length-append}
 use Rattle.files.specs.Below.{allOf}
-use Rattle.files.specs.Bytes.{u16Bytes, u32Bytes}
+use Rattle.files.specs.Bytes.{Octets, u16Bytes, u32Bytes}
 use Rattle.files.specs.Records.{recordEnd, recordsEnd, bodyRule, bodyFits, headAt, signOffAt, recordBytes}
 use Rattle.files.specs.Task.{Action, Task, action}
 use Rattle.files.specs.TaskFile.{conditionsIn, effectsIn, actionLength, effectsPlace, actionFormAt, actionAt, actionsAt, pairsFrom, actionFrom, actionsFrom, pairBytes, actionBody, actionBytes}
 use Rattle.files.specs.Accepted.{validAction}
 use Rattle.files.proofs.Done.{facts}
 use Rattle.files.proofs.Lengths.{record-bytes-length, pair-bytes-length, action-body-length}
-use Rattle.files.proofs.Stands.{Octets, Stands, stands-none, stands-left, stands-right, stands-join, stands-u16, stands-u32, u16-stands, u32-stands}
+use Rattle.files.proofs.Stands.{Stands, stands-none, stands-left, stands-right, stands-join, stands-u16, stands-u32, u16-stands, u32-stands}
 use Rattle.files.proofs.RecordStands.{Recorded, recorded, record-stands}
 use Rattle.files.proofs.Valid.{Valid, action-valid}
 use Rattle.files.proofs.Variables.{States}

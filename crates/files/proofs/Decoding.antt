@@ -1,13 +1,12 @@
 -- How the decoder's arrays are filled, step by step, as a loop that counts down wants it: what filling in the rest gives,
 -- `whole`, is given again one entry further on, or is what the array holds.
-use Prim.Native.Nat.{ℕ, zero, suc, _+_, _*_, _-_, _%_, _≤_, _<_}
+use Prim.Native.Nat.{ℕ, _+_, _-_, _%_, _≤_, _<_}
 use mathlib.Core.Path.{_≡_, refl, sym, ap, ap₂, _∙_}
-use mathlib.Core.List.{List, [], _∷_}
+use mathlib.Core.List.{List}
 use lib.ListN.{set}
 use borrow.Author.Tests.{lt-ltb, le-ltb}
 use Rattle.files.specs.Bytes.{u16At, u32At, placed}
 use Rattle.files.specs.Records.{recordEnd}
-use Rattle.files.specs.Task.{Pair, Variable, Action}
 use Rattle.files.specs.TaskFile.{pairsFrom, variablesFrom, conditionsIn, effectsIn, effectsPlace, actionFrom, actionsFrom}
 use Rattle.files.specs.Rows.{cleared, stored, filled, filledRows, sizeEntries, startEntries, costEntries, conditionLists, effectLists}
 use Rattle.files.proofs.Countdown.{one-more, none-left}

@@ -7,7 +7,7 @@ use native.Mathlib.Omega.{arith}
 use lib.Dec.{leb, ltb, eqb}
 use borrow.Author.Tests.{le-ltb, lt-ltb, le-leb, lt-leb, eq-eqb, ne-eqb, eqb-true, eqb-false}
 use Rattle.files.specs.declared.Outcome.{Outcome}
-use Rattle.files.specs.Outcome.{done, refusal, isDone, guard, andThen, overwrite, after}
+use Rattle.files.specs.Outcome.{refusal, isDone, guard, andThen, overwrite, after}
 
 pub guard-passes : (t : Bool) (n p : ℕ) (rest r : Outcome) → t ≡ true → r ≡ rest → r ≡ guard t n p rest
 unfolding guard

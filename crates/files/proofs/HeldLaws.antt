@@ -1,22 +1,20 @@
 -- The arrays that the decoder fills hold the task that it read, where that task is accepted.
-use Prim.Native.Nat.{ℕ, zero, suc, _+_, _*_, _/_, _%_, _≤_, _<_}
+use Prim.Native.Nat.{ℕ, _+_, _*_, _/_, _%_, _≤_, _<_}
 use mathlib.Core.Path.{_≡_, refl, sym, ap, ap₂, _∙_}
 use mathlib.Core.Bool.{true}
 use mathlib.Core.List.{List, [], _∷_, map}
 use native.Mathlib.Omega.{arith}
 use lib.ListN.{length, getD, length-map, List·getD-map}
 use Rattle.files.specs.Below.{tabulate}
-use Rattle.files.specs.Bytes.{placed}
-use Rattle.files.specs.Task.{Pair, Variable, Action, Task, pair, variable, action, variableCount, actionCount, variableOf, actionOf, sizeOf}
+use Rattle.files.specs.Bytes.{Octets, placed}
+use Rattle.files.specs.Task.{Pair, Variable, Action, Task, variable, action, variableCount, actionCount, variableOf, actionOf, sizeOf}
 use Rattle.files.specs.Records.{bodyLength}
 use Rattle.files.specs.TaskFile.{variablesIn, actionsIn, goalPlace, actionsPlace, checkTask, pairsFrom, variablesFrom, actionsFrom, taskOf}
 use Rattle.files.specs.Accepted.{validPairs}
-use Rattle.files.specs.declared.Outcome.{Outcome}
 use Rattle.files.specs.Dense.{rowPairs, rowVariable, rowAction, held, arrays}
 use Rattle.files.specs.Rows.{cleared, filled, filledRows, sizeEntries, startEntries, costEntries, conditionLists, effectLists}
 use Rattle.files.proofs.Done.{facts}
 use Rattle.files.proofs.Valid.{Valid, task-valid}
-use Rattle.files.proofs.Stands.{Octets}
 use Rattle.files.proofs.TaskChecked.{variable-count, action-count, task-accepted}
 use Rattle.files.proofs.Placed.{placed-in}
 use Rattle.files.proofs.Tabulate.{tabulate-is}

@@ -7,10 +7,10 @@ use native.Mathlib.Omega.{arith}
 use lib.ListN.{length, getD}
 use lib.Dec.{ltb}
 use Rattle.files.specs.Below.{allOf}
-use Rattle.files.specs.Bytes.{u16At, u16Bytes}
+use Rattle.files.specs.Bytes.{Octets, u16At, u16Bytes}
 use Rattle.files.specs.Records.{numbersAt, numbersFrom, numberBytes}
 use Rattle.files.proofs.Done.{facts}
-use Rattle.files.proofs.Stands.{Octets, Stands, stands-none, stands-left, stands-right, stands-join, stands-u16, u16-stands}
+use Rattle.files.proofs.Stands.{Stands, stands-none, stands-left, stands-right, stands-join, stands-u16, u16-stands}
 
 pub numbers-length : (s : List ℕ) (at count : ℕ) → length (numbersFrom s at count) ≡ count
 unfolding numbersFrom

@@ -1,4 +1,5 @@
 -- An origin file that is written reads back, and a file that reads as origins is the one written for them.
+use Rattle.files.specs.Bytes.{Octets}
 use Prim.Native.Nat.{ℕ, _+_, _*_, _/_, _≤_}
 use mathlib.Core.Path.{_≡_, refl, sym, ap, _∙_}
 use mathlib.Core.Bool.{true}
@@ -14,7 +15,7 @@ use Rattle.files.proofs.Done.{facts}
 use Rattle.files.proofs.Whole.{origin-check-done}
 use Rattle.files.proofs.ReadAs.{reads-as, read-as}
 use Rattle.files.proofs.Lengths.{number-bytes-length, record-bytes-length, number-record-length, signed-length}
-use Rattle.files.proofs.Stands.{Octets, stands-left, stands-right, stands-join}
+use Rattle.files.proofs.Stands.{stands-left, stands-right, stands-join}
 use Rattle.files.proofs.RecordStands.{Recorded, recorded, record-stands}
 use Rattle.files.proofs.Numbers.{numbers-length, numbers-read, numbers-stand}
 use Rattle.files.proofs.ValidOrigin.{ValidOrigin, origin-valid}

@@ -8,13 +8,13 @@ use native.Mathlib.Nat.{add-zero}
 use lib.ListN.{length, length-append}
 use borrow.Author.Tests.{eq-eqb, ne-eqb}
 use Rattle.files.specs.Below.{allOf}
-use Rattle.files.specs.Bytes.{u16At, u16Bytes}
+use Rattle.files.specs.Bytes.{Octets, u16At, u16Bytes}
 use Rattle.files.specs.Records.{kindAt, recordEnd, recordsEnd, bodyRule, bodyFits, headAt, numbersFrom, numberBytes, recordBytes}
 use Rattle.files.specs.OriginFile.{VariableOrigin, valuesIn, variableOriginAt, variableOriginsAt, variableOriginsFrom, originsFrom, originBody, variableOriginBytes}
 use Rattle.files.specs.Accepted.{rising, validValues}
 use Rattle.files.proofs.Done.{facts}
 use Rattle.files.proofs.Lengths.{number-bytes-length, record-bytes-length, origin-body-length}
-use Rattle.files.proofs.Stands.{Octets, Stands, stands-none, stands-left, stands-right, stands-join, stands-u16, u16-stands}
+use Rattle.files.proofs.Stands.{Stands, stands-none, stands-left, stands-right, stands-join, stands-u16, u16-stands}
 use Rattle.files.proofs.RecordStands.{Recorded, recorded, record-stands}
 use Rattle.files.proofs.ValidOrigin.{numbersOf}
 use Rattle.files.proofs.Numbers.{numbers-length, numbers-read, numbers-under, under-numbers, numbers-stand}

@@ -5,12 +5,12 @@ use mathlib.Core.Bool.{true}
 use mathlib.Core.List.{List, [], _∷_, _++_}
 use native.Mathlib.Omega.{arith}
 use lib.ListN.{length}
-use Rattle.files.specs.Bytes.{u16At, u16Bytes}
+use Rattle.files.specs.Bytes.{Octets, u16At, u16Bytes}
 use Rattle.files.specs.Task.{Pair, Task, pair, variableCount, sizeOf}
 use Rattle.files.specs.TaskFile.{variablesIn, sizeAt, pairAt, pairsAt, pairsFrom, pairBytes}
 use Rattle.files.specs.Accepted.{validPairs}
 use Rattle.files.proofs.Done.{facts}
-use Rattle.files.proofs.Stands.{Octets, Stands, stands-none, stands-left, stands-right, stands-join, stands-u16, u16-stands}
+use Rattle.files.proofs.Stands.{Stands, stands-none, stands-left, stands-right, stands-join, stands-u16, u16-stands}
 use Rattle.files.proofs.Valid.{Valid}
 use Rattle.files.proofs.Variables.{States}
 

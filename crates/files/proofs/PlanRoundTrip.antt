@@ -1,4 +1,5 @@
 -- A plan file that is written reads back, and a file that reads as a plan is the one written for it.
+use Rattle.files.specs.Bytes.{Octets}
 use Prim.Native.Nat.{ℕ, _/_, _≤_}
 use mathlib.Core.Path.{_≡_, refl, _∙_}
 use mathlib.Core.Bool.{true}
@@ -14,7 +15,6 @@ use Rattle.files.proofs.Done.{facts}
 use Rattle.files.proofs.Whole.{plan-check-done}
 use Rattle.files.proofs.ReadAs.{reads-as, read-as}
 use Rattle.files.proofs.Lengths.{number-bytes-length, record-bytes-length, number-record-length, signed-length}
-use Rattle.files.proofs.Stands.{Octets}
 use Rattle.files.proofs.RecordStands.{Recorded, recorded, record-stands}
 use Rattle.files.proofs.Numbers.{allUnder, numbers-length, numbers-read, numbers-under, under-numbers, numbers-stand}
 use Rattle.files.proofs.SignOff.{records-stand, signed-signer, signed-done, signed-off, file-signed}

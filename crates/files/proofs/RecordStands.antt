@@ -4,9 +4,9 @@ use mathlib.Core.Path.{_≡_}
 use mathlib.Core.List.{List, _++_}
 use native.Mathlib.Omega.{arith}
 use lib.ListN.{length}
-use Rattle.files.specs.Bytes.{u16Bytes}
+use Rattle.files.specs.Bytes.{Octets, u16Bytes}
 use Rattle.files.specs.Records.{bodyLength, kindAt, recordBytes}
-use Rattle.files.proofs.Stands.{Octets, Stands, stands-left, stands-right, stands-join, stands-u16, u16-stands}
+use Rattle.files.proofs.Stands.{Stands, stands-left, stands-right, stands-join, stands-u16, u16-stands}
 
 -- a record that is read at a place
 pub record Recorded (f : List ℕ) (at kind : ℕ) (body : List ℕ) : Type 0 where

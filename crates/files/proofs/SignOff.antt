@@ -5,12 +5,12 @@ use mathlib.Core.Bool.{true}
 use mathlib.Core.List.{List, _++_}
 use native.Mathlib.Omega.{arith}
 use lib.ListN.{length}
-use Rattle.files.specs.Bytes.{u32At, u16Bytes, u32Bytes}
+use Rattle.files.specs.Bytes.{Octets, u32At, u16Bytes, u32Bytes}
 use Rattle.files.specs.Records.{recordEnd, bodyRule, bodyFits, headAt, signOffAt, signerOf, recordBytes, signed}
 use Rattle.files.specs.Accepted.{validSigner}
 use Rattle.files.proofs.Done.{facts}
 use Rattle.files.proofs.Lengths.{signed-length}
-use Rattle.files.proofs.Stands.{Octets, Stands, whole-stands, stands-whole, stands-left, stands-right, stands-join, stands-u32, u32-stands, u32-below}
+use Rattle.files.proofs.Stands.{Stands, whole-stands, stands-whole, stands-left, stands-right, stands-join, stands-u32, u32-stands, u32-below}
 use Rattle.files.proofs.RecordStands.{recorded, record-stands}
 
 -- the sign-off of records of so many bytes

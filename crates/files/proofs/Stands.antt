@@ -8,11 +8,7 @@ use lib.ListN.{length, getD, length-append, List·getD-append}
 use lib.Seq.{ext-getD, getD-append-add}
 use lib.Dec.{leb}
 use borrow.Author.Tests.{leb-true, leb-false}
-use Rattle.files.specs.Bytes.{u16At, u32At, u16Bytes, u32Bytes}
-
--- every entry is a byte
-abbrev pub Octets : List ℕ → Type 0
-Octets f = (i : ℕ) → getD f i 0 < 256
+use Rattle.files.specs.Bytes.{Octets, u16At, u32At, u16Bytes, u32Bytes}
 
 pub record Stands (f : List ℕ) (at : ℕ) (xs : List ℕ) : Type 0 where
   pub room : at + length xs ≤ length f

@@ -1,12 +1,11 @@
 -- How the recursive checks go, step by step, as a loop that counts down wants it: what holds of the definition from
 -- here on, `whole`, holds again one entry further on, or is what the loop returns.
-use Prim.Native.Nat.{ℕ, zero, suc, _+_, _*_, _-_, _≤_, _<_}
+use Prim.Native.Nat.{ℕ, suc, _+_, _-_, _≤_, _<_}
 use mathlib.Core.Path.{_≡_, refl, sym, ap, _∙_}
 use mathlib.Core.Bool.{cond}
 use mathlib.Core.List.{List}
 use native.Mathlib.Omega.{arith}
 use lib.Dec.{leb, ltb, eqb}
-use lib.ListN.{length, getD}
 use borrow.Author.Tests.{eq-eqb, ne-eqb}
 use Rattle.files.specs.declared.Outcome.{Outcome}
 use Rattle.files.specs.Bytes.{u16At}

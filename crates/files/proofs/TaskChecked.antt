@@ -5,14 +5,14 @@ use mathlib.Core.Bool.{true}
 use mathlib.Core.List.{List}
 use native.Mathlib.Omega.{arith}
 use lib.ListN.{length}
-use Rattle.files.specs.Bytes.{u16Bytes}
+use Rattle.files.specs.Bytes.{Octets, u16Bytes}
 use Rattle.files.specs.Records.{bodyLength, kindAt, recordEnd, recordsEnd, bodyRule, bodyFits, headAt, signOffAt, sizeFits, signerOf, recordBytes}
 use Rattle.files.specs.Task.{variableCount, actionCount}
 use Rattle.files.specs.TaskFile.{headerAt, variablesIn, actionsIn, variablesAt, variablePlace, pairsAt, goalAt, actionsAt, goalPlace, actionsPlace, checkTask, taskOf, pairBytes, taskRecords, taskFile}
 use Rattle.files.specs.Accepted.{validSigner, acceptedTask}
 use Rattle.files.proofs.Done.{facts}
 use Rattle.files.proofs.Lengths.{pair-bytes-length, signed-length, task-records-length}
-use Rattle.files.proofs.Stands.{Octets, Stands, stands-at, stands-join, u16-stands}
+use Rattle.files.proofs.Stands.{Stands, stands-at, stands-join, u16-stands}
 use Rattle.files.proofs.RecordStands.{record-stands}
 use Rattle.files.proofs.SignOff.{signed-off, file-signed}
 use Rattle.files.proofs.Variables.{variables-length, variables-stand, variables-checked, States, states}

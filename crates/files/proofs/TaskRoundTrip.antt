@@ -1,4 +1,5 @@
 -- A task file that is written reads back, and a file that reads as a task is the one written for it.
+use Rattle.files.specs.Bytes.{Octets}
 use Prim.Native.Nat.{ℕ, _+_, _≤_}
 use mathlib.Core.Path.{_≡_, refl, _∙_}
 use mathlib.Core.Bool.{true}
@@ -14,7 +15,6 @@ use Rattle.files.specs.Accepted.{validSigner, acceptedTask}
 use Rattle.files.proofs.Whole.{task-check-done}
 use Rattle.files.proofs.ReadAs.{reads-as, read-as}
 use Rattle.files.proofs.Lengths.{signed-length}
-use Rattle.files.proofs.Stands.{Octets}
 use Rattle.files.proofs.SignOff.{records-stand, signed-signer, signed-done}
 use Rattle.files.proofs.Valid.{task-valid}
 use Rattle.files.proofs.TaskLaid.{records-laid, laid-task, laid-done}

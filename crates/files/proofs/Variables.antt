@@ -6,13 +6,13 @@ use mathlib.Core.List.{List, [], _∷_, _++_}
 use native.Mathlib.Omega.{arith}
 use lib.ListN.{length, getD}
 use Rattle.files.specs.Below.{allOf}
-use Rattle.files.specs.Bytes.{u16At, u16Bytes}
+use Rattle.files.specs.Bytes.{Octets, u16At, u16Bytes}
 use Rattle.files.specs.Records.{recordEnd, bodyRule, bodyFits, headAt, recordBytes}
 use Rattle.files.specs.Task.{Variable, Task, variable, variableCount, sizeOf}
 use Rattle.files.specs.TaskFile.{variablesIn, variablePlace, sizeAt, variableAt, variablesAt, variablesFrom, variableBytes}
 use Rattle.files.specs.Accepted.{validVariable}
 use Rattle.files.proofs.Done.{facts}
-use Rattle.files.proofs.Stands.{Octets, Stands, stands-none, stands-left, stands-right, stands-join, stands-u16, u16-stands}
+use Rattle.files.proofs.Stands.{Stands, stands-none, stands-left, stands-right, stands-join, stands-u16, u16-stands}
 use Rattle.files.proofs.RecordStands.{recorded, record-stands}
 
 abbrev variableBody : Variable → List ℕ

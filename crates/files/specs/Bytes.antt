@@ -1,7 +1,11 @@
 -- Little-endian numbers: read at an offset of a list of bytes, 0 past its end, and written.
-use Prim.Native.Nat.{ℕ, _+_, _*_, _/_, _%_}
+use Prim.Native.Nat.{ℕ, _+_, _*_, _/_, _%_, _<_}
 use mathlib.Core.List.{List, [], _∷_, _++_}
 use lib.ListN.{getD, set}
+
+-- a list of bytes: what a slice of bytes holds
+abbrev pub Octets : List ℕ → Type 0
+Octets s = (i : ℕ) → getD s i 0 < 256
 
 unfoldable pub u16At : List ℕ → ℕ → ℕ
 u16At s at = getD s at 0 + getD s (at + 1) 0 * 256

@@ -1,6 +1,6 @@
 -- Origin files: which variable, values and actions of the full task a reduced task's are.
 use Prim.Native.Nat.{ℕ, zero, suc, _+_, _-_, _/_}
-use mathlib.Core.Bool.{Bool, true, false, cond}
+use mathlib.Core.Bool.{cond}
 use mathlib.Core.List.{List, [], _∷_, _++_}
 use lib.Dec.{leb, ltb, eqb}
 use Rattle.files.specs.Bytes.{u16At, u16Bytes}

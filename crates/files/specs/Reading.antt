@@ -1,6 +1,6 @@
 -- A file read: refused, or its content under its signer.
 use Prim.Native.Nat.{ℕ}
-use mathlib.Core.Bool.{Bool, true, false, cond}
+use mathlib.Core.Bool.{cond}
 use mathlib.Core.List.{List}
 use Rattle.files.specs.Outcome.{isDone}
 use Rattle.files.specs.Records.{signerOf}

@@ -1,10 +1,10 @@
 -- Records and the sign-off: what every kind of file shares.
-use Prim.Native.Nat.{ℕ, zero, suc, _+_, _*_, _-_, _%_}
+use Prim.Native.Nat.{ℕ, zero, suc, _+_, _-_, _%_}
 use mathlib.Core.List.{List, [], _∷_, _++_}
 use lib.ListN.{length, getD}
 use lib.Dec.{leb, ltb, eqb}
 use Rattle.files.specs.Bytes.{u16At, u32At, u16Bytes, u32Bytes}
-use Rattle.files.specs.Outcome.{done, refusal, guard, andThen}
+use Rattle.files.specs.Outcome.{done, guard, andThen}
 use Rattle.files.specs.declared.Outcome.{Outcome}
 use Rattle.files.specs.declared.records.Rule.{Rule}
 

@@ -1,7 +1,7 @@
 // Origin files: the check of each record in the order of refusals.
 ghost use mathlib.Core.Path.{_≡_};
 ghost use Prim.Native.Nat.{_+_, _*_, _<_, _≤_};
-ghost use Rattle.files.specs.OriginFile.{valuesIn, variableOriginAt, variableOriginsAt, actionOriginsAt, variableOriginsFrom, originVariablesIn, originActionsPlace};
+ghost use Rattle.files.specs.OriginFile.{valuesIn, variableOriginAt, variableOriginsAt, actionOriginsAt, originVariablesIn, originActionsPlace};
 use crate::Outcome;
 use crate::bytes;
 use crate::outcomes;

@@ -3,7 +3,6 @@ ghost use mathlib.Core.Path.{_≡_};
 ghost use mathlib.Core.List.{_++_};
 ghost use Prim.Native.Nat.{_+_, _*_, _<_, _≤_};
 ghost use lib.ListN.{length, getD};
-ghost use Rattle.files.specs.Below.{tabulate};
 ghost use Rattle.files.specs.Bytes.{u16Bytes, placed};
 ghost use Rattle.files.specs.Outcome.{overwrite};
 ghost use Rattle.files.specs.PlanFile.{checkPlanFile, planOf, planFile};

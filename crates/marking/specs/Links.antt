@@ -1,10 +1,10 @@
 -- Threatened variables, linked facts and tracked variables, and what an action achieves.
 use Prim.Native.Nat.{ℕ}
-use mathlib.Core.Bool.{Bool, true, false, not, cond, _&&_}
+use mathlib.Core.Bool.{Bool, not, cond, _&&_}
 use mathlib.Core.List.{List}
 use lib.Dec.{eqb, leb}
 use Rattle.files.specs.Below.{anyBelow, anyOf}
-use Rattle.files.specs.Task.{Pair, Action, Task, actionCount, actionOf, sizeOf, startOf}
+use Rattle.files.specs.Task.{Pair, Task, actionCount, actionOf, sizeOf, startOf}
 use Rattle.marking.specs.Marks.{Marks, kept, relevant}
 
 -- an effect sets the variable to a value other than the one given

@@ -1,6 +1,6 @@
 -- The result of marking as bytes, and the answer of the call with what its buffers hold.
 use Prim.Native.Nat.{ℕ, _+_}
-use mathlib.Core.Bool.{Bool, true, false, cond, _&&_}
+use mathlib.Core.Bool.{Bool, cond, _&&_}
 use mathlib.Core.List.{List, map}
 use lib.Dec.{leb}
 use lib.ListN.{length}
@@ -11,7 +11,7 @@ use Rattle.files.specs.Task.{Task, variableCount, actionCount, factCount, sizeO
 use Rattle.files.specs.TaskFile.{checkTask, taskOf}
 use Rattle.marking.specs.Marks.{Marks, kept, relevant}
 use Rattle.marking.specs.Links.{linked}
-use Rattle.marking.specs.Rounds.{Marking, marking}
+use Rattle.marking.specs.Rounds.{marking}
 use Rattle.marking.specs.declared.Marked.{Marked}
 
 -- a byte per action: 1 kept, 0 not

@@ -1,6 +1,6 @@
 -- Marks: the kept actions A and the relevant facts F of a task.
 use Prim.Native.Nat.{ℕ}
-use mathlib.Core.Bool.{Bool, true, false, Bool·beq, cond, _&&_}
+use mathlib.Core.Bool.{Bool, false, Bool·beq, cond, _&&_}
 use mathlib.Core.List.{List, []}
 use lib.Dec.{eqb}
 use lib.ListN.{getD}

@@ -1,11 +1,11 @@
 -- A round, the rounds up to the first that changes nothing, and their count.
 use Prim.Native.Nat.{ℕ, zero, suc, _+_}
-use mathlib.Core.Bool.{Bool, true, false, not, cond, _&&_, _||_}
+use mathlib.Core.Bool.{Bool, false, not, cond, _&&_, _||_}
 use mathlib.Core.List.{List}
 use lib.Dec.{eqb}
 use lib.ListN.{getD}
 use Rattle.files.specs.Below.{tabulate, anyBelow}
-use Rattle.files.specs.Task.{Action, Task, variableCount, actionCount, actionOf, factCount}
+use Rattle.files.specs.Task.{Task, variableCount, actionCount, actionOf, factCount}
 use Rattle.marking.specs.Marks.{Marks, kept, relevant, names, actionMarks, factMarks, firstMarks, sameMarks}
 use Rattle.marking.specs.Links.{tracked, gainsAction}
 use Rattle.marking.specs.Covering.{covered}

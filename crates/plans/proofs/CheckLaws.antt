@@ -1,23 +1,21 @@
 -- The plan checker's answer by its three stages: the task file, the plan file, the walk; and what the plan file's check gives
 -- the walk.
-use Prim.Native.Nat.{ℕ, _+_, _≤_, _<_}
+use Rattle.files.specs.Bytes.{Octets}
+use Prim.Native.Nat.{ℕ, _≤_, _<_}
 use mathlib.Core.Path.{_≡_, refl, sym, ap, _∙_}
-use mathlib.Core.Bool.{Bool, true, false, cond}
+use mathlib.Core.Bool.{Bool, cond}
 use mathlib.Core.List.{List}
-use native.Mathlib.Omega.{arith}
 use lib.Dec.{leb, ltb}
-use lib.ListN.{length, getD}
+use lib.ListN.{length}
 use borrow.Author.Tests.{leb-true, ltb-true}
 use Rattle.files.specs.declared.Outcome.{Outcome}
-use Rattle.files.specs.Below.{allOf}
-use Rattle.files.specs.Outcome.{isDone, andThen, inSecond}
+use Rattle.files.specs.Outcome.{inSecond}
 use Rattle.files.specs.Task.{Task, actionCount}
 use Rattle.files.specs.TaskFile.{checkTask, taskOf, actionsIn}
 use Rattle.files.specs.PlanFile.{checkPlanFile, planOf}
 use Rattle.files.specs.Accepted.{acceptedPlan}
 use Rattle.files.proofs.Guards.{goes-on, stops, is-refused}
 use Rattle.files.proofs.Logic.{and-split}
-use Rattle.files.proofs.Stands.{Octets}
 use Rattle.files.proofs.TaskChecked.{action-count}
 use Rattle.files.proofs.PlanRoundTrip.{plan-accepted}
 use Rattle.files.proofs.Valid.{all-at}

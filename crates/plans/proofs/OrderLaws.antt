@@ -1,14 +1,14 @@
 -- The order on cost and steps is total, and adding a step keeps it and reflects it.
-use Prim.Native.Nat.{ℕ, zero, suc, _+_, _≤_, _<_}
-use mathlib.Core.Path.{_≡_, refl, sym, ap, ap₂, _∙_}
-use mathlib.Core.Bool.{Bool, true, false, _&&_, _||_}
+use Prim.Native.Nat.{ℕ, _+_, _≤_, _<_}
+use mathlib.Core.Path.{_≡_, refl}
+use mathlib.Core.Bool.{true, false}
 use mathlib.Core.List.{List, [], _∷_, _++_}
 use mathlib.Core.Logic.{_⊎_, inl, inr, ⊎-elim}
 use native.Mathlib.Omega.{arith}
 use lib.Dec.{eqb, ltb, leb}
 use lib.ListN.{length}
 use borrow.Author.Tests.{ltb-true, leb-true, eqb-true, lt-ltb, le-leb, eq-eqb}
-use Rattle.files.specs.Task.{Action, Task, actionOf}
+use Rattle.files.specs.Task.{Action, Task}
 use Rattle.files.proofs.Logic.{clash, split, split-le, and-split, and-join, or-split, or-left, or-right}
 use Rattle.plans.specs.Plan.{Total, noSteps, addStep, totalOf, atMost}
 

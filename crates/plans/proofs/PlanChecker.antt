@@ -1,18 +1,17 @@
 -- The plan checker is right, for all files.
-use Prim.Native.Nat.{ℕ, _+_}
+use Rattle.files.specs.Bytes.{Octets}
+use Prim.Native.Nat.{ℕ}
 use mathlib.Core.Path.{_≡_, refl, sym, ap, _∙_}
-use mathlib.Core.Bool.{Bool, true, false, cond}
+use mathlib.Core.Bool.{Bool, cond}
 use mathlib.Core.List.{List}
-use lib.ListN.{length}
 use Rattle.files.specs.declared.Outcome.{Outcome}
-use Rattle.files.specs.Outcome.{done, isDone, andThen, inSecond}
-use Rattle.files.specs.Task.{Task, actionCount}
+use Rattle.files.specs.Outcome.{done, inSecond}
+use Rattle.files.specs.Task.{actionCount}
 use Rattle.files.specs.TaskFile.{checkTask, taskOf}
 use Rattle.files.specs.PlanFile.{checkPlanFile, planOf}
 use Rattle.files.proofs.Guards.{both-done, goes-on, is-done}
-use Rattle.files.proofs.Stands.{Octets}
 use Rattle.plans.specs.State.{startState}
-use Rattle.plans.specs.Plan.{IsPlan, Total, noSteps, totalOf}
+use Rattle.plans.specs.Plan.{IsPlan, noSteps, totalOf}
 use Rattle.plans.specs.Check.{takeSteps, planOutcome, withTotal, answer, checkPlan}
 use Rattle.plans.specs.Checker.{CheckerRight}
 use Rattle.plans.specs.declared.Checked.{Checked}

@@ -1,21 +1,21 @@
 -- Rows of entries and states: all conditions of a row hold where each entry is met, step by step; and the effects of a row
 -- change each entry by itself.
-use Prim.Native.Nat.{ℕ, zero, suc, _+_, _-_, _≤_, _<_}
-use mathlib.Core.Path.{_≡_, refl, sym, ap, ap₂, _∙_}
+use Prim.Native.Nat.{ℕ, _+_, _-_, _≤_, _<_}
+use mathlib.Core.Path.{_≡_, refl, sym, ap, _∙_}
 use mathlib.Core.Bool.{Bool, true, false, cond, _&&_}
-use mathlib.Core.List.{List, [], _∷_}
+use mathlib.Core.List.{List}
 use mathlib.Core.Option.{Option, none, some, Option·getD}
 use native.Mathlib.Omega.{arith}
 use lib.ListN.{length, getD, List·getD-eq-default}
 use lib.Dec.{eqb}
 use borrow.Author.Tests.{eqb-true, eqb-false, eq-eqb, ne-eqb}
-use Rattle.files.specs.Task.{Pair, pair, valueIn}
+use Rattle.files.specs.Task.{Pair, valueIn}
 use Rattle.files.specs.Dense.{rowPairs}
-use Rattle.files.proofs.Countdown.{one-more, none-left}
+use Rattle.files.proofs.Countdown.{one-more}
 use Rattle.files.proofs.Logic.{split, split-le}
 use Rattle.files.proofs.RowLaws.{rowPairs-none, rowPairs-skip, rowPairs-next}
 use Rattle.files.proofs.RowValues.{entryValue, rowPairs-value, rowPairs-behind}
-use Rattle.plans.specs.State.{State, admits, holds, allHold}
+use Rattle.plans.specs.State.{admits, holds, allHold}
 use Rattle.plans.specs.Tally.{listState, meetsEntry, afterEntry}
 
 -- entries

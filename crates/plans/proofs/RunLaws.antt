@@ -1,17 +1,14 @@
 -- Plans by their states, and plans by their steps: a list is a plan exactly when its steps are applicable in turn from
 -- the start and the goal holds after them; and the plan checker's walk is done exactly then.
-use Prim.Native.Nat.{ℕ, zero, suc, _+_, _≤_, _<_}
-use mathlib.Core.Path.{_≡_, refl, sym, ap, subst, _∙_}
-use mathlib.Core.Bool.{Bool, true, false}
+use Prim.Native.Nat.{ℕ, zero, suc, _+_, _<_}
+use mathlib.Core.Path.{_≡_, refl, sym, subst}
+use mathlib.Core.Bool.{true}
 use mathlib.Core.List.{List, [], _∷_}
-use mathlib.Core.Logic.{_↔_}
 use native.Mathlib.Omega.{arith}
-use lib.ListN.{length, getD}
-use Rattle.files.specs.declared.Outcome.{Outcome}
-use Rattle.files.specs.Outcome.{done, refusal, guard}
-use Rattle.files.specs.Task.{Action, Task, actionCount, actionOf}
+use lib.ListN.{length}
+use Rattle.files.specs.Outcome.{done}
+use Rattle.files.specs.Task.{Task, actionCount, actionOf}
 use Rattle.files.proofs.Guards.{passed, guard-passes}
-use Rattle.files.proofs.Logic.{split}
 use Rattle.plans.specs.State.{State, startState, allHold, applicable, apply}
 use Rattle.plans.specs.Plan.{stepOf, IsPlan}
 use Rattle.plans.specs.Check.{takeSteps}

@@ -1,6 +1,6 @@
 -- The checker's walk: before each step what is left to check, and what is left to add up, is what the whole plan asks.
-use Prim.Native.Nat.{ℕ, zero, suc, _+_, _*_, _≤_, _<_}
-use mathlib.Core.Path.{_≡_, refl, sym, ap, ap₂, subst, fun-ext, _∙_}
+use Prim.Native.Nat.{ℕ, _+_, _≤_, _<_}
+use mathlib.Core.Path.{_≡_, refl, sym, ap, ap₂, fun-ext, _∙_}
 use mathlib.Core.Bool.{Bool, true, false, cond}
 use mathlib.Core.List.{List, [], _∷_}
 use native.Mathlib.Omega.{arith}
@@ -10,10 +10,10 @@ use lib.Seq.{drop-cons}
 use Rattle.files.specs.declared.Outcome.{Outcome}
 use Rattle.files.specs.Outcome.{done, refusal, isDone, guard}
 use Rattle.files.specs.Below.{tabulate}
-use Rattle.files.specs.Task.{Pair, Variable, Action, Task, variable, action, variableOf, actionCount, actionOf, startOf}
+use Rattle.files.specs.Task.{Pair, Variable, Action, Task, variable, action, actionOf}
 use Rattle.files.specs.Dense.{Arrays, rowVariable, rowAction, held}
 use Rattle.files.proofs.Guards.{guard-passes, guard-refuses, is-done, is-refused}
-use Rattle.files.proofs.Logic.{split, split-le}
+use Rattle.files.proofs.Logic.{split-le}
 use Rattle.files.proofs.Tabulate.{tabulate-entry, tabulateFrom-length}
 use Rattle.plans.proofs.OrderLaws.{total-steps}
 use Rattle.plans.specs.State.{State, startState, allHold, applicable, apply}

@@ -1,6 +1,6 @@
 -- The plan checker's answer.
 use Prim.Native.Nat.{ℕ, _+_}
-use mathlib.Core.Bool.{Bool, true, false, cond}
+use mathlib.Core.Bool.{cond}
 use mathlib.Core.List.{List, [], _∷_}
 use Rattle.files.specs.declared.Outcome.{Outcome}
 use Rattle.files.specs.Outcome.{done, isDone, guard, andThen, inSecond}
@@ -9,8 +9,6 @@ use Rattle.files.specs.TaskFile.{checkTask, taskOf}
 use Rattle.files.specs.PlanFile.{checkPlanFile, planOf}
 use Rattle.plans.specs.State.{State, startState, allHold, applicable, apply}
 use Rattle.plans.specs.Plan.{Total, noSteps, totalOf}
-use Rattle.plans.specs.declared.Minutes.{Minutes}
-use Rattle.plans.specs.declared.Steps.{Steps}
 use Rattle.plans.specs.declared.Checked.{Checked}
 
 -- the steps in turn from a state, the first being step i; then the goal

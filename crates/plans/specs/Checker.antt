@@ -3,14 +3,12 @@ use Prim.Native.Nat.{ℕ}
 use mathlib.Core.Path.{_≡_}
 use mathlib.Core.List.{List}
 use lib.ListN.{length}
-use Rattle.files.specs.declared.Outcome.{Outcome}
 use Rattle.files.specs.Outcome.{done}
-use Rattle.files.specs.Task.{Task, actionCount}
+use Rattle.files.specs.Task.{actionCount}
 use Rattle.files.specs.TaskFile.{checkTask, taskOf}
 use Rattle.files.specs.PlanFile.{checkPlanFile, planOf}
-use Rattle.plans.specs.Plan.{IsPlan, Total, totalOf}
+use Rattle.plans.specs.Plan.{IsPlan, totalOf}
 use Rattle.plans.specs.Check.{checkPlan}
-use Rattle.plans.specs.declared.Checked.{Checked}
 
 pub record CheckerRight (task plan : List ℕ) : Type 0 where
   -- what it says yes to is a plan

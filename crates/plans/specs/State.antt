@@ -1,6 +1,6 @@
 -- States: when a condition holds, when an action is applicable, and the state after it.
 use Prim.Native.Nat.{ℕ}
-use mathlib.Core.Bool.{Bool, true, false, _&&_}
+use mathlib.Core.Bool.{Bool, _&&_}
 use mathlib.Core.List.{List}
 use mathlib.Core.Option.{Option·getD}
 use lib.Dec.{eqb}

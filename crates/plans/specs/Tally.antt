@@ -10,8 +10,6 @@ use Rattle.files.specs.Dense.{rowPairs}
 use Rattle.plans.specs.State.{State, allHold}
 use Rattle.plans.specs.Plan.{Total, noSteps}
 use Rattle.plans.specs.Check.{withTotal}
-use Rattle.plans.specs.declared.Minutes.{Minutes}
-use Rattle.plans.specs.declared.Steps.{Steps}
 use Rattle.plans.specs.declared.Checked.{Checked}
 use Rattle.plans.specs.declared.tally.Row.{Row}
 use Rattle.plans.specs.declared.tally.Tally.{Tally}

@@ -1,9 +1,9 @@
 -- Named facts, settled variables and kept variables, for the kept actions A.
 use Prim.Native.Nat.{ℕ}
-use mathlib.Core.Bool.{Bool, true, false, not, _&&_, _||_}
+use mathlib.Core.Bool.{Bool, not, _&&_, _||_}
 use lib.Dec.{eqb}
 use Rattle.files.specs.Below.{anyBelow, allBelow}
-use Rattle.files.specs.Task.{Task, Action, actionCount, actionOf, sizeOf, startOf}
+use Rattle.files.specs.Task.{Task, actionCount, actionOf, sizeOf, startOf}
 use Rattle.plans.specs.State.{hasFact}
 use Rattle.marking.specs.Links.{threatened}
 

@@ -1,15 +1,15 @@
 -- Reduction called alone: the row of check, marking and reduction, with what each lent buffer holds after every outcome.
 use Prim.Native.Nat.{ℕ}
-use mathlib.Core.Bool.{Bool, true, false, not, cond}
+use mathlib.Core.Bool.{cond}
 use mathlib.Core.List.{List}
-use lib.Dec.{leb, eqb}
+use lib.Dec.{leb}
 use lib.ListN.{length}
 use Rattle.files.specs.declared.Outcome.{Outcome}
 use Rattle.files.specs.Outcome.{done, isDone, guard, andThen, fits, after}
 use Rattle.files.specs.Task.{Task, actionCount, factCount}
 use Rattle.files.specs.TaskFile.{checkTask, taskOf, taskFile}
 use Rattle.files.specs.OriginFile.{originFile}
-use Rattle.marking.specs.Rounds.{Marking, marking}
+use Rattle.marking.specs.Rounds.{marking}
 use Rattle.marking.specs.Mark.{validLevel, marksFit, actionMarksOf, factMarksOf}
 use Rattle.reduction.specs.Task.{reducedTask, originsAt}
 use Rattle.reduction.specs.declared.Reduced.{Reduced}

@@ -1,6 +1,6 @@
 -- New numbers of kept variables and of their values.
 use Prim.Native.Nat.{ℕ, _+_}
-use mathlib.Core.Bool.{Bool, true, false, not, cond}
+use mathlib.Core.Bool.{Bool, not, cond}
 use Rattle.files.specs.Below.{bit, anyBelow, countBelow}
 use Rattle.files.specs.Task.{Task, sizeOf}
 use Rattle.reduction.specs.Named.{named, keptVariable}

@@ -1,12 +1,12 @@
 -- The stretch of condition pairs of an action, in the full or the reduced file.
 use Prim.Native.Nat.{ℕ, _+_, _*_}
-use mathlib.Core.Bool.{Bool, true, false, cond}
+use mathlib.Core.Bool.{cond}
 use mathlib.Core.List.{List, []}
 use lib.Dec.{eqb, ltb}
-use lib.ListN.{length, take, drop}
+use lib.ListN.{take, drop}
 use Rattle.files.specs.declared.Outcome.{Outcome}
 use Rattle.files.specs.Outcome.{done, isDone, guard, andThen, inSecond}
-use Rattle.files.specs.Task.{Task, actionCount}
+use Rattle.files.specs.Task.{actionCount}
 use Rattle.files.specs.TaskFile.{checkTask, taskOf, actionPlace, conditionsIn}
 
 -- side 0 is the first file, any other number the second

@@ -1,13 +1,13 @@
 -- The reduced task, its origins, and lists of its actions by original numbers.
 use Prim.Native.Nat.{ℕ}
-use mathlib.Core.Bool.{Bool, true, false, cond}
+use mathlib.Core.Bool.{Bool, cond}
 use mathlib.Core.List.{List, [], _∷_, map}
 use lib.ListN.{getD}
 use Rattle.files.specs.Below.{tabulate, chosenBelow}
 use Rattle.files.specs.Task.{Pair, Variable, Action, Task, pair, variable, action, variableCount, actionCount, actionOf, sizeOf, startOf}
-use Rattle.files.specs.OriginFile.{VariableOrigin, Origin}
-use Rattle.marking.specs.Marks.{Marks, kept}
-use Rattle.marking.specs.Rounds.{Marking, marking}
+use Rattle.files.specs.OriginFile.{Origin}
+use Rattle.marking.specs.Marks.{kept}
+use Rattle.marking.specs.Rounds.{marking}
 use Rattle.reduction.specs.Named.{keptVariable}
 use Rattle.reduction.specs.Renumber.{newVariable, newValue, newSize}
 

@@ -8,15 +8,14 @@ use Rattle.files.specs.declared.Outcome.{Outcome}
 use Rattle.files.specs.Below.{sameList}
 use Rattle.files.specs.Bytes.{u16Bytes}
 use Rattle.files.specs.Records.{recordBytes}
-use Rattle.files.specs.Task.{Pair, Variable, Action, Task, pair, variable, action}
+use Rattle.files.specs.Task.{Pair, Variable, Action, pair, variable, action}
 use Rattle.files.specs.TaskFile.{checkTask, taskFile}
 use Rattle.files.specs.PlanFile.{planFile}
 use Rattle.plans.specs.declared.Checked.{Checked}
 use Rattle.plans.specs.Check.{checkPlan}
-use Rattle.marking.specs.declared.Marked.{Marked}
 use Rattle.marking.specs.Mark.{mark, markedActions}
-use Rattle.reduction.specs.Reduce.{Rooms, reducedBuffer}
-use Rattle.search.specs.Planner.{PlanRooms, plan, plannedPlan}
+use Rattle.reduction.specs.Reduce.{reducedBuffer}
+use Rattle.search.specs.Planner.{plan, plannedPlan}
 use Rattle.search.specs.Listing.{ascii, ample, listing}
 use Rattle.search.specs.declared.Planned.{Planned}
 

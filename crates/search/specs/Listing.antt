@@ -3,15 +3,13 @@ use Prim.Native.Nat.{ℕ, zero, suc, _+_, _/_, _%_}
 use Prim.Native.Char.{code}
 use Prim.Native.String as text
 use Prim.Native.String.{String}
-use mathlib.Core.Bool.{Bool, true, false, cond}
+use mathlib.Core.Bool.{cond}
 use mathlib.Core.List.{List, [], _∷_, _++_}
 use lib.Dec.{ltb}
-use Rattle.files.specs.declared.Outcome.{Outcome}
 use Rattle.files.specs.Outcome.{isDone}
 use Rattle.files.specs.Records.{signerOf}
-use Rattle.files.specs.Task.{Task, variableCount, actionCount}
+use Rattle.files.specs.Task.{variableCount, actionCount}
 use Rattle.files.specs.TaskFile.{taskOf}
-use Rattle.reduction.specs.Reduce.{Rooms}
 use Rattle.search.specs.Planner.{PlanRooms, searched, planMade, plan}
 use Rattle.search.specs.declared.Planned.{Planned}
 

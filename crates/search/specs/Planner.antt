@@ -1,6 +1,6 @@
 -- The planner: the whole row, with what each lent buffer holds after every outcome.
 use Prim.Native.Nat.{ℕ}
-use mathlib.Core.Bool.{Bool, true, false, cond}
+use mathlib.Core.Bool.{cond}
 use mathlib.Core.List.{List, []}
 use mathlib.Core.Option.{Option, none, some, Option·map, Option·getD}
 use lib.Dec.{leb}
@@ -10,8 +10,8 @@ use Rattle.files.specs.Outcome.{done, refusal, isDone, guard, andThen, fits, af
 use Rattle.files.specs.Task.{Task, actionCount, factCount}
 use Rattle.files.specs.TaskFile.{taskOf}
 use Rattle.files.specs.PlanFile.{planFile}
-use Rattle.plans.specs.Plan.{Total, totalOf}
-use Rattle.marking.specs.Rounds.{Marking, marking}
+use Rattle.plans.specs.Plan.{totalOf}
+use Rattle.marking.specs.Rounds.{marking}
 use Rattle.reduction.specs.Task.{reducedTask, byOriginal}
 use Rattle.reduction.specs.Reduce.{Rooms, reducedFile, originsFile, reduceStage, reducedActionMarks, reducedFactMarks, reducedBuffer, originBuffer}
 use Rattle.search.specs.States.{stateCount}

@@ -6,7 +6,7 @@ use mathlib.Core.Option.{Option, none, some}
 use lib.ListN.{getD}
 use Rattle.files.specs.Below.{tabulate}
 use Rattle.files.specs.Task.{Action, Task, actionCount, actionOf}
-use Rattle.plans.specs.State.{State, allHold, applicable, apply}
+use Rattle.plans.specs.State.{allHold, applicable, apply}
 use Rattle.plans.specs.Plan.{Total, noSteps, addStep, atMost}
 use Rattle.search.specs.States.{stateCount, stateNumber, stateAt}
 use Rattle.search.specs.declared.Entry.{Entry}

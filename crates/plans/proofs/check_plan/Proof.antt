@@ -1,11 +1,10 @@
 -- The task file, the plan file and the walk give the answer in this order; the arrays hold the file's task.
-use Prim.Native.Nat.{ℕ}
-use mathlib.Core.Path.{_≡_, refl, sym, ap, _∙_}
+use Rattle.files.specs.Bytes.{Octets}
+use mathlib.Core.Path.{_≡_, sym, ap, _∙_}
 use native.Mathlib.Omega.{arith}
 use denote.Ref.{now}
 use Rattle.files.specs.declared.Outcome.{Outcome}
 use Rattle.files.specs.TaskFile.{checkTask}
-use Rattle.files.proofs.Stands.{Octets}
 use Rattle.files.proofs.HeldLaws.{variables-in-few, actions-in-few}
 use Rattle.plans.proofs.CheckLaws.{check-first, check-second, check-walks, steps-few, steps-known}
 use borrow.Author.Needs.{needs}

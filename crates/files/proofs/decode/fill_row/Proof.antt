@@ -1,7 +1,6 @@
 -- The loop's invariant: filling in the pairs that are left gives the row with all of them.
-use Prim.Native.Nat.{ℕ, _+_, _*_, _%_, _≤_, _<_}
-use mathlib.Core.Path.{_≡_, refl, _∙_}
-use native.Mathlib.Omega.{arith}
+use Prim.Native.Nat.{_+_, _*_, _≤_, _<_}
+use mathlib.Core.Path.{_≡_}
 use lib.ListN.{length}
 use Rattle.files.specs.TaskFile.{pairsFrom}
 use Rattle.files.specs.Rows.{filled}

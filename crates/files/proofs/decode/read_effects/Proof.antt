@@ -1,13 +1,13 @@
 -- The loop's invariant: filling in the rows that are left gives all of them.
-use Prim.Native.Nat.{ℕ, _+_, _*_, _%_, _≤_, _<_}
-use mathlib.Core.Path.{_≡_, refl, _∙_}
+use Prim.Native.Nat.{_+_, _*_, _≤_, _<_}
+use mathlib.Core.Path.{_≡_}
 use native.Mathlib.Omega.{arith}
 use lib.ListN.{length}
 use Rattle.files.specs.TaskFile.{actionsFrom}
 use Rattle.files.specs.Rows.{filledRows, effectLists}
 use Rattle.files.proofs.Decoding.{effects-next, effects-none}
 use borrow.Author.Needs.{needs}
-use Prim.Native.Nat.{ℕ, _+_, _*_, _≤_, _<_}
+use Prim.Native.Nat.{_+_, _*_, _≤_, _<_}
 use Rattle.files.proofs.decode.read_effects.Statement.{statement}
 use Rattle.files.proofs.decode.read_effects.Tie as tie
 

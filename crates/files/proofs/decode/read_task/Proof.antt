@@ -1,11 +1,10 @@
 -- Each array is filled with its part of the task that an accepted file holds, so together they hold that task.
-use Prim.Native.Nat.{ℕ}
+use Rattle.files.specs.Bytes.{Octets}
 use mathlib.Core.Path.{_≡_, sym, ap, _∙_}
 use native.Mathlib.Omega.{arith}
 use denote.Ref.{now}
 use Rattle.files.specs.declared.Outcome.{Outcome}
 use Rattle.files.specs.TaskFile.{checkTask}
-use Rattle.files.proofs.Stands.{Octets}
 use Rattle.files.proofs.HeldLaws.{variables-in-few, actions-in-few, held-file}
 use borrow.Author.Needs.{needs}
 use Rattle.files.proofs.decode.read_task.Statement.{statement}

@@ -1,6 +1,6 @@
 -- The loop's invariant: the conditions of the entries that are left hold exactly where all do.
-use Prim.Native.Nat.{ℕ, _+_, _-_, _≤_, _<_}
-use mathlib.Core.Path.{_≡_, refl, sym, ap, _∙_}
+use Prim.Native.Nat.{_+_}
+use mathlib.Core.Path.{_≡_}
 use Rattle.files.specs.Dense.{rowPairs}
 use Rattle.plans.specs.State.{allHold}
 use Rattle.plans.specs.Tally.{listState}

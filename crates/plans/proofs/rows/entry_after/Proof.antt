@@ -1,6 +1,5 @@
 -- An entry of 255 sets nothing; any other sets its value.
 use Rattle.plans.proofs.RowStates.{after-none, after-some}
-use borrow.Author.Needs.{needs}
 use Rattle.plans.proofs.rows.entry_after.Statement.{statement}
 use Rattle.plans.proofs.rows.entry_after.Tie as tie
 

@@ -1,6 +1,5 @@
 -- An entry of 255 asks nothing; any other asks its value.
 use Rattle.plans.proofs.RowStates.{meets-none, meets-some}
-use borrow.Author.Needs.{needs}
 use Rattle.plans.proofs.rows.meets.Statement.{statement}
 use Rattle.plans.proofs.rows.meets.Tie as tie
 

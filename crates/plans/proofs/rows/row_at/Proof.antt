@@ -1,6 +1,6 @@
 -- The loop's invariant: each entry before `v` is copied, and each from `v` on says no pair.
 use Prim.Native.Nat.{ℕ, _+_, _-_, _≤_, _<_}
-use mathlib.Core.Path.{_≡_, refl, sym, ap, _∙_}
+use mathlib.Core.Path.{_≡_, refl, ap, _∙_}
 use native.Mathlib.Omega.{arith}
 use lib.ListN.{length, length-set, getD, getD-replicate}
 use Rattle.files.proofs.Filling.{filled-before, filled-after}

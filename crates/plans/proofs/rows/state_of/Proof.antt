@@ -1,6 +1,6 @@
 -- The loop's invariant: each entry before `v` is copied, and each from `v` on is 0.
-use Prim.Native.Nat.{ℕ, _+_, _-_, _≤_, _<_}
-use mathlib.Core.Path.{_≡_, refl, sym, ap, _∙_}
+use Prim.Native.Nat.{ℕ, _-_, _≤_, _<_}
+use mathlib.Core.Path.{_≡_, refl, _∙_}
 use native.Mathlib.Omega.{arith}
 use lib.ListN.{length, length-set, getD}
 use Rattle.files.proofs.Filling.{filled-before, filled-after, zeros-entry}

@@ -1,9 +1,4 @@
 -- Both rows are copied, and the cost stands beside them.
-use Prim.Native.Nat.{ℕ, _+_, _*_, _-_, _≤_, _<_}
-use mathlib.Core.Path.{_≡_, refl, sym, ap, _∙_}
-use native.Mathlib.Omega.{arith}
-use denote.Ref.{now}
-use lib.ListN.{getD}
 use Rattle.files.specs.Task.{action}
 use Rattle.files.specs.Dense.{rowAction}
 use Rattle.plans.specs.Tally.{rowOf}

@@ -1,16 +1,9 @@
 -- The goal is tested in the state of the tally, whose minutes and steps are the plan's.
-use Prim.Native.Nat.{ℕ, _+_, _*_, _-_, _≤_, _<_}
-use mathlib.Core.Path.{_≡_, refl, sym, ap, _∙_}
-use mathlib.Core.Bool.{Bool, true, false, cond}
-use native.Mathlib.Omega.{arith}
+use mathlib.Core.Path.{refl, sym, _∙_}
 use borrow.Author.Tests.{not-true, not-false}
-use Rattle.files.specs.declared.Outcome.{Outcome}
-use Rattle.files.specs.Outcome.{done, refusal, isDone, guard}
-use Rattle.files.proofs.Guards.{guard-passes, guard-refuses, is-refused, is-done}
-use Rattle.plans.specs.State.{allHold}
-use Rattle.plans.specs.Plan.{noSteps}
+use Rattle.files.specs.Outcome.{done}
 use Rattle.plans.specs.Check.{withTotal}
-use Rattle.plans.specs.Tally.{stateOf, totalIn, endAnswer}
+use Rattle.plans.specs.Tally.{stateOf, totalIn}
 use Rattle.plans.proofs.WalkLaws.{end-refuses, end-passes}
 use borrow.Author.Needs.{needs}
 use Rattle.plans.proofs.walk.ended.Statement.{statement}

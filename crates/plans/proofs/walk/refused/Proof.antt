@@ -1,8 +1,7 @@
 -- Cost and steps are 0.
-use mathlib.Core.Path.{_≡_, refl, sym, ap, _∙_}
+use mathlib.Core.Path.{refl}
 use Rattle.plans.specs.Plan.{noSteps}
 use Rattle.plans.specs.Check.{withTotal}
-use borrow.Author.Needs.{needs}
 use Rattle.plans.proofs.walk.refused.Statement.{statement}
 use Rattle.plans.proofs.walk.refused.Tie as tie
 

@@ -1,6 +1,6 @@
 -- The loop's invariant: what is left to check from here is what the whole plan asks, and the tally with what is left to add up is the whole plan's total.
 use Prim.Native.Nat.{ℕ, _+_, _*_, _-_, _≤_, _<_}
-use mathlib.Core.Path.{_≡_, refl, sym, ap, _∙_}
+use mathlib.Core.Path.{_≡_, sym, ap, _∙_}
 use mathlib.Core.List.{List}
 use native.Mathlib.Omega.{arith}
 use denote.Ref.{now}
@@ -10,7 +10,7 @@ use Rattle.files.specs.Task.{actionOf}
 use Rattle.files.specs.Dense.{Arrays, arrays, held, rowAction}
 use Rattle.files.specs.PlanFile.{planOf}
 use Rattle.plans.specs.Plan.{Total, noSteps, addStep, stepOf}
-use Rattle.plans.specs.Tally.{rowOf, stateOf, totalIn, endAnswer}
+use Rattle.plans.specs.Tally.{rowOf, totalIn, endAnswer}
 use Rattle.plans.proofs.WalkLaws.{Walking, held-action, held-start, walking-begins, walking-next, walking-stops, walking-ends}
 use borrow.Author.Needs.{needs}
 use Rattle.plans.proofs.walk.take_steps.Statement.{statement}

@@ -1,5 +1,4 @@
 -- The action's conditions are those of its row.
-use mathlib.Core.Path.{_≡_, refl, sym, ap, _∙_}
 use Rattle.plans.specs.State.{applicable}
 use Rattle.plans.specs.Tally.{rowOf, stateOf}
 use borrow.Author.Needs.{needs}

@@ -1,8 +1,7 @@
 -- No step is taken yet.
-use mathlib.Core.Path.{_≡_, refl, sym, ap, _∙_}
+use mathlib.Core.Path.{refl}
 use Rattle.plans.specs.Plan.{noSteps}
 use Rattle.plans.specs.Tally.{stateOf, totalIn}
-use borrow.Author.Needs.{needs}
 use Rattle.plans.proofs.tally.Tally.start.Statement.{statement}
 use Rattle.plans.proofs.tally.Tally.start.Tie as tie
 

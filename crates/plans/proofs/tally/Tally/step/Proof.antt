@@ -1,6 +1,6 @@
 -- The effects are applied to the state, and the cost and one step are added.
-use Prim.Native.Nat.{ℕ, _+_, _-_, _≤_, _<_}
-use mathlib.Core.Path.{_≡_, refl, fun-ext}
+use Prim.Native.Nat.{_+_}
+use mathlib.Core.Path.{_≡_, fun-ext}
 use native.Mathlib.Omega.{arith}
 use Rattle.plans.specs.Plan.{addStep}
 use Rattle.plans.specs.State.{apply}
