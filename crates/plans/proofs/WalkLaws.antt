@@ -96,31 +96,31 @@ module _ (t : Task) (plan : List ℕ) where
         ∙ ap (λ (x : Outcome). withTotal x (cond (isDone x) (totalOf t plan) noSteps)) refused
 
   -- after the last step
-  pub walking-ends : (tally : Tally) (i : ℕ) (goal : List Pair) → Walking t plan tally i → length plan ≤ i → i ≤ length plan → t .goal ≡ goal → endAnswer tally goal i ≡ walkAnswer t plan
-  unfolding walkAnswer answer endAnswer takeSteps totalOf noSteps
+  pub walking-ends : (tally : Tally) (i : ℕ) (goal : List Pair) → Walking t plan tally i → length plan ≤ i → i ≤ length plan → t .goal ≡ goal → endAnswer tally goal ≡ walkAnswer t plan
+  unfolding walkAnswer answer endAnswer takeSteps totalOf totalIn noSteps
   walking-ends tally i goal w h k g =
       let none : drop i plan ≡ [] = drop-of-length-le plan h in
-      let outcome : guard (allHold goal (stateOf tally)) 23 i done ≡ takeSteps t (startState t) 0 plan =
-      ap (λ (l : List Pair). guard (allHold l (stateOf tally)) 23 i done) (sym g) ∙ sym (ap (takeSteps t (stateOf tally) i) none) ∙ w .checks in
+      let outcome : guard (allHold goal (stateOf tally)) 23 (tally .steps .0) done ≡ takeSteps t (startState t) 0 plan =
+      ap₂ (λ (l : List Pair) (n : ℕ). guard (allHold l (stateOf tally)) 23 n done) (sym g) (w .steps) ∙ sym (ap (takeSteps t (stateOf tally) i) none) ∙ w .checks in
       let minutes : totalIn tally .minutes ≡ totalOf t plan .minutes = omega (arith, w .minutes, ap (λ (l : List ℕ). totalOf t l .minutes) none) in
       let steps : totalIn tally .steps ≡ totalOf t plan .steps = omega (arith, w .steps, total-steps t plan) in
       ap₂ (λ (o : Outcome) (x : Total). withTotal o (cond (isDone o) x noSteps)) outcome (λ j. record { minutes = minutes j; steps = steps j })
 
 -- the last answer, from the test of the goal
-module _ (tally : Tally) (goal : List Pair) (i : ℕ) where
-  pub end-refuses : (o : Outcome) (r : Checked) → allHold goal (stateOf tally) ≡ false → o ≡ refusal 23 i → r ≡ withTotal o noSteps → r ≡ endAnswer tally goal i
+module _ (tally : Tally) (goal : List Pair) where
+  pub end-refuses : (o : Outcome) (r : Checked) → allHold goal (stateOf tally) ≡ false → o ≡ refusal 23 (tally .steps .0) → r ≡ withTotal o noSteps → r ≡ endAnswer tally goal
   unfolding endAnswer
   end-refuses o r e f g =
-      let refused : o ≡ guard (allHold goal (stateOf tally)) 23 i done = guard-refuses (allHold goal (stateOf tally)) 23 i done o e f in
+      let refused : o ≡ guard (allHold goal (stateOf tally)) 23 (tally .steps .0) done = guard-refuses (allHold goal (stateOf tally)) 23 (tally .steps .0) done o e f in
       let number : o .number ≡ 0 → ⊥ = λ q. omega (arith, ap (λ (x : Outcome). x .number) f) in
       g
       ∙ ap (λ (b : Bool). withTotal o (cond b (totalIn tally) noSteps)) (sym (is-refused o number))
       ∙ ap (λ (x : Outcome). withTotal x (cond (isDone x) (totalIn tally) noSteps)) refused
 
-  pub end-passes : (o : Outcome) (r : Checked) → allHold goal (stateOf tally) ≡ true → o ≡ done → r ≡ withTotal o (totalIn tally) → r ≡ endAnswer tally goal i
+  pub end-passes : (o : Outcome) (r : Checked) → allHold goal (stateOf tally) ≡ true → o ≡ done → r ≡ withTotal o (totalIn tally) → r ≡ endAnswer tally goal
   unfolding endAnswer
   end-passes o r e f g =
-      let passes : o ≡ guard (allHold goal (stateOf tally)) 23 i done = guard-passes (allHold goal (stateOf tally)) 23 i done o e f in
+      let passes : o ≡ guard (allHold goal (stateOf tally)) 23 (tally .steps .0) done = guard-passes (allHold goal (stateOf tally)) 23 (tally .steps .0) done o e f in
       g
       ∙ ap (λ (b : Bool). withTotal o (cond b (totalIn tally) noSteps)) (sym (is-done o (ap (λ (x : Outcome). x .number) f)))
       ∙ ap (λ (x : Outcome). withTotal x (cond (isDone x) (totalIn tally) noSteps)) passes

@@ -37,7 +37,7 @@ unfoldable pub totalIn : Tally → Total
 totalIn tally = record { minutes = tally .minutes .0; steps = tally .steps .0 }
 
 -- the answer after the last step, from a tally
-unfoldable pub endAnswer : Tally → List Pair → ℕ → Checked
-endAnswer tally goal steps =
-    let o = guard (allHold goal (stateOf tally)) 23 steps done in
+unfoldable pub endAnswer : Tally → List Pair → Checked
+endAnswer tally goal =
+    let o = guard (allHold goal (stateOf tally)) 23 (tally .steps .0) done in
     withTotal o (cond (isDone o) (totalIn tally) noSteps)

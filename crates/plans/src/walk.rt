@@ -10,6 +10,7 @@ ghost use Rattle.plans.specs.Plan.{noSteps, stepOf};
 ghost use Rattle.plans.specs.Tally.{rowOf, endAnswer};
 use crate::Checked;
 use crate::Minutes;
+use crate::OriginalAction;
 use crate::Steps;
 use crate::rows;
 use crate::tally::Row;
@@ -34,17 +35,27 @@ fn minutes_of(cost: u32) -> Minutes
     Minutes(cost as u64)
 }
 
-// The row of action `a`.
+// The action of step `i` of a plan file.
+fn step_at(plan: &[u8], i: usize) -> OriginalAction
+    requires { ⌜ i < length (planOf (now plan)) ⌝ }
+    ensures { λ r. ⌜ r .0 ≡ stepOf (planOf (now (plan .entry))) i ⌝ }
+{
+    let action = files::plan::step(plan, i);
+    OriginalAction(action as u16)
+}
+
+// The row of an action.
 fn action_at(
-    a: usize,
+    action: OriginalAction,
     variables: usize,
     costs: &[u32; 512],
     conditions: &[u8; 32768],
     effects: &[u8; 32768],
 ) -> Row
-    requires { ⌜ (a < 512) × (variables ≤ 64) ⌝ }
-    ensures { λ r. ⌜ (rowOf r ≡ rowAction variables (now (costs .entry)) (now (conditions .entry)) (now (effects .entry)) a) × (r .cost .0 < 4294967296) ⌝ }
+    requires { ⌜ (action .0 < 512) × (variables ≤ 64) ⌝ }
+    ensures { λ r. ⌜ (rowOf r ≡ rowAction variables (now (costs .entry)) (now (conditions .entry)) (now (effects .entry)) (action .0)) × (r .cost .0 < 4294967296) ⌝ }
 {
+    let a = action.0 as usize;
     let base = 64 * a;
     let asked = rows::row_at(conditions, base, variables);
     let set = rows::row_at(effects, base, variables);
@@ -57,20 +68,20 @@ fn action_at(
 }
 
 // The answer after the last step: the goal is tested.
-fn ended(tally: Tally, goal: [u8; 64], steps: usize) -> Checked
-    ensures { λ r. ⌜ r ≡ endAnswer tally (rowPairs goal 0 0 64) steps ⌝ }
+fn ended(tally: Tally, goal: [u8; 64]) -> Checked
+    ensures { λ r. ⌜ r ≡ endAnswer tally (rowPairs goal 0 0 64) ⌝ }
 {
     let state = tally.state;
+    let minutes = tally.minutes;
+    let steps = tally.steps;
     if !rows::all_hold(goal, state) {
-        return refused(outcomes::refuse(23, steps));
+        return refused(outcomes::refuse(23, steps.0 as usize));
     }
     let done = outcomes::done();
-    let minutes = tally.minutes;
-    let taken = tally.steps;
     Checked {
         outcome: done,
         cost: minutes,
-        steps: taken,
+        steps: steps,
     }
 }
 
@@ -93,13 +104,12 @@ pub fn take_steps(
     let mut tally = Tally::start(rows::state_of(starts, variables));
     let mut i: usize = 0;
     while i < count {
-        let a = files::plan::step(plan, i);
-        let action = action_at(a, variables, costs, conditions, effects);
+        let action = action_at(step_at(plan, i), variables, costs, conditions, effects);
         if !tally.meets(action) {
             return refused(outcomes::refuse(22, i));
         }
         tally = tally.step(action);
         i += 1;
     }
-    ended(tally, aim, count)
+    ended(tally, aim)
 }

@@ -6,6 +6,9 @@ use borrow.Author.Needs.{needs}
 use Rattle.plans.proofs.walk.action_at.Statement.{statement}
 use Rattle.plans.proofs.walk.action_at.Tie as tie
 
+cast-a : tie.Need-cast-a
+cast-a c = search needs
+
 mul-base : tie.Need-mul-base
 mul-base c = search needs
 
@@ -32,6 +35,7 @@ pub action-at-spec : {M : Type 1} → statement M
 action-at-spec =
     tie.close
     (tie.spec
+    cast-a
     mul-base
     row-at-requires
     row-at-requires-2

@@ -10,7 +10,7 @@ use Rattle.files.specs.Task.{actionOf}
 use Rattle.files.specs.Dense.{Arrays, arrays, held, rowAction}
 use Rattle.files.specs.PlanFile.{planOf}
 use Rattle.plans.specs.Plan.{Total, noSteps, addStep, stepOf}
-use Rattle.plans.specs.Tally.{rowOf, totalIn, endAnswer}
+use Rattle.plans.specs.Tally.{rowOf, totalIn}
 use Rattle.plans.proofs.WalkLaws.{Walking, held-action, held-start, walking-begins, walking-next, walking-stops, walking-ends}
 use borrow.Author.Needs.{needs}
 use Rattle.plans.proofs.walk.take_steps.Statement.{statement}
@@ -53,8 +53,8 @@ loop-holds c =
       none,
     )
 
-step-requires : tie.Need-step-requires Inv-loop μ-loop
-step-requires c κs = omega (arith, c .before .before .before .before .before .before .steps .ensures .0)
+step-at-requires : tie.Need-step-at-requires Inv-loop μ-loop
+step-at-requires c κs = omega (arith, c .before .before .before .before .before .before .steps .ensures .0)
 
 action-at-requires : tie.Need-action-at-requires Inv-loop μ-loop
 action-at-requires c κs =
@@ -63,7 +63,7 @@ action-at-requires c κs =
     let d : List ℕ → Arrays = λ sizes. arrays (a .variables) (a .actions) sizes (now (a .starts)) (now (a .goal)) (now (a .costs)) (now (a .conditions)) (now (a .effects)) in
     let l = c .before .before .loop in
     let below : l .i < length plan = omega (arith, c .before .before .before .before .before .before .before .steps .ensures .0, c .before .loop-test .taken) in
-    omega (arith, c .before .before .before .before .before .before .before .before .before .pre .3 (l .i) below, c .step .ensures .0)
+    omega (arith, c .before .before .before .before .before .before .before .before .before .pre .3 (l .i) below, c .step-at .ensures)
 
 meets-requires : tie.Need-meets-requires Inv-loop μ-loop
 meets-requires c κs = search needs
@@ -83,7 +83,7 @@ returns c =
     let below : l .i < length plan = omega (arith, c .before .before .before .before .before .before .before .before .before .before .before .before .steps .ensures .0, c .before .before .before .before .before .before .loop-test .taken) in
     let known : stepOf plan (l .i) < a .actions = c .before .before .before .before .before .before .before .before .before .before .before .before .before .before .pre .3 (l .i) below in
     let row : rowOf (c .before .before .before .before .action-at .result) ≡ rowAction (a .variables) (now (a .costs)) (now (a .conditions)) (now (a .effects)) (stepOf plan (l .i)) =
-    c .before .before .before .before .action-at .ensures .0 ∙ ap (rowAction (a .variables) (now (a .costs)) (now (a .conditions)) (now (a .effects))) (c .before .before .before .before .before .step .ensures .0) in
+    c .before .before .before .before .action-at .ensures .0 ∙ ap (rowAction (a .variables) (now (a .costs)) (now (a .conditions)) (now (a .effects))) (c .before .before .before .before .before .step-at .ensures) in
     let due : (sizes : List ℕ) → actionOf (held (d sizes)) (stepOf plan (l .i)) ≡ rowOf (c .before .before .before .before .action-at .result) = λ sizes. held-action (d sizes) (stepOf plan (l .i)) known ∙ sym row in
     λ sizes.
     walking-stops (held (d sizes)) plan (l .tally) (l .i) (l .inv .0 sizes) below _ (due sizes) _ _
@@ -91,11 +91,11 @@ returns c =
     (c .before .refuse .ensures)
     (c .refused .ensures)
 
-step-requires-2 : tie.Need-step-requires-2 Inv-loop μ-loop
-step-requires-2 c κs = omega (arith, c .before .before .before .before .before .before .before .before .before .before .steps .ensures .0, c .before .before .action-at .ensures .1)
+step-requires : tie.Need-step-requires Inv-loop μ-loop
+step-requires c κs = omega (arith, c .before .before .before .before .before .before .before .before .before .before .steps .ensures .0, c .before .before .action-at .ensures .1)
 
 add-i : tie.Need-add-i Inv-loop μ-loop
-add-i c = search needs
+add-i c = omega (arith, c .before .before .before .before .before .before .before .before .before .before .before .steps .ensures .1)
 
 loop-less : tie.Need-loop-less Inv-loop μ-loop
 loop-less c = search needs
@@ -110,15 +110,15 @@ loop-again c =
     let below : l .i < length plan = omega (arith, c .before .before .before .before .before .before .before .before .before .before .before .steps .ensures .0, c .before .before .before .before .before .loop-test .taken) in
     let known : stepOf plan (l .i) < a .actions = c .before .before .before .before .before .before .before .before .before .before .before .before .before .pre .3 (l .i) below in
     let row : rowOf (c .before .before .before .action-at .result) ≡ rowAction (a .variables) (now (a .costs)) (now (a .conditions)) (now (a .effects)) (stepOf plan (l .i)) =
-    c .before .before .before .action-at .ensures .0 ∙ ap (rowAction (a .variables) (now (a .costs)) (now (a .conditions)) (now (a .effects))) (c .before .before .before .before .step .ensures .0) in
+    c .before .before .before .action-at .ensures .0 ∙ ap (rowAction (a .variables) (now (a .costs)) (now (a .conditions)) (now (a .effects))) (c .before .before .before .before .step-at .ensures) in
     let due : (sizes : List ℕ) → actionOf (held (d sizes)) (stepOf plan (l .i)) ≡ rowOf (c .before .before .before .action-at .result) = λ sizes. held-action (d sizes) (stepOf plan (l .i)) known ∙ sym row in
-    let minutes : c .step2 .result .minutes .0 ≡ c .before .before .before .action-at .result .cost .0 + l .tally .minutes .0 = ap (λ (x : Total). x .minutes) (c .step2 .ensures .1) in
-    let steps : c .step2 .result .steps .0 ≡ l .tally .steps .0 + 1 = ap (λ (x : Total). x .steps) (c .step2 .ensures .1) in (
+    let minutes : c .step .result .minutes .0 ≡ c .before .before .before .action-at .result .cost .0 + l .tally .minutes .0 = ap (λ (x : Total). x .minutes) (c .step .ensures .1) in
+    let steps : c .step .result .steps .0 ≡ l .tally .steps .0 + 1 = ap (λ (x : Total). x .steps) (c .step .ensures .1) in (
       λ sizes.
-          walking-next (held (d sizes)) plan (l .tally) (l .i) (l .inv .0 sizes) below _ (due sizes) (c .step2 .result)
+          walking-next (held (d sizes)) plan (l .tally) (l .i) (l .inv .0 sizes) below _ (due sizes) (c .step .result)
           (sym (c .before .before .meets .ensures) ∙ not-false _ (c .before .if1 .left))
-          (c .step2 .ensures .0)
-          (c .step2 .ensures .1),
+          (c .step .ensures .0)
+          (c .step .ensures .1),
       omega arith,
       omega (arith, c .before .before .before .action-at .ensures .1),
       omega arith,
@@ -134,10 +134,8 @@ returns-2 c =
     let plan = planOf (now (a .plan)) in
     let d : List ℕ → Arrays = λ sizes. arrays (a .variables) (a .actions) sizes (now (a .starts)) (now (a .goal)) (now (a .costs)) (now (a .conditions)) (now (a .effects)) in
     let l = c .before .before .loop in
-    let count : c .before .before .before .before .before .before .before .steps .result ≡ l .i = omega arith in
     λ sizes.
     c .ended .ensures
-    ∙ ap (endAnswer (l .tally) _) count
     ∙ walking-ends (held (d sizes)) plan (l .tally) (l .i) _ (l .inv .0 sizes) (omega (arith, c .before .before .before .before .before .before .before .steps .ensures .0)) (omega (arith, c .before .before .before .before .before .before .before .steps .ensures .0)) (sym (c .before .before .before .before .before .row-at .ensures))
 
 pub take-steps-spec : {M : Type 1} → statement M
@@ -151,13 +149,13 @@ take-steps-spec =
     state-of-requires
     start-requires
     loop-holds
-    step-requires
+    step-at-requires
     action-at-requires
     meets-requires
     refuse-requires
     refused-requires
     returns
-    step-requires-2
+    step-requires
     add-i
     loop-less
     loop-again
