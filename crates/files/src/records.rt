@@ -4,7 +4,7 @@ ghost use mathlib.Core.List.{_++_};
 ghost use Prim.Native.Nat.{_+_, _*_, _<_, _≤_};
 ghost use lib.ListN.{length};
 ghost use Rattle.files.specs.Bytes.{u16Bytes, u32Bytes, placed};
-ghost use Rattle.files.specs.Records.{bodyLength, kindAt, recordEnd, recordsEnd, bodyRule, bodyFits, headAt, numbersAt, signOffAt, signerOf, recordBytes};
+ghost use Rattle.files.specs.Records.{rule, bodyLength, kindAt, recordEnd, recordsEnd, bodyRule, bodyFits, headAt, numbersAt, signOffAt, signerOf, recordBytes};
 use crate::Outcome;
 use crate::bytes;
 use crate::outcomes;
@@ -16,56 +16,30 @@ pub struct Rule {
     pub limit: usize,
 }
 
+fn lengths(least: usize, step: usize, limit: usize) -> Rule
+    ensures { λ r. ⌜ r ≡ rule least step limit ⌝ }
+{
+    Rule {
+        least: least,
+        step: step,
+        limit: limit,
+    }
+}
+
 // The body length rule of each kind; no body fits an unknown one.
 pub fn body_rule(kind: usize) -> Rule
     ensures { λ r. ⌜ (r ≡ bodyRule kind) × (0 < r .step) ⌝ }
 {
     match kind {
-        1 => Rule {
-            least: 4,
-            step: 65536,
-            limit: 4,
-        },
-        2 => Rule {
-            least: 4,
-            step: 65536,
-            limit: 4,
-        },
-        3 => Rule {
-            least: 0,
-            step: 4,
-            limit: 256,
-        },
-        4 => Rule {
-            least: 8,
-            step: 1,
-            limit: 65535,
-        },
-        5 => Rule {
-            least: 8,
-            step: 65536,
-            limit: 8,
-        },
-        6 => Rule {
-            least: 4,
-            step: 2,
-            limit: 66,
-        },
-        7 => Rule {
-            least: 0,
-            step: 2,
-            limit: 1024,
-        },
-        8 => Rule {
-            least: 0,
-            step: 2,
-            limit: 8192,
-        },
-        0 | 9.. => Rule {
-            least: 65536,
-            step: 1,
-            limit: 0,
-        },
+        1 => lengths(4, 65536, 4),
+        2 => lengths(4, 65536, 4),
+        3 => lengths(0, 4, 256),
+        4 => lengths(8, 1, 65535),
+        5 => lengths(8, 65536, 8),
+        6 => lengths(4, 2, 66),
+        7 => lengths(0, 2, 1024),
+        8 => lengths(0, 2, 8192),
+        0 | 9.. => lengths(65536, 1, 0),
     }
 }
 

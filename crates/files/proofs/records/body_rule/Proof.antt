@@ -1,10 +1,13 @@
 -- Each kind's arm gives the entry of its number in the definition's list; a kind that is in no arm lies past the list.
-use Prim.Native.Nat.{ℕ, zero-le, _+_, _≤_}
-use mathlib.Core.Path.{_≡_, sym, ap}
+use Prim.Native.Nat.{ℕ, zero-le, _+_, _≤_, _<_}
+use mathlib.Core.Path.{_≡_, refl, sym, ap, subst, _∙_}
+use mathlib.Core.Logic.{⊎-elim}
 use native.Mathlib.Omega.{arith}
 use lib.Dec.{lit<}
 use lib.ListN.{List·getD-eq-default}
-use Rattle.files.specs.Records.{bodyRule}
+use Rattle.files.specs.Records.{rule, bodyRule}
+use Rattle.files.specs.declared.records.Rule.{Rule}
+use borrow.Author.Needs.{needs}
 use Rattle.files.proofs.records.body_rule.Statement.{statement}
 use Rattle.files.proofs.records.body_rule.Tie as tie
 
@@ -12,47 +15,80 @@ use Rattle.files.proofs.records.body_rule.Tie as tie
 above : (n k : ℕ) → n ≤ k → (k ≡ n → ⊥) → n + 1 ≤ k
 above n k h d = omega arith
 
+rule-of : (kind k : ℕ) (r x : Rule) → r ≡ x → kind ≡ k → x ≡ bodyRule k → 0 < x .step → (r ≡ bodyRule kind) × (0 < r .step)
+rule-of kind k r x e q b h = (e ∙ b ∙ sym (ap bodyRule q), subst (λ (y : Rule). 0 < y .step) (sym e) h)
+
+rule-past : (kind : ℕ) (r : Rule) → r ≡ rule 65536 1 0 → 9 ≤ kind → (r ≡ bodyRule kind) × (0 < r .step)
+unfolding bodyRule
+rule-past kind r e h = (e ∙ rw List·getD-eq-default, subst (λ (y : Rule). 0 < y .step) (sym e) (lit< tt))
+
+lengths-requires : tie.Need-lengths-requires
+lengths-requires c κs = search needs
+
+lengths-requires-2 : tie.Need-lengths-requires-2
+lengths-requires-2 c κs = search needs
+
+lengths-requires-3 : tie.Need-lengths-requires-3
+lengths-requires-3 c κs = search needs
+
+lengths-requires-4 : tie.Need-lengths-requires-4
+lengths-requires-4 c κs = search needs
+
+lengths-requires-5 : tie.Need-lengths-requires-5
+lengths-requires-5 c κs = search needs
+
+lengths-requires-6 : tie.Need-lengths-requires-6
+lengths-requires-6 c κs = search needs
+
+lengths-requires-7 : tie.Need-lengths-requires-7
+lengths-requires-7 c κs = search needs
+
+lengths-requires-8 : tie.Need-lengths-requires-8
+lengths-requires-8 c κs = search needs
+
+lengths-requires-9 : tie.Need-lengths-requires-9
+lengths-requires-9 c κs = search needs
+
 returns : tie.Need-returns
 unfolding bodyRule
-returns c = (sym (ap bodyRule (c .match .keys1)), lit< tt)
+returns c = rule-of _ 1 _ (rule 4 65536 4) (c .lengths .ensures) (c .before .match .keys1) refl (lit< tt)
 
 returns-2 : tie.Need-returns-2
 unfolding bodyRule
-returns-2 c = (sym (ap bodyRule (c .match .keys2)), lit< tt)
+returns-2 c = rule-of _ 2 _ (rule 4 65536 4) (c .lengths2 .ensures) (c .before .match .keys2) refl (lit< tt)
 
 returns-3 : tie.Need-returns-3
 unfolding bodyRule
-returns-3 c = (sym (ap bodyRule (c .match .keys3)), lit< tt)
+returns-3 c = rule-of _ 3 _ (rule 0 4 256) (c .lengths3 .ensures) (c .before .match .keys3) refl (lit< tt)
 
 returns-4 : tie.Need-returns-4
 unfolding bodyRule
-returns-4 c = (sym (ap bodyRule (c .match .keys4)), lit< tt)
+returns-4 c = rule-of _ 4 _ (rule 8 1 65535) (c .lengths4 .ensures) (c .before .match .keys4) refl (lit< tt)
 
 returns-5 : tie.Need-returns-5
 unfolding bodyRule
-returns-5 c = (sym (ap bodyRule (c .match .keys5)), lit< tt)
+returns-5 c = rule-of _ 5 _ (rule 8 65536 8) (c .lengths5 .ensures) (c .before .match .keys5) refl (lit< tt)
 
 returns-6 : tie.Need-returns-6
 unfolding bodyRule
-returns-6 c = (sym (ap bodyRule (c .match .keys6)), lit< tt)
+returns-6 c = rule-of _ 6 _ (rule 4 2 66) (c .lengths6 .ensures) (c .before .match .keys6) refl (lit< tt)
 
 returns-7 : tie.Need-returns-7
 unfolding bodyRule
-returns-7 c = (sym (ap bodyRule (c .match .keys7)), lit< tt)
+returns-7 c = rule-of _ 7 _ (rule 0 2 1024) (c .lengths7 .ensures) (c .before .match .keys7) refl (lit< tt)
 
 returns-8 : tie.Need-returns-8
 unfolding bodyRule
-returns-8 c = (sym (ap bodyRule (c .match .keys8)), lit< tt)
+returns-8 c = rule-of _ 8 _ (rule 0 2 8192) (c .lengths8 .ensures) (c .before .match .keys8) refl (lit< tt)
 
 returns-9 : tie.Need-returns-9
 unfolding bodyRule
-returns-9 c = (sym (ap bodyRule (c .match .keys9)), lit< tt)
-
-returns-10 : tie.Need-returns-10
-unfolding bodyRule
-returns-10 c =
-    let k = c .before .args .kind in
-    let r = c .match .rest in
+returns-9 c =
+    ⊎-elim
+    (λ zeroth. rule-of _ 0 _ (rule 65536 1 0) (c .lengths9 .ensures) (zeroth .keys9) refl (lit< tt))
+    (λ other.
+    let k = c .before .before .args .kind in
+    let r = other .rest in
     let from1 = above 0 k zero-le (r .1) in
     let from2 = above 1 k from1 (r .0 .0 .0 .0 .0 .0 .0 .0 .1) in
     let from3 = above 2 k from2 (r .0 .0 .0 .0 .0 .0 .0 .1) in
@@ -61,13 +97,22 @@ returns-10 c =
     let from6 = above 5 k from5 (r .0 .0 .0 .0 .1) in
     let from7 = above 6 k from6 (r .0 .0 .0 .1) in
     let from8 = above 7 k from7 (r .0 .0 .1) in
-    let unknown : 9 ≤ k = above 8 k from8 (r .0 .1) in
-    (rw List·getD-eq-default, lit< tt)
+    rule-past k _ (c .lengths9 .ensures) (above 8 k from8 (r .0 .1)))
+    (c .before .match .came)
 
 pub body-rule-spec : {M : Type 1} → statement M
 body-rule-spec =
     tie.close
     (tie.spec
+    lengths-requires
+    lengths-requires-2
+    lengths-requires-3
+    lengths-requires-4
+    lengths-requires-5
+    lengths-requires-6
+    lengths-requires-7
+    lengths-requires-8
+    lengths-requires-9
     returns
     returns-2
     returns-3
@@ -76,5 +121,4 @@ body-rule-spec =
     returns-6
     returns-7
     returns-8
-    returns-9
-    returns-10)
+    returns-9)
