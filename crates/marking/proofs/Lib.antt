@@ -1,2 +1,3 @@
 -- Laws about the crate's definitions.
 pub mod Computes
+pub mod Closed

@@ -1,6 +1,7 @@
 -- Laws about the crate's definitions: the order on cost and steps, plans by their steps, and rows of entries as states.
 pub mod Computes
 pub mod OrderLaws
+pub mod FactLaws
 pub mod StateLaws
 pub mod RunLaws
 pub mod RowStates

@@ -112,3 +112,35 @@ pub total-append : (t : Task) (p q : List ℕ) → totalOf t (p ++ q) .minutes �
 unfolding totalOf addStep noSteps
 total-append t [] q = omega arith
 total-append t (a ∷ p) q = omega (arith, total-append t p q)
+
+-- one action in place of another that costs no less
+abbrev pub NoDearer : Action → Action → Type 0
+NoDearer b a = b .cost ≤ a .cost
+
+pub addStep-cheaper : (b a : Action) (x y : Total) → NoDearer b a → atMost x y ≡ true → atMost (addStep b x) (addStep a y) ≡ true
+unfolding addStep
+addStep-cheaper b a x y n e =
+    atMost-holds (addStep b x) (addStep a y)
+    (⊎-elim
+    (λ l. inl (omega arith))
+    (λ r. split-le (a .cost) (b .cost) (λ m. inr (omega arith)) (λ m. inl (omega arith)))
+    (atMost-says x y e))
+
+pub addStep-cheaper-strict : (b a : Action) (x y : Total) → NoDearer b a → atMost y x ≡ false → atMost (addStep a y) (addStep b x) ≡ false
+unfolding addStep
+addStep-cheaper-strict b a x y n e =
+    split (atMost (addStep a y) (addStep b x))
+    (λ h.
+    absurd
+    (⊎-elim
+    (λ l. ⊎-elim (λ k. omega arith) (λ k. omega arith) (atMost-says (addStep a y) (addStep b x) h))
+    (λ r. ⊎-elim (λ k. omega arith) (λ k. omega arith) (atMost-says (addStep a y) (addStep b x) h))
+    (atMost-fails y x e)))
+    (λ h. h)
+
+-- a step more in the second makes the first strictly less
+pub addStep-drops : (a : Action) (x y : Total) → atMost x y ≡ true → atMost (addStep a y) x ≡ false
+addStep-drops a x y e =
+    split (atMost (addStep a y) x)
+    (λ h. clash (atMost-trans (addStep a y) x y h e) (addStep-more a y))
+    (λ h. h)
