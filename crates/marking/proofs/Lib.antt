@@ -2,3 +2,4 @@
 pub mod Computes
 pub mod Closed
 pub mod Relevance
+pub mod Examples

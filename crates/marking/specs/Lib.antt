@@ -4,3 +4,4 @@ pub mod Links
 pub mod Covering
 pub mod Rounds
 pub mod Mark
+pub mod Examples

@@ -2,5 +2,6 @@
 pub mod Named
 pub mod Renumber
 pub mod Task
+pub mod Preserved
 pub mod Reduce
 pub mod Stretch

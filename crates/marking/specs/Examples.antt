@@ -1,0 +1,28 @@
+-- A task that tells a threat from an action that only restores the start value: what level 3 marks.
+use Prim.Native.Nat.{ℕ}
+use mathlib.Core.Bool.{Bool, _&&_}
+use mathlib.Core.List.{List, [], _∷_}
+use lib.Dec.{eqb}
+use Rattle.files.specs.Below.{sameList}
+use Rattle.files.specs.Task.{Pair, Variable, Action, Task, pair, variable, action}
+use Rattle.marking.specs.Rounds.{Marking, marking}
+use Rattle.marking.specs.Mark.{actionMarksOf, factMarksOf}
+
+-- action 0 asks the start value of variable 0, action 1 restores it on the way to the goal, action 2 does nothing else
+abbrev pub restoring : Task
+restoring =
+    record {
+      variables = variable 2 0 ∷ variable 2 0 ∷ [];
+      goal = pair 1 1 ∷ [];
+      actions =
+          action 1 (pair 0 0 ∷ []) (pair 1 1 ∷ [])
+          ∷ action 1 [] (pair 0 0 ∷ pair 1 1 ∷ [])
+          ∷ action 1 [] (pair 0 0 ∷ [])
+          ∷ [];
+    }
+
+-- actions 0 and 1 are kept in 2 rounds, and the start value of variable 0 is linked
+unfoldable pub restoringIsNoThreat : Bool
+restoringIsNoThreat =
+    sameList eqb (actionMarksOf restoring 3) (1 ∷ 1 ∷ 0 ∷ [])
+    && (sameList eqb (factMarksOf restoring 3) (2 ∷ 0 ∷ 0 ∷ 1 ∷ []) && eqb (marking restoring 3 .rounds) 2)
