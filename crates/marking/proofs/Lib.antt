@@ -7,3 +7,8 @@ pub mod LinkLaws
 pub mod MarkTables
 pub mod RoundLaws
 pub mod FixedPoint
+pub mod CountOrder
+pub mod SameMarks
+pub mod MarkCount
+pub mod RoundBound
+pub mod MarkingClosed
