@@ -1,0 +1,67 @@
+-- What the test of covering says: the cost, the effects and fewer conditions.
+use Prim.Native.Nat.{ℕ, _<_}
+use mathlib.Core.Path.{_≡_, refl, sym, ap, _∙_}
+use mathlib.Core.Bool.{Bool, true, false, not, _||_}
+use mathlib.Core.List.{List}
+use mathlib.Core.Logic.{⊎-elim}
+use mathlib.Core.Option.{Option, none, some}
+use lib.Dec.{eqb}
+use lib.ListN.{length}
+use borrow.Author.Tests.{eqb-true, not-true}
+use Rattle.files.specs.Below.{allBelow}
+use Rattle.files.specs.Task.{Pair, Action, Task, variableCount, valueIn}
+use Rattle.files.specs.Accepted.{validPairs}
+use Rattle.files.proofs.BelowLaws.{allBelow-elim}
+use Rattle.files.proofs.Logic.{clash, and-split, or-split}
+use Rattle.plans.specs.State.{hasFact}
+use Rattle.plans.proofs.FactLaws.{fact-all, all-facts}
+use Rattle.marking.specs.Covering.{sameEffect, within, covers}
+use Rattle.marking.proofs.Parts.{part-shorter}
+
+pub sameEffect-says : (x y : Option ℕ) → sameEffect x y ≡ true → x ≡ y
+sameEffect-says none none e = refl
+sameEffect-says none (some y) e = clash refl (sym e)
+sameEffect-says (some x) none e = clash refl (sym e)
+sameEffect-says (some x) (some y) e = ap {B = Option ℕ} some (eqb-true x y e)
+
+pub within-says : (conditions others : List Pair) (v d : ℕ) → within conditions others ≡ true → hasFact conditions v d ≡ true → hasFact others v d ≡ true
+unfolding within
+within-says conditions others v d e h = fact-all (hasFact others) conditions v d h e
+
+pub within-self : (conditions : List Pair) → within conditions conditions ≡ true
+unfolding within
+within-self conditions = all-facts (hasFact conditions) conditions (λ v d h. h)
+
+-- b covers a
+pub record Covers (t : Task) (tracked : ℕ → Bool) (b a : Action) : Type 0 where
+  pub same-cost : b .cost ≡ a .cost
+  pub same-effect : (v : ℕ) → v < variableCount t → tracked v ≡ true → valueIn (b .effects) v ≡ valueIn (a .effects) v
+  pub asks-less : (v d : ℕ) → hasFact (b .conditions) v d ≡ true → hasFact (a .conditions) v d ≡ true
+  pub not-all : within (a .conditions) (b .conditions) ≡ false
+
+pub covers-says : (t : Task) (tracked : ℕ → Bool) (b a : Action) → covers t tracked b a ≡ true → Covers t tracked b a
+unfolding covers
+covers-says t tracked b a e =
+    let agrees : ℕ → Bool = λ v. not (tracked v) || sameEffect (valueIn (b .effects) v) (valueIn (a .effects) v) in
+    let cost = and-split (eqb (b .cost) (a .cost)) _ e in
+    let effects = and-split (allBelow (variableCount t) agrees) _ (cost .1) in
+    let conditions = and-split (within (b .conditions) (a .conditions)) (not (within (a .conditions) (b .conditions))) (effects .1) in
+    record {
+      same-cost = eqb-true (b .cost) (a .cost) (cost .0);
+      same-effect =
+          λ v l k.
+          sameEffect-says (valueIn (b .effects) v) (valueIn (a .effects) v)
+          (⊎-elim
+          (λ untracked. clash k (not-true (tracked v) untracked))
+          (λ same. same)
+          (or-split (not (tracked v)) _ (allBelow-elim (variableCount t) agrees (effects .0) v l)));
+      asks-less = λ v d h. within-says (b .conditions) (a .conditions) v d (conditions .0) h;
+      not-all = not-true (within (a .conditions) (b .conditions)) (conditions .1);
+    }
+
+pub covers-fewer : (t : Task) (tracked : ℕ → Bool) (b a : Action) → validPairs t 0 (b .conditions) ≡ true → validPairs t 0 (a .conditions) ≡ true → Covers t tracked b a → length (b .conditions) < length (a .conditions)
+covers-fewer t tracked b a vb va c =
+    ⊎-elim
+    (λ shorter. shorter)
+    (λ same. clash (ap (within (a .conditions)) same ∙ within-self (a .conditions)) (c .not-all))
+    (part-shorter t 0 0 (a .conditions) (b .conditions) va vb (c .asks-less))
