@@ -1,15 +1,15 @@
 -- Laws of tests and counts over the numbers below a bound, and of the numbers chosen there: the rank of a number among
 -- those that pass is its place in their list.
-use Prim.Native.Nat.{ℕ, zero, suc, _+_, _≤_, _<_}
+use Prim.Native.Nat.{ℕ, zero, suc, _≤_, _<_}
 use mathlib.Core.Path.{_≡_, refl, sym, ap, _∙_}
-use mathlib.Core.Bool.{Bool, true, false, cond, Bool·beq, _&&_, _||_}
-use mathlib.Core.List.{List, [], _∷_, _++_, map}
+use mathlib.Core.Bool.{Bool, true, false, cond}
+use mathlib.Core.List.{List, [], _∷_, map}
 use mathlib.Core.Logic.{⊎-elim}
 use native.Mathlib.Omega.{arith}
 use native.Mathlib.Nat.{not-suc-le-zero}
 use lib.ListN.{length, getD, length-append, List·getD-append}
 use lib.Seq.{getD-at}
-use Rattle.files.specs.Below.{anyBelow, allBelow, bit, countBelow, sumBelow, chosenBelow, sameList}
+use Rattle.files.specs.Below.{anyBelow, allBelow, bit, countBelow, chosenBelow}
 use Rattle.files.proofs.Logic.{clash, split, split-le, and-split, and-join, or-split, or-left, or-right}
 
 -- some number passes; every number passes

@@ -3,8 +3,8 @@ use Prim.Native.Nat.{ℕ, _<_}
 use mathlib.Core.Path.{_≡_}
 use mathlib.Core.Bool.{Bool, true, false}
 use mathlib.Core.List.{List, [], _∷_}
-use mathlib.Core.Option.{Option, some}
-use Rattle.files.specs.Task.{Action, Task, actionCount, actionOf, startOf, valueIn}
+use mathlib.Core.Option.{some}
+use Rattle.files.specs.Task.{Task, actionCount, actionOf, startOf, valueIn}
 use Rattle.plans.specs.State.{hasFact}
 use Rattle.plans.proofs.OrderLaws.{NoDearer}
 

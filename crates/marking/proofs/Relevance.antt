@@ -1,15 +1,15 @@
 -- The relevance theorem: a closed marking loses no cheapest plan. Beside every plan stands one of kept actions alone that is
 -- no worse, and strictly better unless the plan uses kept actions alone itself.
 use Prim.Native.Nat.{ℕ, _<_}
-use mathlib.Core.Path.{_≡_, refl, sym, ap, _∙_}
+use mathlib.Core.Path.{_≡_, sym, ap, _∙_}
 use mathlib.Core.Bool.{Bool, true, false}
 use mathlib.Core.List.{List, [], _∷_}
 use mathlib.Core.Logic.{_⊎_, inl, inr, ⊎-elim}
-use mathlib.Core.Option.{Option, none, some}
-use Rattle.files.specs.Task.{Action, Task, actionCount, actionOf, startOf, valueIn}
+use mathlib.Core.Option.{some}
+use Rattle.files.specs.Task.{Task, actionCount, actionOf, valueIn}
 use Rattle.files.proofs.Logic.{clash, split, split-option}
-use Rattle.plans.specs.State.{State, startState, hasFact, allHold, applicable, apply}
-use Rattle.plans.specs.Plan.{IsPlan, Total, totalOf, atMost, addStep, Best}
+use Rattle.plans.specs.State.{State, startState, applicable, apply}
+use Rattle.plans.specs.Plan.{IsPlan, totalOf, atMost, Best}
 use Rattle.plans.proofs.OrderLaws.{atMost-refl, atMost-trans, addStep-above, addStep-cheaper, addStep-cheaper-strict, addStep-drops}
 use Rattle.plans.proofs.RunLaws.{Runs, runs-plan, plan-runs}
 use Rattle.plans.proofs.StateLaws.{allHold-fact, fact-allHold, apply-sets, apply-leaves}
