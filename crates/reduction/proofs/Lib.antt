@@ -1,2 +1,6 @@
--- Laws about the crate's definitions.
+-- Laws about the crate's definitions: kept facts, variables and actions, and that plans correspond.
 pub mod Computes
+pub mod KeptFacts
+pub mod KeptVariables
+pub mod KeptActions
+pub mod Correspondence
