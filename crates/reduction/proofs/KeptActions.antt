@@ -19,7 +19,7 @@ abbrev pub reducedOf : (ℕ → Bool) → ℕ → ℕ
 reducedOf A a = countBelow a A
 
 module _ (t : Task) (A : ℕ → Bool) where
-  reduced-count : actionCount (reducedBy t A) ≡ countBelow (actionCount t) A
+  pub reduced-count : actionCount (reducedBy t A) ≡ countBelow (actionCount t) A
   unfolding reducedBy keptActions
   reduced-count = length-map (chosenBelow (actionCount t) A) (λ a. reducedAction t A (actionOf t a)) ∙ chosen-length A (actionCount t)
 

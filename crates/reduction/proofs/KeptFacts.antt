@@ -1,5 +1,4 @@
--- Named facts and kept variables: what the goal and kept actions ask is named, a dropped variable keeps its start value,
--- new numbers tell kept variables and named values apart, and the facts of reduced pairs are those of kept variables.
+-- What the kept actions ask is named, dropped variables keep their start value, and new numbers tell kept facts apart.
 use Prim.Native.Nat.{ℕ, _<_}
 use mathlib.Core.Path.{_≡_, refl, sym, ap, subst, _∙_}
 use mathlib.Core.Bool.{Bool, true, false, not, _&&_, _||_}
