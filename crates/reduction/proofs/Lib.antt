@@ -1,2 +1,8 @@
--- Laws about the crate's definitions.
+-- Laws about the crate's definitions: what is kept, plans that correspond, and that the reduced task is accepted.
 pub mod Computes
+pub mod KeptFacts
+pub mod KeptVariables
+pub mod KeptActions
+pub mod Correspondence
+pub mod ReducedLength
+pub mod ReducedValid

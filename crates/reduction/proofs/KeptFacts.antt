@@ -1,0 +1,178 @@
+-- What the kept actions ask is named, dropped variables keep their start value, and new numbers tell kept facts apart.
+use Prim.Native.Nat.{ℕ, _<_}
+use mathlib.Core.Path.{_≡_, refl, sym, ap, subst, _∙_}
+use mathlib.Core.Bool.{Bool, true, false, not, _&&_, _||_}
+use mathlib.Core.List.{List, [], _∷_}
+use mathlib.Core.Logic.{⊎-elim}
+use mathlib.Core.Option.{some, Option·map}
+use native.Mathlib.Omega.{arith}
+use lib.Dec.{eqb}
+use borrow.Author.Tests.{eqb-true, eqb-false, eq-eqb, ne-eqb, not-true}
+use Rattle.files.specs.Below.{allBelow, countBelow}
+use Rattle.files.specs.Task.{Pair, Task, pair, actionCount, actionOf, sizeOf, startOf, valueIn}
+use Rattle.files.proofs.Logic.{clash, split, cond-case, and-split, and-join, or-left, or-right}
+use Rattle.files.proofs.BelowLaws.{anyBelow-intro, allBelow-elim, count-strict, rank-injective}
+use Rattle.files.proofs.Valid.{Valid}
+use Rattle.plans.specs.State.{hasFact}
+use Rattle.plans.proofs.FactLaws.{FactValid, fact-here, fact-later, fact-none, fact-cases, fact-any, fact-valid, value-fact}
+use Rattle.marking.specs.Links.{setsOther, threatened}
+use Rattle.reduction.specs.Named.{named, hasNamed, settled, keptVariable}
+use Rattle.reduction.specs.Renumber.{newVariable, namedCount, newValue}
+use Rattle.reduction.specs.Task.{reducedPairs}
+
+module _ (t : Task) (A : ℕ → Bool) where
+  -- what a kept action sets an unthreatened variable to
+  pub unthreatened-start : (a v value : ℕ) → threatened t A v ≡ false → a < actionCount t → A a ≡ true → valueIn (actionOf t a .effects) v ≡ some value → value ≡ startOf t v
+  unfolding threatened setsOther
+  unthreatened-start a v value free known kept sets =
+      split (eqb value (startOf t v))
+      (λ same. eqb-true value (startOf t v) same)
+      (λ differs.
+      clash
+      (anyBelow-intro (actionCount t) (λ a. A a && setsOther (actionOf t a .effects) v (startOf t v)) a known
+      (and-join kept
+      (fact-any (λ w d. eqb w v && not (eqb d (startOf t v))) (actionOf t a .effects) v value
+      (value-fact (actionOf t a .effects) v value sets)
+      (and-join (eq-eqb v v refl) (rw differs)))))
+      free)
+
+  -- a settled variable: its named facts are its start fact, and it is unthreatened
+  settled-parts : (v : ℕ) → settled t A v ≡ true → ((value : ℕ) → value < sizeOf t v → named t A v value ≡ true → value ≡ startOf t v) × (threatened t A v ≡ false)
+  unfolding settled
+  settled-parts v e =
+      let starts : ℕ → Bool = λ value. not (named t A v value) || eqb value (startOf t v) in
+      let both = and-split (allBelow (sizeOf t v) starts) (not (threatened t A v)) e in (
+        (λ value inside n.
+            let this : starts value ≡ true = allBelow-elim (sizeOf t v) starts (both .0) value inside in
+            eqb-true value (startOf t v) (rw n at this)),
+        not-true (threatened t A v) (both .1),
+      )
+
+  pub settled-start : (a v value : ℕ) → settled t A v ≡ true → a < actionCount t → A a ≡ true → valueIn (actionOf t a .effects) v ≡ some value → value ≡ startOf t v
+  settled-start a v value e known kept sets = unthreatened-start a v value (settled-parts v e .1) known kept sets
+
+  -- a named fact of a dropped variable is its start fact, and the variable is settled
+  pub dropped-start : (v value : ℕ) → named t A v value ≡ true → value < sizeOf t v → keptVariable t A v ≡ false → (settled t A v ≡ true) × (value ≡ startOf t v)
+  unfolding keptVariable hasNamed
+  dropped-start v value n inside dropped =
+      let some-named = anyBelow-intro (sizeOf t v) (named t A v) value inside n in
+      let e : settled t A v ≡ true = split (settled t A v) (λ z. z) (λ z. clash (and-join some-named (rw z)) dropped) in
+      (e, settled-parts v e .0 value inside n)
+
+  -- a value with the new number of a named value is that value
+  pub newValue-injective : (v value other : ℕ) → named t A v value ≡ true → value < sizeOf t v → newValue t A v other ≡ newValue t A v value → other ≡ value
+  unfolding newValue namedCount
+  newValue-injective v value other n inside same =
+      let to : newValue t A v value ≡ countBelow value (named t A v) = rw n in
+      split (named t A v other)
+      (λ m. rank-injective (named t A v) other value m n (let from : newValue t A v other ≡ countBelow other (named t A v) = rw m in sym from ∙ same ∙ to))
+      (λ m.
+      absurd
+      (let from : newValue t A v other ≡ countBelow (sizeOf t v) (named t A v) = rw m in
+      omega (arith, sym from ∙ same ∙ to, count-strict (named t A v) (sizeOf t v) value inside n)))
+
+  pub newVariable-injective : (u v : ℕ) → keptVariable t A u ≡ true → keptVariable t A v ≡ true → newVariable t A u ≡ newVariable t A v → u ≡ v
+  unfolding newVariable
+  newVariable-injective u v ku kv e = rank-injective (keptVariable t A) u v ku kv e
+
+  -- a fact of reduced pairs, and the fact that it was
+  pub record Was (pairs : List Pair) (variable value : ℕ) : Type 0 where
+    pub oldVariable : ℕ
+    pub oldValue : ℕ
+    pub is-kept : keptVariable t A oldVariable ≡ true
+    pub is-fact : hasFact pairs oldVariable oldValue ≡ true
+    pub same-variable : newVariable t A oldVariable ≡ variable
+    pub same-value : newValue t A oldVariable oldValue ≡ value
+
+  pub reduced-was : (pairs : List Pair) (variable value : ℕ) → hasFact (reducedPairs t A pairs) variable value ≡ true → Was pairs variable value
+  unfolding reducedPairs
+  reduced-was [] w e h = clash h (fact-none w e)
+  reduced-was (p ∷ ps) w e h =
+      let later : Was ps w e → Was (p ∷ ps) w e
+      = λ r.
+      record {
+        oldVariable = r .oldVariable;
+        oldValue = r .oldValue;
+        is-kept = r .is-kept;
+        is-fact = fact-later p ps (r .oldVariable) (r .oldValue) (r .is-fact);
+        same-variable = r .same-variable;
+        same-value = r .same-value;
+      } in
+      let first = pair (newVariable t A (p .variable)) (newValue t A (p .variable) (p .value)) in
+      split (keptVariable t A (p .variable))
+      (λ k.
+      let h′ : hasFact (first ∷ reducedPairs t A ps) w e ≡ true = rw k at h in
+      ⊎-elim
+      (λ here.
+      record {
+        oldVariable = p .variable;
+        oldValue = p .value;
+        is-kept = k;
+        is-fact = fact-here p ps;
+        same-variable = here .0;
+        same-value = here .1;
+      })
+      (λ there. later (reduced-was ps w e there))
+      (fact-cases first (reducedPairs t A ps) w e h′))
+      (λ k. let h′ : hasFact (reducedPairs t A ps) w e ≡ true = rw k at h in later (reduced-was ps w e h′))
+
+  pub reduced-fact : (pairs : List Pair) (v value : ℕ) → keptVariable t A v ≡ true → hasFact pairs v value ≡ true → hasFact (reducedPairs t A pairs) (newVariable t A v) (newValue t A v value) ≡ true
+  unfolding reducedPairs
+  reduced-fact [] v value kv h = clash h (fact-none v value)
+  reduced-fact (p ∷ ps) v value kv h =
+      let first = pair (newVariable t A (p .variable)) (newValue t A (p .variable) (p .value)) in
+      cond-case
+      (λ (l : List Pair). hasFact l (newVariable t A v) (newValue t A v value) ≡ true)
+      (keptVariable t A (p .variable))
+      (first ∷ reducedPairs t A ps)
+      (reducedPairs t A ps)
+      (λ k.
+      ⊎-elim
+      (λ here.
+      subst
+      (λ (w : ℕ). hasFact (first ∷ reducedPairs t A ps) (newVariable t A w) (newValue t A w value) ≡ true)
+      (here .0)
+      (subst (λ (x : ℕ). hasFact (first ∷ reducedPairs t A ps) (newVariable t A (p .variable)) (newValue t A (p .variable) x) ≡ true) (here .1) (fact-here first (reducedPairs t A ps))))
+      (λ there. fact-later first (reducedPairs t A ps) (newVariable t A v) (newValue t A v value) (reduced-fact ps v value kv there))
+      (fact-cases p ps v value h))
+      (λ k.
+      ⊎-elim
+      (λ here. clash (ap (keptVariable t A) (here .0) ∙ kv) k)
+      (λ there. reduced-fact ps v value kv there)
+      (fact-cases p ps v value h))
+
+  -- what reduced effects set a kept variable to
+  pub reduced-value : (effects : List Pair) (v : ℕ) → keptVariable t A v ≡ true → valueIn (reducedPairs t A effects) (newVariable t A v) ≡ Option·map (newValue t A v) (valueIn effects v)
+  unfolding reducedPairs
+  reduced-value [] v kv = refl
+  reduced-value (p ∷ ps) v kv =
+      split (keptVariable t A (p .variable))
+      (λ k.
+      split (eqb (p .variable) v)
+      (λ e.
+      let same : p .variable ≡ v = eqb-true (p .variable) v e in
+      let new : eqb (newVariable t A (p .variable)) (newVariable t A v) ≡ true = eq-eqb _ _ (ap (newVariable t A) same) in
+      rw (k, e, new) (ap (λ (u : ℕ). some (newValue t A u (p .value))) same))
+      (λ e.
+      let new : eqb (newVariable t A (p .variable)) (newVariable t A v) ≡ false
+      = ne-eqb _ _ (λ q. eqb-false (p .variable) v e (newVariable-injective (p .variable) v k kv q)) in
+      rw (k, e, new) (reduced-value ps v kv)))
+      (λ k.
+      let e : eqb (p .variable) v ≡ false = ne-eqb (p .variable) v (λ q. clash (ap (keptVariable t A) q ∙ kv) k) in
+      rw (k, e) (reduced-value ps v kv))
+
+  -- facts of the task that are named
+  abbrev pub NamedFacts : List Pair → Type 0
+  NamedFacts pairs = (v value : ℕ) → hasFact pairs v value ≡ true → (named t A v value ≡ true) × FactValid t 0 v value
+
+  pub goal-named : Valid t → NamedFacts (t .goal)
+  unfolding named
+  goal-named ok v value h = (or-left _ h, fact-valid t 0 (t .goal) v value (ok .goal) h)
+
+  pub conditions-named : Valid t → (a : ℕ) → a < actionCount t → A a ≡ true → NamedFacts (actionOf t a .conditions)
+  unfolding named
+  conditions-named ok a known kept v value h = (
+    or-right (hasFact (t .goal) v value)
+        (anyBelow-intro (actionCount t) (λ b. A b && hasFact (actionOf t b .conditions) v value) a known (and-join kept h)),
+    fact-valid t 0 (actionOf t a .conditions) v value (ok .action a .conditions) h,
+  )
