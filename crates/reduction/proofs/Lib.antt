@@ -6,3 +6,4 @@ pub mod KeptActions
 pub mod Correspondence
 pub mod ReducedLength
 pub mod ReducedValid
+pub mod Preservation
