@@ -9,33 +9,19 @@ use native.Mathlib.Omega.{arith}
 use lib.Dec.{eqb}
 use borrow.Author.Tests.{eqb-true, eqb-false, eq-eqb, ne-eqb, not-true}
 use Rattle.files.specs.Below.{allBelow, countBelow}
-use Rattle.files.specs.Task.{Pair, Task, pair, actionCount, actionOf, sizeOf, startOf, valueIn}
+use Rattle.files.specs.Task.{Pair, pair, actionCount, actionOf, sizeOf, startOf, valueIn, Task}
 use Rattle.files.proofs.Logic.{clash, split, cond-case, and-split, and-join, or-left, or-right}
 use Rattle.files.proofs.BelowLaws.{anyBelow-intro, allBelow-elim, count-strict, rank-injective}
 use Rattle.files.proofs.Valid.{Valid}
 use Rattle.plans.specs.State.{hasFact}
-use Rattle.plans.proofs.FactLaws.{FactValid, fact-here, fact-later, fact-none, fact-cases, fact-any, fact-valid, value-fact}
-use Rattle.marking.specs.Links.{setsOther, threatened}
+use Rattle.plans.proofs.FactLaws.{FactValid, fact-here, fact-later, fact-none, fact-cases, fact-valid}
+use Rattle.marking.proofs.LinkLaws.{unthreatened-effect}
+use Rattle.marking.specs.Links.{threatened}
 use Rattle.reduction.specs.Named.{named, hasNamed, settled, keptVariable}
 use Rattle.reduction.specs.Renumber.{newVariable, namedCount, newValue}
 use Rattle.reduction.specs.Task.{reducedPairs}
 
 module _ (t : Task) (A : ℕ → Bool) where
-  -- what a kept action sets an unthreatened variable to
-  pub unthreatened-start : (a v value : ℕ) → threatened t A v ≡ false → a < actionCount t → A a ≡ true → valueIn (actionOf t a .effects) v ≡ some value → value ≡ startOf t v
-  unfolding threatened setsOther
-  unthreatened-start a v value free known kept sets =
-      split (eqb value (startOf t v))
-      (λ same. eqb-true value (startOf t v) same)
-      (λ differs.
-      clash
-      (anyBelow-intro (actionCount t) (λ a. A a && setsOther (actionOf t a .effects) v (startOf t v)) a known
-      (and-join kept
-      (fact-any (λ w d. eqb w v && not (eqb d (startOf t v))) (actionOf t a .effects) v value
-      (value-fact (actionOf t a .effects) v value sets)
-      (and-join (eq-eqb v v refl) (rw differs)))))
-      free)
-
   -- a settled variable: its named facts are its start fact, and it is unthreatened
   settled-parts : (v : ℕ) → settled t A v ≡ true → ((value : ℕ) → value < sizeOf t v → named t A v value ≡ true → value ≡ startOf t v) × (threatened t A v ≡ false)
   unfolding settled
@@ -49,7 +35,7 @@ module _ (t : Task) (A : ℕ → Bool) where
       )
 
   pub settled-start : (a v value : ℕ) → settled t A v ≡ true → a < actionCount t → A a ≡ true → valueIn (actionOf t a .effects) v ≡ some value → value ≡ startOf t v
-  settled-start a v value e known kept sets = unthreatened-start a v value (settled-parts v e .1) known kept sets
+  settled-start a v value e known kept sets = unthreatened-effect t A a v value (settled-parts v e .1) known kept sets
 
   -- a named fact of a dropped variable is its start fact, and the variable is settled
   pub dropped-start : (v value : ℕ) → named t A v value ≡ true → value < sizeOf t v → keptVariable t A v ≡ false → (settled t A v ≡ true) × (value ≡ startOf t v)

@@ -1,13 +1,13 @@
 -- The reduced task of a closed marking preserves plans, least cost and steps, best plans and the first of them; so the
 -- reduction of every accepted task does, at every level.
-use Prim.Native.Nat.{ℕ, _<_}
+use Prim.Native.Nat.{ℕ}
 use mathlib.Core.Path.{_≡_, refl, sym, ap, subst, subst⁻¹, _∙_}
-use mathlib.Core.Bool.{Bool, true, false, _&&_, _||_}
+use mathlib.Core.Bool.{Bool, true}
 use mathlib.Core.List.{List, [], _∷_, map}
 use mathlib.Core.Logic.{⊎-elim}
 use lib.Dec.{eqb, ltb}
 use borrow.Author.Tests.{ltb-true, lt-ltb, eqb-true, eq-eqb}
-use Rattle.files.specs.Task.{Task, actionCount, actionOf}
+use Rattle.files.specs.Task.{Task, actionOf}
 use Rattle.files.specs.Accepted.{acceptedTask}
 use Rattle.files.proofs.Logic.{and-split, and-join, or-split, or-left, or-right}
 use Rattle.files.proofs.Valid.{Valid, task-valid}
@@ -17,12 +17,13 @@ use Rattle.plans.proofs.OrderLaws.{atMost-antisym}
 use Rattle.plans.proofs.RunLaws.{Runs, runs-plan, plan-runs}
 use Rattle.marking.specs.Marks.{kept, relevant}
 use Rattle.marking.specs.Links.{linked}
-use Rattle.marking.specs.Rounds.{Marking, marking}
+use Rattle.marking.specs.Rounds.{marking}
 use Rattle.marking.proofs.Closed.{Closed, AllKept}
-use Rattle.marking.proofs.Relevance.{Beside, plan-beside, best-kept, best-among-kept}
+use Rattle.marking.proofs.Relevance.{plan-beside, best-kept, best-among-kept}
 use Rattle.marking.proofs.MarkingClosed.{marking-closed}
 use Rattle.reduction.specs.Task.{reducedBy, originBy, keptAt, reducedTask, originsAt, byOriginal}
 use Rattle.reduction.specs.Preserved.{Preserves, ReductionPreserves}
+use Rattle.reduction.proofs.ReducedValid.{reduced-accepted}
 use Rattle.reduction.proofs.KeptActions.{originalOf, reducedOf, original-rises}
 use Rattle.reduction.proofs.Correspondence.{plan-to, plan-from, plan-total, plan-back}
 
@@ -64,8 +65,7 @@ module _ (t : Task) (ok : Valid t) (A : ℕ → Bool) (F L : ℕ → ℕ → Boo
 
   best-is-there : (p : List ℕ) → Best t p → (q : List ℕ) × (p ≡ back q) × Best R q
   best-is-there p b =
-      let k = best-kept t A F L closed p b in
-      (
+      let k = best-kept t A F L closed p b in (
         there p,
         sym (there-back p (b .isPlan) k),
         record {
@@ -106,11 +106,10 @@ module _ (t : Task) (ok : Valid t) (A : ℕ → Bool) (F L : ℕ → ℕ → Boo
   pub closed-preserves : Preserves t (reducedBy t A) (map (originalOf t A))
   closed-preserves =
       record {
-        solvable =
-            (
-              (λ h. let k = plan-beside t A F L closed (h .0) (h .1) in (there (k .list), is-there (k .list) (runs-plan t (k .list) (k .runs)) (k .kept))),
-              (λ h. (back (h .0), is-back (h .0) (h .1))),
-            );
+        solvable = (
+          (λ h. let k = plan-beside t A F L closed (h .0) (h .1) in (there (k .list), is-there (k .list) (runs-plan t (k .list) (k .runs)) (k .kept))),
+          (λ h. (back (h .0), is-back (h .0) (h .1))),
+        );
         least =
             λ p q bp bq.
             let k = best-is-there p bp in
@@ -128,3 +127,8 @@ reduction-preserves t level ok =
     let v = task-valid t ok in
     let m = marking t level .marks in
     closed-preserves t v (kept m) (relevant m) (linked t level (kept m)) (marking-closed t v level)
+
+-- and the reduced task is accepted in its turn
+pub reduction-accepted : (t : Task) (level : ℕ) → acceptedTask t ≡ true → acceptedTask (reducedTask t level) ≡ true
+unfolding reducedTask
+reduction-accepted t level ok = reduced-accepted t (keptAt t level) ok

@@ -5,22 +5,18 @@ use mathlib.Core.Bool.{Bool}
 use mathlib.Core.List.{List, [], _∷_, _++_, map}
 use native.Mathlib.Omega.{arith}
 use lib.ListN.{length, getD, length-append}
-use Rattle.files.specs.Below.{countBelow, sumBelow, chosenBelow}
+use Rattle.files.specs.Below.{sumBelow, chosenBelow}
 use Rattle.files.specs.Records.{recordBytes}
 use Rattle.files.specs.Task.{Pair, Action, Task, pair, action, variableCount, actionCount, actionOf}
 use Rattle.files.specs.TaskFile.{actionBody, actionBytes, taskRecords, taskFile}
 use Rattle.files.proofs.Logic.{cond-case}
-use Rattle.files.proofs.BelowLaws.{bit-most}
 use Rattle.files.proofs.Lengths.{record-bytes-length, signed-length, action-body-length, task-records-length}
+use Rattle.marking.proofs.CountOrder.{count-most}
 use Rattle.reduction.specs.Named.{keptVariable}
 use Rattle.reduction.specs.Renumber.{newVariable, newValue}
 use Rattle.reduction.specs.Task.{keptActions, reducedPairs, reducedAction, reducedBy}
 use Rattle.reduction.proofs.KeptVariables.{reduced-variables}
 use Rattle.reduction.proofs.KeptActions.{reduced-count}
-
-pub count-most : (K : ℕ → Bool) (n : ℕ) → countBelow n K ≤ n
-count-most K zero = omega arith
-count-most K (suc n) = omega (arith, bit-most (K n), count-most K n)
 
 -- sums below a bound
 sum-first : (f : ℕ → ℕ) (n : ℕ) → sumBelow (suc n) f ≡ f 0 + sumBelow n (λ i. f (suc i))
@@ -63,10 +59,10 @@ chosen-sum f K (suc n) =
 
 module _ (t : Task) (A : ℕ → Bool) where
   pub reduced-variables-few : variableCount (reducedBy t A) ≤ variableCount t
-  reduced-variables-few = omega (arith, reduced-variables t A, count-most (keptVariable t A) (variableCount t))
+  reduced-variables-few = omega (arith, reduced-variables t A, count-most (variableCount t) (keptVariable t A))
 
   pub reduced-actions-few : actionCount (reducedBy t A) ≤ actionCount t
-  reduced-actions-few = omega (arith, reduced-count t A, count-most A (actionCount t))
+  reduced-actions-few = omega (arith, reduced-count t A, count-most (actionCount t) A)
 
   pub reduced-pairs-few : (ps : List Pair) → length (reducedPairs t A ps) ≤ length ps
   unfolding reducedPairs

@@ -18,12 +18,13 @@ use Rattle.files.proofs.Valid.{Valid, task-valid}
 use Rattle.plans.specs.State.{hasFact}
 use Rattle.plans.proofs.FactLaws.{fact-here, fact-later, fact-valid}
 use Rattle.marking.specs.Links.{setsOther, threatened}
+use Rattle.marking.proofs.CountOrder.{count-most}
 use Rattle.reduction.specs.Named.{named, hasNamed, settled, keptVariable}
 use Rattle.reduction.specs.Renumber.{newVariable, namedCount, newValue, newSize}
 use Rattle.reduction.specs.Task.{reducedPairs, reducedAction, reducedBy}
 use Rattle.reduction.proofs.KeptVariables.{reduced-variables, newVariable-known, reduced-size, reduced-start}
 use Rattle.reduction.proofs.KeptActions.{originalOf, reduced-action}
-use Rattle.reduction.proofs.ReducedLength.{count-most, reduced-variables-few, reduced-actions-few, reduced-pairs-few, reduced-goal-few, reduced-file-length}
+use Rattle.reduction.proofs.ReducedLength.{reduced-variables-few, reduced-actions-few, reduced-pairs-few, reduced-goal-few, reduced-file-length}
 
 -- how many numbers below a bound pass: all of them where none fails, fewer where one does
 count-all : (K : ℕ → Bool) (n : ℕ) → anyBelow n (λ i. not (K i)) ≡ false → countBelow n K ≡ n
@@ -38,7 +39,7 @@ count-fewer K zero e = clash e refl
 count-fewer K (suc n) e =
     split (K n)
     (λ k. let rest : anyBelow n (λ i. not (K i)) ≡ true = rw k at e in omega (arith, bit-true (K n) k, count-fewer K n rest))
-    (λ k. omega (arith, bit-false (K n) k, count-most K n))
+    (λ k. omega (arith, bit-false (K n) k, count-most n K))
 
 -- every entry passes where each place's does
 all-places : {X : Type 0} (f : X → Bool) (xs : List X) (d : X) → ((i : ℕ) → i < length xs → f (getD xs i d) ≡ true) → allOf f xs ≡ true
@@ -76,7 +77,7 @@ module _ (t : Task) (A : ℕ → Bool) where
   newSize-most v =
       split (anyBelow (sizeOf t v) (λ x. not (named t A v x)))
       (λ e. rw e (omega (arith, count-fewer (named t A v) (sizeOf t v) e)))
-      (λ e. rw e (omega (arith, count-most (named t A v) (sizeOf t v))))
+      (λ e. rw e (omega (arith, count-most (sizeOf t v) (named t A v))))
 
   -- reduced pairs
   reducedPairs-valid : (low : ℕ) (ps : List Pair) → validPairs t low ps ≡ true → validPairs (reducedBy t A) (newVariable t A low) (reducedPairs t A ps) ≡ true
