@@ -4,4 +4,5 @@ pub mod Links
 pub mod Covering
 pub mod Rounds
 pub mod Mark
+pub mod Dense
 pub mod Examples

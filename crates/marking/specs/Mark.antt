@@ -41,11 +41,15 @@ markOutcome task level actionRoom factRoom =
     (guard (validLevel level) 8 0
     (marksFit (taskOf task) actionRoom factRoom))
 
--- an outcome with lengths and rounds, which are 0 beside a refusal
+-- beside a refusal there are no lengths and no rounds
+abbrev pub noMarks : Outcome → Marked
+noMarks o = record { outcome = o; actions = 0; facts = 0; rounds = 0 }
+
+-- an outcome with lengths and rounds
 unfoldable pub markAnswer : Outcome → Task → ℕ → Marked
 markAnswer o t level =
     let answer : Marked = record { outcome = o; actions = actionCount t; facts = factCount t; rounds = marking t level .rounds } in
-    cond (isDone o) answer (record { outcome = o; actions = 0; facts = 0; rounds = 0 })
+    cond (isDone o) answer (noMarks o)
 
 unfoldable pub mark : List ℕ → ℕ → ℕ → ℕ → Marked
 mark task level actionRoom factRoom = markAnswer (markOutcome task level actionRoom factRoom) (taskOf task) level

@@ -1,4 +1,16 @@
 // Relevance marking at levels 1 to 4.
+// The call open to callers is mark; the module rounds serves the layers above.
+mod covering;
+mod entries;
+mod gains;
+mod links;
+mod results;
+pub mod rounds;
+
+ghost use mathlib.Core.Path.{_≡_};
+ghost use lib.ListN.{length};
+ghost use Rattle.marking.specs.Mark.{mark, markedActions, markedFacts};
+use files::outcomes;
 
 // What marking answers: both lengths written and the round count, 0 beside a refusal.
 pub struct Marked {
@@ -6,4 +18,49 @@ pub struct Marked {
     pub actions: usize,
     pub facts: usize,
     pub rounds: usize,
+}
+
+// Marks the kept actions and the relevant facts of a task file's task at a level, a byte each.
+pub fn mark(task: &[u8], level: u32, actions: &mut [u8], facts: &mut [u8]) -> Marked
+    ensures answer { λ r. ⌜ r ≡ mark (now (task .entry)) level (length (now (actions .entry))) (length (now (facts .entry))) ⌝ }
+    ensures actions { λ r. ⌜ now (actions .exit) ≡ markedActions (now (task .entry)) level (now (actions .entry)) (now (facts .entry)) ⌝ }
+    ensures facts { λ r. ⌜ now (facts .exit) ≡ markedFacts (now (task .entry)) level (now (actions .entry)) (now (facts .entry)) ⌝ }
+{
+    let mut sizes = [0u8; 64];
+    let mut starts = [0u8; 64];
+    let mut goal = [0u8; 64];
+    let mut costs = [0u32; 512];
+    let mut conditions = [0u8; 32768];
+    let mut effects = [0u8; 32768];
+    let read = files::decode::read_task(
+        task,
+        &mut sizes,
+        &mut starts,
+        &mut goal,
+        &mut costs,
+        &mut conditions,
+        &mut effects,
+    );
+    if read.number != 0 {
+        return rounds::refused(read);
+    }
+    if level < 1 || 4 < level {
+        return rounds::refused(outcomes::refuse(8, 0));
+    }
+    let scope = rounds::Scope {
+        level: level,
+        variables: files::task::variables_in(task),
+        actions: files::task::actions_in(task),
+    };
+    rounds::mark_task(
+        scope,
+        &sizes,
+        &starts,
+        &goal,
+        &costs,
+        &conditions,
+        &effects,
+        actions,
+        facts,
+    )
 }

@@ -1,0 +1,234 @@
+// Covered actions. Which pairs of actions have the same cost and properly nested conditions is
+// worked out once, in a table with a row of 512 entries for each action.
+ghost use mathlib.Core.Path.{_≡_};
+ghost use Prim.Native.Nat.{ℕ, _+_, _*_, _≤_, _<_};
+ghost use mathlib.Core.Bool.{_&&_, not};
+ghost use lib.Dec.{eqb, ltb};
+ghost use lib.ListN.{length, getD};
+ghost use Rattle.files.specs.Below.{bit};
+ghost use Rattle.marking.specs.Dense.{missing, nested, unlike, coversAt, coveredAt, countedAt};
+use crate::entries;
+use crate::rounds::Scope;
+
+// How many conditions of the row at `base` do not stand in the row at `other`.
+fn missing(conditions: &[u8; 32768], base: usize, other: usize, variables: usize) -> u8
+    requires { ⌜ (variables ≤ 64) × (base + 64 ≤ 32768) × (other + 64 ≤ 32768) ⌝ }
+    ensures { λ r. ⌜ r ≡ missing (now (conditions .entry)) base other variables ⌝ }
+{
+    let mut count: u8 = 0;
+    let mut v: usize = 0;
+    while v < variables {
+        let lacks = entries::other_than(conditions[base + v], conditions[other + v]);
+        count += entries::bit_of(lacks);
+        v += 1;
+    }
+    count
+}
+
+// Whether b costs what a costs and has a proper subset of its conditions.
+fn is_nested(
+    costs: &[u32; 512],
+    conditions: &[u8; 32768],
+    variables: usize,
+    b: usize,
+    a: usize,
+) -> bool
+    requires { ⌜ (variables ≤ 64) × (b < 512) × (a < 512) ⌝ }
+    ensures { λ r. ⌜ r ≡ nested (now (costs .entry)) (now (conditions .entry)) variables b a ⌝ }
+{
+    if costs[b] != costs[a] {
+        return false;
+    }
+    if missing(conditions, 64 * b, 64 * a, variables) != 0 {
+        return false;
+    }
+    missing(conditions, 64 * a, 64 * b, variables) != 0
+}
+
+// The row of one action in the table.
+fn nest_row(
+    pairs: &mut [u8; 262144],
+    costs: &[u32; 512],
+    conditions: &[u8; 32768],
+    variables: usize,
+    actions: usize,
+    a: usize,
+)
+    requires { ⌜ (variables ≤ 64) × (actions ≤ 512) × (a < 512) ⌝ }
+    ensures { λ r. ⌜ ((b : ℕ) → b < actions → getD (now (pairs .exit)) (512 * a + b) 0 ≡ bit (nested (now (costs .entry)) (now (conditions .entry)) variables b a)) × ((i : ℕ) → i < 512 * a → getD (now (pairs .exit)) i 0 ≡ getD (now (pairs .entry)) i 0) ⌝ }
+{
+    let mut b: usize = 0;
+    while b < actions {
+        let test = is_nested(costs, conditions, variables, b, a);
+        pairs[512 * a + b] = entries::bit_of(test);
+        b += 1;
+    }
+}
+
+// The table of nested pairs, for level 4 alone.
+pub fn nest(pairs: &mut [u8; 262144], scope: Scope, costs: &[u32; 512], conditions: &[u8; 32768])
+    requires { ⌜ (scope .variables ≤ 64) × (scope .actions ≤ 512) ⌝ }
+    ensures { λ r. ⌜ (scope .level ≡ 4 → (a b : ℕ) → a < scope .actions → b < scope .actions → getD (now (pairs .exit)) (512 * a + b) 0 ≡ bit (nested (now (costs .entry)) (now (conditions .entry)) (scope .variables) b a)) ⌝ }
+{
+    let variables = scope.variables;
+    let actions = scope.actions;
+    if scope.level != 4 {
+        return;
+    }
+    let mut a: usize = 0;
+    while a < actions {
+        nest_row(pairs, costs, conditions, variables, actions, a);
+        a += 1;
+    }
+}
+
+// Whether a variable is tracked and the two effects on it are unlike.
+fn is_unlike(tracked: u8, effect: u8, other: u8) -> bool
+    ensures { λ r. ⌜ r ≡ (eqb tracked 1 && not (eqb effect other)) ⌝ }
+{
+    if tracked != 1 {
+        return false;
+    }
+    effect != other
+}
+
+// On how many tracked variables the effects at `base` and at `other` are unlike.
+fn unlike(
+    effects: &[u8; 32768],
+    tracked: &[u8; 64],
+    base: usize,
+    other: usize,
+    variables: usize,
+) -> u8
+    requires { ⌜ (variables ≤ 64) × (base + 64 ≤ 32768) × (other + 64 ≤ 32768) ⌝ }
+    ensures { λ r. ⌜ r ≡ unlike (now (effects .entry)) (now (tracked .entry)) base other variables ⌝ }
+{
+    let mut count: u8 = 0;
+    let mut v: usize = 0;
+    while v < variables {
+        let differs = is_unlike(tracked[v], effects[base + v], effects[other + v]);
+        count += entries::bit_of(differs);
+        v += 1;
+    }
+    count
+}
+
+// Whether b is kept and covers a.
+fn covers(
+    kept: &[u8; 512],
+    pairs: &[u8; 262144],
+    effects: &[u8; 32768],
+    tracked: &[u8; 64],
+    variables: usize,
+    b: usize,
+    a: usize,
+) -> bool
+    requires { ⌜ (variables ≤ 64) × (b < 512) × (a < 512) ⌝ }
+    ensures { λ r. ⌜ r ≡ coversAt (now (kept .entry)) (now (pairs .entry)) (now (effects .entry)) (now (tracked .entry)) variables b a ⌝ }
+{
+    if kept[b] != 1 {
+        return false;
+    }
+    if pairs[512 * a + b] != 1 {
+        return false;
+    }
+    unlike(effects, tracked, 64 * b, 64 * a, variables) == 0
+}
+
+// The first action that covers a, or `actions`.
+fn find_coverer(
+    scope: Scope,
+    kept: &[u8; 512],
+    pairs: &[u8; 262144],
+    effects: &[u8; 32768],
+    tracked: &[u8; 64],
+    a: usize,
+) -> usize
+    requires { ⌜ (scope .variables ≤ 64) × (scope .actions ≤ 512) × (a < 512) ⌝ }
+    ensures { λ r. ⌜ (ltb r (scope .actions) ≡ coveredAt (now (kept .entry)) (now (pairs .entry)) (now (effects .entry)) (now (tracked .entry)) (scope .variables) (scope .actions) a) × (r ≤ 512) ⌝ }
+{
+    let variables = scope.variables;
+    let actions = scope.actions;
+    let mut b: usize = 0;
+    while b < actions {
+        if covers(kept, pairs, effects, tracked, variables, b, a) {
+            return b;
+        }
+        b += 1;
+    }
+    actions
+}
+
+// An action that covers a, or `actions`: the one that did so before is tried first.
+fn coverer(
+    scope: Scope,
+    kept: &[u8; 512],
+    pairs: &[u8; 262144],
+    effects: &[u8; 32768],
+    tracked: &[u8; 64],
+    a: usize,
+    before: usize,
+) -> usize
+    requires { ⌜ (scope .variables ≤ 64) × (scope .actions ≤ 512) × (a < 512) ⌝ }
+    ensures { λ r. ⌜ (ltb r (scope .actions) ≡ coveredAt (now (kept .entry)) (now (pairs .entry)) (now (effects .entry)) (now (tracked .entry)) (scope .variables) (scope .actions) a) × (r ≤ 512) ⌝ }
+{
+    let variables = scope.variables;
+    if before < scope.actions {
+        if covers(kept, pairs, effects, tracked, variables, before, a) {
+            return before;
+        }
+    }
+    find_coverer(scope, kept, pairs, effects, tracked, a)
+}
+
+// Whether F has or gains the conditions of an action. What covers it is kept in `coverers`.
+fn is_counted(
+    scope: Scope,
+    kept: &[u8; 512],
+    named: &[u8; 512],
+    pairs: &[u8; 262144],
+    effects: &[u8; 32768],
+    tracked: &[u8; 64],
+    coverers: &mut [u16; 512],
+    a: usize,
+) -> bool
+    requires { ⌜ (scope .variables ≤ 64) × (scope .actions ≤ 512) × (a < 512) ⌝ }
+    ensures { λ r. ⌜ r ≡ countedAt (scope .level) (now (kept .entry)) (now (named .entry)) (coveredAt (now (kept .entry)) (now (pairs .entry)) (now (effects .entry)) (now (tracked .entry)) (scope .variables) (scope .actions) a) a ⌝ }
+{
+    if named[a] == 1 {
+        return true;
+    }
+    if kept[a] != 1 {
+        return false;
+    }
+    if scope.level != 4 {
+        return true;
+    }
+    let before = coverers[a] as usize;
+    let by = coverer(scope, kept, pairs, effects, tracked, a, before);
+    coverers[a] = by as u16;
+    scope.actions <= by
+}
+
+// The actions whose conditions F has or gains: at level 4 those that are not covered, else all.
+pub fn counted(
+    scope: Scope,
+    kept: &[u8; 512],
+    named: &[u8; 512],
+    pairs: &[u8; 262144],
+    effects: &[u8; 32768],
+    tracked: &[u8; 64],
+    coverers: &mut [u16; 512],
+) -> [u8; 512]
+    requires { ⌜ (scope .variables ≤ 64) × (scope .actions ≤ 512) ⌝ }
+    ensures { λ r. ⌜ ((a : ℕ) → a < scope .actions → getD r a 0 ≡ bit (countedAt (scope .level) (now (kept .entry)) (now (named .entry)) (coveredAt (now (kept .entry)) (now (pairs .entry)) (now (effects .entry)) (now (tracked .entry)) (scope .variables) (scope .actions) a) a)) ⌝ }
+{
+    let mut marks = [0u8; 512];
+    let mut a: usize = 0;
+    while a < scope.actions {
+        let test = is_counted(scope, kept, named, pairs, effects, tracked, coverers, a);
+        marks[a] = entries::bit_of(test);
+        a += 1;
+    }
+    marks
+}

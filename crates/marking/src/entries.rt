@@ -1,0 +1,28 @@
+// Marks and entries of rows, one at a time.
+ghost use mathlib.Core.Path.{_≡_};
+ghost use mathlib.Core.Bool.{cond};
+ghost use Rattle.files.specs.Below.{bit};
+ghost use Rattle.marking.specs.Dense.{otherThan};
+
+pub fn bit_of(test: bool) -> u8
+    ensures { λ r. ⌜ r ≡ bit test ⌝ }
+{
+    if test { 1 } else { 0 }
+}
+
+// A mark, set where the test passes.
+pub fn raised(mark: u8, test: bool) -> u8
+    ensures { λ r. ⌜ r ≡ cond test 1 mark ⌝ }
+{
+    if test { 1 } else { mark }
+}
+
+// Whether an entry of a row is there and is not the value given.
+pub fn other_than(entry: u8, value: u8) -> bool
+    ensures { λ r. ⌜ r ≡ otherThan entry value ⌝ }
+{
+    if entry == 255 {
+        return false;
+    }
+    entry != value
+}

@@ -1,0 +1,144 @@
+// The rounds of marking, on the arrays of a task.
+ghost use mathlib.Core.Path.{_≡_};
+ghost use mathlib.Core.Bool.{true};
+ghost use lib.ListN.{length};
+ghost use Rattle.files.specs.Accepted.{acceptedTask};
+ghost use Rattle.files.specs.Dense.{held, arrays};
+ghost use Rattle.files.specs.Outcome.{after};
+ghost use Rattle.marking.specs.Dense.{Final};
+ghost use Rattle.marking.specs.Mark.{actionMarksOf, factMarksOf, marksFit, markAnswer, noMarks};
+use crate::Marked;
+use crate::covering;
+use crate::gains;
+use crate::links;
+use crate::results;
+use files::outcomes;
+
+// The level, and how many variables and actions the task has.
+pub struct Scope {
+    pub level: u32,
+    pub variables: usize,
+    pub actions: usize,
+}
+
+// The marks after the last round: kept actions, relevant facts, and of those the unlinked ones.
+pub struct Marks {
+    pub kept: [u8; 512],
+    pub facts: [u8; 2048],
+    pub unlinked: [u8; 2048],
+    pub rounds: usize,
+}
+
+// The rounds up to the first that changes nothing. Each looks at the actions kept and the facts
+// unlinked since the one before: `noted` are the actions whose effects, `named` those whose
+// conditions have been looked at.
+fn run(
+    scope: Scope,
+    sizes: &[u8; 64],
+    starts: &[u8; 64],
+    goal: &[u8; 64],
+    costs: &[u32; 512],
+    conditions: &[u8; 32768],
+    effects: &[u8; 32768],
+) -> Marks
+    requires { ⌜ acceptedTask (held (arrays (scope .variables) (scope .actions) (now sizes) (now starts) (now goal) (now costs) (now conditions) (now effects))) ≡ true ⌝ }
+    ensures { λ r. ⌜ Final (held (arrays (scope .variables) (scope .actions) (now (sizes .entry)) (now (starts .entry)) (now (goal .entry)) (now (costs .entry)) (now (conditions .entry)) (now (effects .entry)))) (scope .level) (r .kept) (r .facts) (r .unlinked) (r .rounds) ⌝ }
+{
+    let actions = scope.actions;
+    let mut pairs = [0u8; 262144];
+    covering::nest(&mut pairs, scope, costs, conditions);
+    let mut facts = [0u8; 2048];
+    gains::name_row(&mut facts, scope, goal, 0, sizes);
+    let mut kept = [0u8; 512];
+    let mut noted = [0u8; 512];
+    let mut named = [0u8; 512];
+    let mut coverers = [0u16; 512];
+    let mut threats = [0u8; 64];
+    let mut before = [0u8; 2048];
+    let mut rounds: usize = 0;
+    let mut count = results::sum(&facts, 2048);
+    loop {
+        links::threatened(&mut threats, scope, &kept, &noted, effects, starts);
+        noted = kept;
+        let unlinked = links::unlinked(scope, &facts, starts, &threats);
+        gains::gain_actions(&mut kept, scope, effects, &before, &unlinked);
+        before = unlinked;
+        let tracked = links::tracked(scope, &unlinked);
+        let counted = covering::counted(
+            scope,
+            &kept,
+            &named,
+            &pairs,
+            effects,
+            &tracked,
+            &mut coverers,
+        );
+        gains::gain_facts(&mut facts, scope, conditions, sizes, &counted, &named);
+        named = counted;
+        rounds += 1;
+        let marks = results::sum(&kept, actions) + results::sum(&facts, 2048);
+        if marks == count {
+            return Marks {
+                kept: kept,
+                facts: facts,
+                unlinked: unlinked,
+                rounds: rounds,
+            };
+        }
+        count = marks;
+    }
+}
+
+// Beside a refusal there are no lengths and no rounds.
+pub fn refused(outcome: files::Outcome) -> Marked
+    ensures { λ r. ⌜ r ≡ noMarks outcome ⌝ }
+{
+    Marked {
+        outcome: outcome,
+        actions: 0,
+        facts: 0,
+        rounds: 0,
+    }
+}
+
+// Marks the task that arrays hold, where both buffers are long enough: `kept` for a byte per
+// action, `relevant` for a byte per fact.
+pub fn mark_task(
+    scope: Scope,
+    sizes: &[u8; 64],
+    starts: &[u8; 64],
+    goal: &[u8; 64],
+    costs: &[u32; 512],
+    conditions: &[u8; 32768],
+    effects: &[u8; 32768],
+    kept: &mut [u8],
+    relevant: &mut [u8],
+) -> Marked
+    requires { ⌜ acceptedTask (held (arrays (scope .variables) (scope .actions) (now sizes) (now starts) (now goal) (now costs) (now conditions) (now effects))) ≡ true ⌝ }
+    ensures answer { λ r. ⌜ r ≡ markAnswer (marksFit (held (arrays (scope .variables) (scope .actions) (now (sizes .entry)) (now (starts .entry)) (now (goal .entry)) (now (costs .entry)) (now (conditions .entry)) (now (effects .entry)))) (length (now (kept .entry))) (length (now (relevant .entry)))) (held (arrays (scope .variables) (scope .actions) (now (sizes .entry)) (now (starts .entry)) (now (goal .entry)) (now (costs .entry)) (now (conditions .entry)) (now (effects .entry)))) (scope .level) ⌝ }
+    ensures actions { λ r. ⌜ now (kept .exit) ≡ after (r .outcome) (actionMarksOf (held (arrays (scope .variables) (scope .actions) (now (sizes .entry)) (now (starts .entry)) (now (goal .entry)) (now (costs .entry)) (now (conditions .entry)) (now (effects .entry)))) (scope .level)) (now (kept .entry)) ⌝ }
+    ensures facts { λ r. ⌜ now (relevant .exit) ≡ after (r .outcome) (factMarksOf (held (arrays (scope .variables) (scope .actions) (now (sizes .entry)) (now (starts .entry)) (now (goal .entry)) (now (costs .entry)) (now (conditions .entry)) (now (effects .entry)))) (scope .level)) (now (relevant .entry)) ⌝ }
+{
+    let variables = scope.variables;
+    let actions = scope.actions;
+    let facts = results::sum(sizes, variables);
+    if kept.len() < actions {
+        return refused(outcomes::refuse(21, actions));
+    }
+    if relevant.len() < facts {
+        return refused(outcomes::refuse(21, facts));
+    }
+    let marks = run(scope, sizes, starts, goal, costs, conditions, effects);
+    let final_kept = marks.kept;
+    let final_facts = marks.facts;
+    let final_unlinked = marks.unlinked;
+    results::write_actions(kept, &final_kept, actions);
+    results::write_facts(relevant, &final_facts, &final_unlinked, sizes, variables);
+    let done = outcomes::done();
+    Marked {
+        outcome: done,
+        actions: actions,
+        facts: facts,
+        rounds: marks.rounds,
+    }
+}
