@@ -1,0 +1,46 @@
+-- The loop's measure is how many actions are left; the writer takes any place.
+use borrow.Author.Needs.{needs}
+use Prim.Native.Nat.{_-_}
+use Rattle.generated.proofs.encode.put_actions.Statement.{statement}
+use Rattle.generated.proofs.encode.put_actions.Tie as tie
+
+abbrev Inv-loop : tie.InvT-loop
+Inv-loop task file₀ from actions at₀ action₀ file at action = Unit
+
+abbrev μ-loop : tie.MeasureT-loop
+μ-loop task file₀ from actions at₀ action₀ file at action = actions - action
+
+actions-requires : tie.Need-actions-requires Inv-loop μ-loop
+actions-requires c κs = search needs
+
+loop-holds : tie.Need-loop-holds Inv-loop μ-loop
+loop-holds c = search needs
+
+put-action-requires : tie.Need-put-action-requires Inv-loop μ-loop
+put-action-requires c κs = search needs
+
+add-action : tie.Need-add-action Inv-loop μ-loop
+add-action c = search needs
+
+loop-less : tie.Need-loop-less Inv-loop μ-loop
+loop-less c = search needs
+
+loop-again : tie.Need-loop-again Inv-loop μ-loop
+loop-again c = search needs
+
+returns : tie.Need-returns Inv-loop μ-loop
+returns c = search needs
+
+pub put-actions-spec : {M : Type 1} → statement M
+put-actions-spec =
+    tie.close
+    (tie.spec
+    Inv-loop
+    μ-loop
+    actions-requires
+    loop-holds
+    put-action-requires
+    add-action
+    loop-less
+    loop-again
+    returns)
