@@ -3,6 +3,7 @@ pub mod Computes
 pub mod Examples
 pub mod Closed
 pub mod Relevance
+pub mod SetWhere
 pub mod Parts
 pub mod CoveringLaws
 pub mod LinkLaws

@@ -47,15 +47,15 @@ fn is_nested(
 
 // The row of one action in the table.
 fn nest_row(
-    pairs: &mut [u8; 262144],
+    pairs: &mut [u8],
     costs: &[u32; 512],
     conditions: &[u8; 32768],
     variables: usize,
     actions: usize,
     a: usize,
 )
-    requires { ⌜ (variables ≤ 64) × (actions ≤ 512) × (a < 512) ⌝ }
-    ensures { λ r. ⌜ ((b : ℕ) → b < actions → getD (now (pairs .exit)) (512 * a + b) 0 ≡ bit (nested (now (costs .entry)) (now (conditions .entry)) variables b a)) × ((i : ℕ) → i < 512 * a → getD (now (pairs .exit)) i 0 ≡ getD (now (pairs .entry)) i 0) ⌝ }
+    requires { ⌜ (variables ≤ 64) × (actions ≤ 512) × (a < 512) × (262144 ≤ length (now pairs)) ⌝ }
+    ensures { λ r. ⌜ (length (now (pairs .exit)) ≡ length (now (pairs .entry))) × ((b : ℕ) → b < actions → getD (now (pairs .exit)) (512 * a + b) 0 ≡ bit (nested (now (costs .entry)) (now (conditions .entry)) variables b a)) × ((i : ℕ) → i < 512 * a → getD (now (pairs .exit)) i 0 ≡ getD (now (pairs .entry)) i 0) ⌝ }
 {
     let mut b: usize = 0;
     while b < actions {
@@ -66,8 +66,8 @@ fn nest_row(
 }
 
 // The table of nested pairs, for level 4 alone.
-pub fn nest(pairs: &mut [u8; 262144], scope: Scope, costs: &[u32; 512], conditions: &[u8; 32768])
-    requires { ⌜ (scope .variables ≤ 64) × (scope .actions ≤ 512) ⌝ }
+pub fn nest(pairs: &mut [u8], scope: Scope, costs: &[u32; 512], conditions: &[u8; 32768])
+    requires { ⌜ (scope .variables ≤ 64) × (scope .actions ≤ 512) × (262144 ≤ length (now pairs)) ⌝ }
     ensures { λ r. ⌜ (scope .level ≡ 4 → (a b : ℕ) → a < scope .actions → b < scope .actions → getD (now (pairs .exit)) (512 * a + b) 0 ≡ bit (nested (now (costs .entry)) (now (conditions .entry)) (scope .variables) b a)) ⌝ }
 {
     let variables = scope.variables;

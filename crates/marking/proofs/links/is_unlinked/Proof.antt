@@ -1,0 +1,33 @@
+use borrow.Author.Needs.{needs}
+use borrow.Author.Needs.{needs}
+use Rattle.marking.proofs.links.is_unlinked.Statement.{statement}
+use Rattle.marking.proofs.links.is_unlinked.Tie as tie
+
+element-copy-out-if1 : tie.Need-element-copy-out-if1
+element-copy-out-if1 c = search needs
+
+returns : tie.Need-returns
+returns c = search needs
+
+element-copy-out-linked : tie.Need-element-copy-out-linked
+element-copy-out-linked c = search needs
+
+element-copy-out-linked-2 : tie.Need-element-copy-out-linked-2
+element-copy-out-linked-2 c = search needs
+
+linked-requires : tie.Need-linked-requires
+linked-requires c κs = search needs
+
+returns-2 : tie.Need-returns-2
+returns-2 c = search needs
+
+pub is-unlinked-spec : {M : Type 1} → statement M
+is-unlinked-spec =
+    tie.close
+    (tie.spec
+    element-copy-out-if1
+    returns
+    element-copy-out-linked
+    element-copy-out-linked-2
+    linked-requires
+    returns-2)
