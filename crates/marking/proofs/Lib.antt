@@ -4,6 +4,7 @@ pub mod Examples
 pub mod Closed
 pub mod Relevance
 pub mod SetWhere
+pub mod Places
 pub mod Parts
 pub mod CoveringLaws
 pub mod LinkLaws
