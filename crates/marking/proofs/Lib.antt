@@ -6,6 +6,7 @@ pub mod Relevance
 pub mod Truth
 pub mod RowTests
 pub mod SetWhere
+pub mod Places
 pub mod Parts
 pub mod CoveringLaws
 pub mod LinkLaws

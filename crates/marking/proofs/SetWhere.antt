@@ -1,14 +1,14 @@
 -- A list with marks set where a test passes: in a loop that sets one place a turn, and in a loop whose turns each set many.
-use Prim.Native.Nat.{ℕ, zero, _+_, _≤_, _<_}
+use Prim.Native.Nat.{ℕ, _+_, _≤_, _<_}
 use mathlib.Core.Path.{_≡_, refl, sym, ap, subst, _∙_}
 use mathlib.Core.Bool.{Bool, true, false, cond, _&&_, _||_}
 use mathlib.Core.List.{List}
 use native.Mathlib.Omega.{arith}
 use native.Mathlib.Numerals.{add-one}
-use lib.Dec.{ltb}
+use lib.Dec.{eqb, ltb}
 use lib.ListN.{length, getD, set, length-set}
 use lib.Seq.{getD-set-same, getD-set-other}
-use borrow.Author.Tests.{lt-ltb, le-ltb}
+use borrow.Author.Tests.{eqb-true, eqb-false, lt-ltb, le-ltb}
 use Rattle.files.specs.Below.{anyBelow}
 use Rattle.files.proofs.Logic.{split, split-le}
 use Rattle.marking.specs.Dense.{SetWhere}
@@ -26,6 +26,28 @@ set-alike f g old new h s =
     record {
       same = s .same;
       entry = λ i b. s .entry i b ∙ ap (λ (t : Bool). cond t 1 (getD old i 0)) (h i);
+    }
+
+-- where a test allows it, the places of a list; where not, none
+pub set-guarded : (b : Bool) (f : ℕ → Bool) (old new : List ℕ) → b ≡ true → SetWhere f old new → SetWhere (λ j. b && f j) old new
+set-guarded b f old new e = set-alike f (λ j. b && f j) old new (λ j. sym (ap (λ (t : Bool). t && f j) e))
+
+pub set-skipped : (b : Bool) (f : ℕ → Bool) (l : List ℕ) → b ≡ false → SetWhere (λ j. b && f j) l l
+set-skipped b f l e = set-none (λ j. b && f j) l (λ j. ap (λ (t : Bool). t && f j) e)
+
+-- one place
+pub set-place : (b : Bool) (l : List ℕ) (p x : ℕ) → p < length l → x ≡ cond b 1 (getD l p 0) → SetWhere (λ j. eqb j p && b) l (set l p x)
+set-place b l p x h e =
+    record {
+      same = length-set l p x;
+      entry =
+          λ j k.
+          split (eqb j p)
+          (λ here.
+          let is : j ≡ p = eqb-true j p here in
+          let at : getD (set l p x) p 0 ≡ cond b 1 (getD l p 0) = getD-set-same l p x 0 h ∙ e in
+          rw (here, is) at)
+          (λ other. rw other (getD-set-other l p j x 0 (eqb-false j p other)));
     }
 
 -- no turn yet
@@ -79,8 +101,8 @@ set-both f g old now next s r =
     joined false b n = refl
 
 -- turn i sets the places that pass its test
-pub turns-begin : (h : ℕ → ℕ → Bool) (l : List ℕ) → SetWhere (λ j. anyBelow 0 (λ k. h k j)) l l
-turns-begin h l = set-none (λ j. false) l (λ j. refl)
+pub turns-begin : (l : List ℕ) → SetWhere (λ j. false) l l
+turns-begin l = set-none (λ j. false) l (λ j. refl)
 
 pub turns-next : (h : ℕ → ℕ → Bool) (old now next : List ℕ) (i : ℕ) → SetWhere (λ j. anyBelow i (λ k. h k j)) old now → SetWhere (h i) now next
     → SetWhere (λ j. anyBelow (i + 1) (λ k. h k j)) old next

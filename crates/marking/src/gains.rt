@@ -9,13 +9,13 @@ use crate::entries;
 use crate::rounds::Scope;
 
 // Keeps the actions that set a variable to a value.
-fn keep_setters(kept: &mut [u8], effects: &[u8; 32768], v: usize, value: usize, actions: usize)
+fn keep_setters(kept: &mut [u8], effects: &[u8; 32768], v: usize, value: u8, actions: usize)
     requires { ⌜ (v < 64) × (actions ≤ 512) × (512 ≤ length (now kept)) ⌝ }
     ensures { λ r. ⌜ SetWhere (sets (now (effects .entry)) v value actions) (now (kept .entry)) (now (kept .exit)) ⌝ }
 {
     let mut a: usize = 0;
     while a < actions {
-        kept[a] = entries::raised(kept[a], effects[64 * a + v] as usize == value);
+        kept[a] = entries::raised(kept[a], effects[64 * a + v] == value);
         a += 1;
     }
 }
@@ -33,7 +33,7 @@ fn keep_anew(
     ensures { λ r. ⌜ SetWhere (λ a. not (eqb unlinked before) && sets (now (effects .entry)) (place / 32) (place % 32) actions a) (now (kept .entry)) (now (kept .exit)) ⌝ }
 {
     if unlinked != before {
-        keep_setters(kept, effects, place / 32, place % 32, actions);
+        keep_setters(kept, effects, place / 32, (place % 32) as u8, actions);
     }
 }
 

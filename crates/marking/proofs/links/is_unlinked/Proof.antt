@@ -1,5 +1,9 @@
+-- A fact that is not relevant is not unlinked; of another the link decides.
+use mathlib.Core.Path.{refl, ap}
+use mathlib.Core.Bool.{not}
 use borrow.Author.Needs.{needs}
-use borrow.Author.Needs.{needs}
+use borrow.Author.Tests.{eq-eqb, ne-eqb}
+use Rattle.marking.specs.Dense.{unlinkedAt}
 use Rattle.marking.proofs.links.is_unlinked.Statement.{statement}
 use Rattle.marking.proofs.links.is_unlinked.Tie as tie
 
@@ -7,7 +11,8 @@ element-copy-out-if1 : tie.Need-element-copy-out-if1
 element-copy-out-if1 c = search needs
 
 returns : tie.Need-returns
-returns c = search needs
+unfolding unlinkedAt
+returns c = rw (ne-eqb _ 1 (c .if1 .taken)) refl
 
 element-copy-out-linked : tie.Need-element-copy-out-linked
 element-copy-out-linked c = search needs
@@ -19,7 +24,8 @@ linked-requires : tie.Need-linked-requires
 linked-requires c κs = search needs
 
 returns-2 : tie.Need-returns-2
-returns-2 c = search needs
+unfolding unlinkedAt
+returns-2 c = rw (eq-eqb _ 1 (c .before .before .before .if1 .left)) (ap not (c .linked .ensures))
 
 pub is-unlinked-spec : {M : Type 1} → statement M
 is-unlinked-spec =

@@ -1,15 +1,27 @@
+-- The loop's invariant: the entries before `v` are told.
+use Prim.Native.Nat.{ℕ, _-_, _≤_, _<_}
+use mathlib.Core.Path.{_≡_, refl, ap, _∙_}
+use native.Mathlib.Omega.{arith}
+use lib.ListN.{length, length-set, getD}
+use denote.Ref.{now}
 use borrow.Author.Needs.{needs}
+use Rattle.files.specs.Below.{bit}
+use Rattle.files.proofs.Filling.{filled-before}
+use Rattle.marking.specs.Dense.{trackedAt}
 use Rattle.marking.proofs.links.tracked.Statement.{statement}
 use Rattle.marking.proofs.links.tracked.Tie as tie
 
 abbrev Inv-loop : tie.InvT-loop
-Inv-loop scope unlinked marks₀ v₀ marks v = ?
+Inv-loop scope unlinked marks₀ v₀ marks v =
+    ((w : ℕ) → w < v → getD marks w 0 ≡ bit (trackedAt unlinked w))
+    × (v ≤ scope .variables)
+    × (length marks ≡ 64)
 
 abbrev μ-loop : tie.MeasureT-loop
-μ-loop scope unlinked marks₀ v₀ marks v = ?
+μ-loop scope unlinked marks₀ v₀ marks v = scope .variables - v
 
 loop-holds : tie.Need-loop-holds Inv-loop μ-loop
-loop-holds c = search needs
+loop-holds c = (λ w h. absurd (omega arith), omega arith, refl)
 
 has-unlinked-requires : tie.Need-has-unlinked-requires Inv-loop μ-loop
 has-unlinked-requires c κs = search needs
@@ -27,10 +39,16 @@ loop-less : tie.Need-loop-less Inv-loop μ-loop
 loop-less c = search needs
 
 loop-again : tie.Need-loop-again Inv-loop μ-loop
-loop-again c = search needs
+loop-again c =
+    let l = c .before .before .before .before .loop in
+    let a = c .before .before .before .before .before .args in (
+      filled-before (l .marks) (l .v) _ (λ w x. x ≡ bit (trackedAt (now (a .unlinked)) w)) (omega arith) (l .inv .0) (c .bit-of .ensures ∙ ap bit (c .before .has-unlinked .ensures)),
+      omega arith,
+      length-set (l .marks) (l .v) _ ∙ l .inv .2,
+    )
 
 returns : tie.Need-returns Inv-loop μ-loop
-returns c = search needs
+returns c = λ w h. c .before .before .loop .inv .0 w (omega arith)
 
 pub tracked-spec : {M : Type 1} → statement M
 tracked-spec =
