@@ -24,3 +24,4 @@ pub mod SameMarks
 pub mod MarkCount
 pub mod RoundBound
 pub mod MarkingClosed
+pub mod RoundProgress

@@ -1,25 +1,20 @@
 -- Places of facts: value d of variable v stands at 32 * v + d.
 use Prim.Native.Nat.{ℕ, _+_, _*_, _/_, _%_, _<_}
-use mathlib.Core.Path.{_≡_, refl, sym}
-use mathlib.Core.Bool.{Bool, true, false, _&&_}
+use mathlib.Core.Path.{_≡_, refl}
+use mathlib.Core.Bool.{true, _&&_}
 use native.Mathlib.Omega.{arith}
 use lib.Dec.{eqb, ltb}
 use borrow.Author.Tests.{eqb-true, eq-eqb, ltb-true, lt-ltb}
 use Rattle.files.specs.Below.{anyBelow}
 use Rattle.files.proofs.Logic.{and-split, and-join}
 use Rattle.files.proofs.BelowLaws.{anyBelow-intro, anyBelow-elim}
-
--- two tests that pass alike are one
-pub alike : (a b : Bool) → (a ≡ true → b ≡ true) → (b ≡ true → a ≡ true) → a ≡ b
-alike true b f g = sym (f refl)
-alike false true f g = g refl
-alike false false f g = refl
+use Rattle.marking.proofs.Truth.{same-truth}
 
 module _ (v : ℕ) where
   -- one place, as `set-place` tests it
   pub place-is : (d j : ℕ) → d < 32 → (eqb j (32 * v + d) && true) ≡ (eqb (j / 32) v && eqb (j % 32) d)
   place-is d j h =
-      alike (eqb j (32 * v + d) && true) (eqb (j / 32) v && eqb (j % 32) d)
+      same-truth (eqb j (32 * v + d) && true) (eqb (j / 32) v && eqb (j % 32) d)
       (λ e.
       let is : j ≡ 32 * v + d = eqb-true j (32 * v + d) (and-split (eqb j (32 * v + d)) true e .0) in
       and-join (eq-eqb (j / 32) v (omega arith)) (eq-eqb (j % 32) d (omega arith)))
@@ -32,7 +27,7 @@ module _ (v : ℕ) where
   -- the places of the first values of a variable
   pub place-values : (size j : ℕ) → anyBelow 32 (λ d. eqb j (32 * v + d) && ltb d size) ≡ eqb (j / 32) v && ltb (j % 32) size
   place-values size j =
-      alike (anyBelow 32 (λ d. eqb j (32 * v + d) && ltb d size)) (eqb (j / 32) v && ltb (j % 32) size)
+      same-truth (anyBelow 32 (λ d. eqb j (32 * v + d) && ltb d size)) (eqb (j / 32) v && ltb (j % 32) size)
       (λ e.
       let k = anyBelow-elim 32 (λ d. eqb j (32 * v + d) && ltb d size) e in
       let below : k .0 < 32 = k .1 in

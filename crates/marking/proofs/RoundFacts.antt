@@ -73,15 +73,15 @@ module _ (d : Arrays) (ok : Valid (held d)) (level : ℕ) (row : List ℕ) (base
       let small = valid v (n .known) (n .there) in (
         n .known,
         split (eqb level 1)
-        (λ r.
-        omega (
-          arith,
-          ltb-true e (getD (d .sizes) v 0) (sym (ap (λ (b : Bool). cond b (ltb e (getD (d .sizes) v 0)) (eqb e (entry v % 32))) r) ∙ n .value),
-          size-held d v (n .known),
-        ))
-        (λ r.
-        let is : e ≡ entry v % 32 = eqb-true e (entry v % 32) (sym (ap (λ (b : Bool). cond b (ltb e (getD (d .sizes) v 0)) (eqb e (entry v % 32))) r) ∙ n .value) in
-        omega (arith, small, ok .size-most v)),
+            (λ r.
+            omega (
+              arith,
+              ltb-true e (getD (d .sizes) v 0) (sym (ap (λ (b : Bool). cond b (ltb e (getD (d .sizes) v 0)) (eqb e (entry v % 32))) r) ∙ n .value),
+              size-held d v (n .known),
+            ))
+            (λ r.
+            let is : e ≡ entry v % 32 = eqb-true e (entry v % 32) (sym (ap (λ (b : Bool). cond b (ltb e (getD (d .sizes) v 0)) (eqb e (entry v % 32))) r) ∙ n .value) in
+            omega (arith, small, ok .size-most v)),
       )
 
   pub names-held : (v e : ℕ) → v < d .variables → e < sizeOf (held d) v → places (32 * v + e) ≡ names level (rowPairs row base 0 (d .variables)) v e
