@@ -4,6 +4,9 @@ pub mod Examples
 pub mod Closed
 pub mod Relevance
 pub mod SetWhere
+pub mod LoopCounts
+pub mod CoverSearch
+pub mod ResultLaws
 pub mod Parts
 pub mod CoveringLaws
 pub mod LinkLaws

@@ -1,4 +1,5 @@
 use borrow.Author.Needs.{needs}
+use borrow.Author.Needs.{needs}
 use Rattle.marking.proofs.results.write_facts.Statement.{statement}
 use Rattle.marking.proofs.results.write_facts.Tie as tie
 

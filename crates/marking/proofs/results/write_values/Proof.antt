@@ -1,5 +1,6 @@
 use borrow.Author.Needs.{needs}
 use borrow.Author.Needs.{needs}
+use borrow.Author.Needs.{needs}
 use Rattle.marking.proofs.results.write_values.Statement.{statement}
 use Rattle.marking.proofs.results.write_values.Tie as tie
 
