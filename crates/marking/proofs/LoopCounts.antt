@@ -1,6 +1,6 @@
 -- Loops that count, add up, and fill a row of a table: from one turn to the next.
 use Prim.Native.Nat.{ℕ, zero, suc, _+_, _≤_, _<_}
-use mathlib.Core.Path.{_≡_, sym, _∙_}
+use mathlib.Core.Path.{_≡_, refl, _∙_}
 use mathlib.Core.Bool.{Bool, not}
 use mathlib.Core.List.{List}
 use native.Mathlib.Omega.{arith}
@@ -22,12 +22,15 @@ count-next f i count one e d = rw (add-one i) (omega arith)
 pub sum-next : (f : ℕ → ℕ) (i total one : ℕ) → total ≡ sumBelow i f → one ≡ f i → total + one ≡ sumBelow (i + 1) f
 sum-next f i total one e d = rw (add-one i) (omega arith)
 
-pub sum-mono : (f : ℕ → ℕ) (m n : ℕ) → m ≤ n → sumBelow m f ≤ sumBelow n f
+sum-mono : (f : ℕ → ℕ) (m n : ℕ) → m ≤ n → sumBelow m f ≤ sumBelow n f
 sum-mono f m zero h = let e : m ≡ 0 = omega arith in rw e (omega arith)
 sum-mono f m (suc n) h =
     split-le (suc n) m
     (λ l. let e : m ≡ suc n = omega arith in rw e (omega arith))
     (λ l. omega (arith, sum-mono f m n (omega arith)))
+
+pub sum-within : (f : ℕ → ℕ) (i n total : ℕ) → i < n → total ≡ sumBelow i f → total + f i ≤ sumBelow n f
+sum-within f i n total h e = omega (arith, sum-next f i total (f i) e refl, sum-mono f (i + 1) n (omega arith))
 
 -- the row at `base` of a table, filled up to its entry i
 pub row-next : (f : ℕ → ℕ) (l : List ℕ) (base i x : ℕ) → base + i < length l → ((j : ℕ) → j < i → getD l (base + j) 0 ≡ f j) → x ≡ f i

@@ -1,6 +1,7 @@
 -- The loop's invariant: each entry before `a` is the bit of its test.
 use Prim.Native.Nat.{ℕ, _-_, _≤_, _<_}
 use mathlib.Core.Path.{_≡_, refl, ap, _∙_}
+use mathlib.Core.Bool.{Bool}
 use native.Mathlib.Omega.{arith}
 use lib.ListN.{length, length-set, getD}
 use denote.Ref.{now}
@@ -21,7 +22,7 @@ abbrev μ-loop : tie.MeasureT-loop
 μ-loop scope kept named pairs effects tracked coverers₀ marks₀ a₀ coverers marks a = scope .actions - a
 
 loop-holds : tie.Need-loop-holds Inv-loop μ-loop
-loop-holds c = search needs
+loop-holds c = (λ w h. absurd (omega arith), omega arith, refl)
 
 is-counted-requires : tie.Need-is-counted-requires Inv-loop μ-loop
 is-counted-requires c κs = search needs
@@ -39,10 +40,19 @@ loop-less : tie.Need-loop-less Inv-loop μ-loop
 loop-less c = search needs
 
 loop-again : tie.Need-loop-again Inv-loop μ-loop
-loop-again c = search needs
+loop-again c =
+    let l = c .before .before .before .before .before .loop in
+    let a = c .before .before .before .before .before .before .args in
+    let s = a .scope in
+    let test : ℕ → Bool =
+    λ w. countedAt (s .level) (now (a .kept)) (now (a .named)) (coveredAt (now (a .kept)) (now (a .pairs)) (now (a .effects)) (now (a .tracked)) (s .variables) (s .actions) w) w in (
+      filled-before (l .marks) (l .a) _ (λ w x. x ≡ bit (test w)) (omega arith) (l .inv .0) (c .bit-of .ensures ∙ ap bit (c .before .is-counted .ensures)),
+      omega arith,
+      length-set (l .marks) (l .a) _ ∙ l .inv .2,
+    )
 
 returns : tie.Need-returns Inv-loop μ-loop
-returns c = search needs
+returns c = λ w h. c .before .before .loop .inv .0 w (omega arith)
 
 pub counted-spec : {M : Type 1} → statement M
 counted-spec =

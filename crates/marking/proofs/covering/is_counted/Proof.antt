@@ -1,6 +1,5 @@
 -- The tests in turn, and at level 4 the search.
 use mathlib.Core.Path.{refl}
-use native.Mathlib.Omega.{arith}
 use borrow.Author.Tests.{eq-eqb, ne-eqb}
 use borrow.Author.Needs.{needs}
 use Rattle.marking.specs.Dense.{countedAt}
@@ -27,14 +26,11 @@ unfolding countedAt
 returns-3 c =
     rw (ne-eqb _ 1 (c .before .before .before .before .if1 .left), eq-eqb _ 1 (c .before .before .if2 .left), ne-eqb _ 4 (c .if3 .taken)) refl
 
-mul-before : tie.Need-mul-before
-mul-before c = search needs
+mul-coverer : tie.Need-mul-coverer
+mul-coverer c = search needs
 
-element-copy-out-before : tie.Need-element-copy-out-before
-element-copy-out-before c = search needs
-
-cast-before : tie.Need-cast-before
-cast-before c = ?
+element-copy-out-coverer : tie.Need-element-copy-out-coverer
+element-copy-out-coverer c = search needs
 
 coverer-requires : tie.Need-coverer-requires
 coverer-requires c κs = search needs
@@ -57,7 +53,7 @@ returns-4 c =
       eq-eqb _ 4 (c .before .before .before .if3 .left),
       ← c .before .coverer .ensures .0,
     )
-    (leb-ltb _ _)
+    (leb-ltb (c .before .before .before .before .before .before .before .before .before .args .scope .actions) (c .before .coverer .result))
 
 pub is-counted-spec : {M : Type 1} → statement M
 is-counted-spec =
@@ -68,9 +64,8 @@ is-counted-spec =
     element-copy-out-if2
     returns-2
     returns-3
-    mul-before
-    element-copy-out-before
-    cast-before
+    mul-coverer
+    element-copy-out-coverer
     coverer-requires
     cast-coverers
     mul-coverers
