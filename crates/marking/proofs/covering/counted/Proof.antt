@@ -1,6 +1,6 @@
 -- The loop's invariant: each entry before `a` is the bit of its test.
 use Prim.Native.Nat.{ℕ, _-_, _≤_, _<_}
-use mathlib.Core.Path.{_≡_, refl, ap, _∙_}
+use mathlib.Core.Path.{_≡_, refl, _∙_}
 use mathlib.Core.Bool.{Bool}
 use native.Mathlib.Omega.{arith}
 use lib.ListN.{length, length-set, getD}
@@ -46,7 +46,7 @@ loop-again c =
     let s = a .scope in
     let test : ℕ → Bool =
     λ w. countedAt (s .level) (now (a .kept)) (now (a .named)) (coveredAt (now (a .kept)) (now (a .pairs)) (now (a .effects)) (now (a .tracked)) (s .variables) (s .actions) w) w in (
-      filled-before (l .marks) (l .a) _ (λ w x. x ≡ bit (test w)) (omega arith) (l .inv .0) (c .bit-of .ensures ∙ ap bit (c .before .is-counted .ensures)),
+      filled-before (l .marks) (l .a) _ (λ w x. x ≡ bit (test w)) (omega arith) (l .inv .0) (cc),
       omega arith,
       length-set (l .marks) (l .a) _ ∙ l .inv .2,
     )

@@ -1,12 +1,11 @@
 -- The loop's invariant: the count is that of the variables before `v`.
 use Prim.Native.Nat.{ℕ, _+_, _-_, _≤_}
-use mathlib.Core.Path.{_≡_, refl, ap, _∙_}
+use mathlib.Core.Path.{_≡_, refl}
 use mathlib.Core.Bool.{Bool}
 use native.Mathlib.Omega.{arith}
 use lib.ListN.{getD}
 use denote.Ref.{now}
 use borrow.Author.Needs.{needs}
-use Rattle.files.specs.Below.{bit}
 use Rattle.files.proofs.BelowLaws.{bit-most}
 use Rattle.marking.specs.Dense.{otherThan, missing}
 use Rattle.marking.proofs.SetWhere.{at-end}
@@ -58,7 +57,7 @@ loop-again c =
     let l = c .before .before .before .before .before .loop in
     let a = c .before .before .before .before .before .before .args in
     let other : ℕ → Bool = λ v. otherThan (getD (now (a .conditions)) (a .base + v) 0) (getD (now (a .conditions)) (a .other + v) 0) in (
-      count-next other (l .v) (l .count) _ (l .inv .0) (c .bit-of .ensures ∙ ap bit (c .before .other-than .ensures)),
+      count-next other (l .v) (l .count) _ (l .inv .0) (cc),
       omega (arith, bit-most (c .before .other-than .result)),
       omega arith,
     )

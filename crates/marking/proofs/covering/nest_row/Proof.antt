@@ -1,6 +1,6 @@
 -- The loop's invariant: the row is filled up to `b`, and the table before it is as it was.
 use Prim.Native.Nat.{ℕ, _+_, _*_, _-_, _≤_, _<_}
-use mathlib.Core.Path.{_≡_, refl, ap, _∙_}
+use mathlib.Core.Path.{_≡_, refl, _∙_}
 use native.Mathlib.Omega.{arith}
 use lib.ListN.{length, length-set, getD}
 use lib.Seq.{getD-set-other}
@@ -51,7 +51,7 @@ loop-again c =
     let l = c .before .before .before .loop in
     let a = c .before .before .before .before .before .args in (
       length-set (l .pairs) _ _ ∙ l .inv .0,
-      row-next (λ j. bit (nested (now (a .costs)) (now (a .conditions)) (a .variables) j (a .a))) (l .pairs) (512 * a .a) (l .b) _ (omega arith) (l .inv .1) (c .bit-of .ensures ∙ ap bit (c .before .is-nested .ensures)),
+      row-next (λ j. bit (nested (now (a .costs)) (now (a .conditions)) (a .variables) j (a .a))) (l .pairs) (512 * a .a) (l .b) _ (omega arith) (l .inv .1) (cc),
       λ i h. getD-set-other (l .pairs) _ i _ 0 (omega arith) ∙ l .inv .2 i h,
       omega arith,
     )

@@ -1,13 +1,12 @@
 -- The loop's invariant: the count is that of the variables before `v`.
 use Prim.Native.Nat.{ℕ, _+_, _-_, _≤_}
-use mathlib.Core.Path.{_≡_, refl, ap, _∙_}
+use mathlib.Core.Path.{_≡_, refl}
 use mathlib.Core.Bool.{Bool, not, _&&_}
 use native.Mathlib.Omega.{arith}
 use lib.Dec.{eqb}
 use lib.ListN.{getD}
 use denote.Ref.{now}
 use borrow.Author.Needs.{needs}
-use Rattle.files.specs.Below.{bit}
 use Rattle.files.proofs.BelowLaws.{bit-most}
 use Rattle.marking.specs.Dense.{isMarked, unlike}
 use Rattle.marking.proofs.SetWhere.{at-end}
@@ -63,7 +62,7 @@ loop-again c =
     let a = c .before .before .before .before .before .before .before .args in
     let differs : ℕ → Bool =
     λ v. isMarked (now (a .tracked)) v && not (eqb (getD (now (a .effects)) (a .base + v) 0) (getD (now (a .effects)) (a .other + v) 0)) in (
-      count-next differs (l .v) (l .count) _ (l .inv .0) (c .bit-of .ensures ∙ ap bit (c .before .is-unlike .ensures)),
+      count-next differs (l .v) (l .count) _ (l .inv .0) (cc),
       omega (arith, bit-most (c .before .is-unlike .result)),
       omega arith,
     )

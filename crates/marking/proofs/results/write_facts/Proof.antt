@@ -1,5 +1,5 @@
 -- The loop's invariant: the bytes of the variables before `v` stand, and `at` is their number.
-use Prim.Native.Nat.{_+_, _-_, _≤_}
+use Prim.Native.Nat.{_-_, _≤_}
 use mathlib.Core.Path.{_≡_, refl}
 use native.Mathlib.Omega.{arith}
 use lib.ListN.{length, getD}

@@ -1,6 +1,7 @@
 -- The loop's invariant: the bytes left, placed behind those that stand, make all the bytes.
 use Prim.Native.Nat.{ℕ, _+_, _*_}
 use mathlib.Core.Path.{_≡_, refl, _∙_}
+use mathlib.Core.List.{List}
 use native.Mathlib.Omega.{arith}
 use lib.ListN.{length, length-set, getD}
 use denote.Ref.{now}
@@ -12,9 +13,13 @@ use Rattle.marking.proofs.ResultLaws.{bytes-none, bytes-next}
 use Rattle.marking.proofs.results.write_values.Statement.{statement}
 use Rattle.marking.proofs.results.write_values.Tie as tie
 
+-- the byte of a variable's value
+abbrev mark : List ℕ → List ℕ → ℕ → ℕ → ℕ
+mark facts unlinked v d = entryMark (getD facts (32 * v + d) 0) (getD unlinked (32 * v + d) 0)
+
 abbrev Inv-loop : tie.InvT-loop
 Inv-loop marks₀ at facts unlinked v size d₀ place₀ left₀ marks d place left =
-    (placed marks place (tabulateFrom d left (λ j. entryMark (getD facts (32 * v + j) 0) (getD unlinked (32 * v + j) 0))) ≡ placed marks₀ at (entryMarks facts unlinked v size))
+    (placed marks place (tabulateFrom d left (mark facts unlinked v)) ≡ placed marks₀ at (entryMarks facts unlinked v size))
     × (place + left ≡ at + size)
     × (d + left ≡ size)
     × (length marks ≡ length marks₀)
@@ -65,9 +70,8 @@ loop-less c = search needs
 loop-again : tie.Need-loop-again Inv-loop μ-loop
 loop-again c =
     let l = c .before .before .before .before .loop in
-    let a = c .before .before .before .before .before .before .args in
-    let mark : ℕ → ℕ = λ j. entryMark (getD (now (a .facts)) (32 * a .v + j) 0) (getD (now (a .unlinked)) (32 * a .v + j) 0) in (
-      bytes-next mark (l .marks) (l .place) (l .d) (l .left) _ (c .before .before .before .loop-test .taken) (c .fact-mark .ensures) ∙ l .inv .0,
+    let a = c .before .before .before .before .before .before .args in (
+      bytes-next (mark (now (a .facts)) (now (a .unlinked)) (a .v)) (l .marks) (l .place) (l .d) (l .left) _ (c .before .before .before .loop-test .taken) (c .fact-mark .ensures) ∙ l .inv .0,
       omega arith,
       omega arith,
       length-set (l .marks) _ _ ∙ l .inv .3,
@@ -80,8 +84,7 @@ returns : tie.Need-returns Inv-loop μ-loop
 returns c =
     let l = c .before .loop in
     let a = c .before .before .before .args in
-    let mark : ℕ → ℕ = λ j. entryMark (getD (now (a .facts)) (32 * a .v + j) 0) (getD (now (a .unlinked)) (32 * a .v + j) 0) in
-    bytes-none mark (l .marks) (l .place) (l .d) (l .left) (c .loop-test .left) ∙ l .inv .0
+    bytes-none (mark (now (a .facts)) (now (a .unlinked)) (a .v)) (l .marks) (l .place) (l .d) (l .left) (c .loop-test .left) ∙ l .inv .0
 
 pub write-values-spec : {M : Type 1} → statement M
 write-values-spec =
