@@ -167,15 +167,16 @@ fn coverer(
     effects: &[u8; 32768],
     tracked: &[u8; 64],
     a: usize,
-    before: usize,
+    before: u16,
 ) -> usize
     requires { ⌜ (scope .variables ≤ 64) × (scope .actions ≤ 512) × (a < 512) ⌝ }
     ensures { λ r. ⌜ (ltb r (scope .actions) ≡ coveredAt (now (kept .entry)) (now (pairs .entry)) (now (effects .entry)) (now (tracked .entry)) (scope .variables) (scope .actions) a) × (r ≤ 512) ⌝ }
 {
     let variables = scope.variables;
-    if before < scope.actions {
-        if covers(kept, pairs, effects, tracked, variables, before, a) {
-            return before;
+    let first = before as usize;
+    if first < scope.actions {
+        if covers(kept, pairs, effects, tracked, variables, first, a) {
+            return first;
         }
     }
     find_coverer(scope, kept, pairs, effects, tracked, a)
@@ -204,8 +205,7 @@ fn is_counted(
     if scope.level != 4 {
         return true;
     }
-    let before = coverers[a] as usize;
-    let by = coverer(scope, kept, pairs, effects, tracked, a, before);
+    let by = coverer(scope, kept, pairs, effects, tracked, a, coverers[a]);
     coverers[a] = by as u16;
     scope.actions <= by
 }

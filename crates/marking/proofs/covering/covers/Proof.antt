@@ -1,5 +1,8 @@
+-- The three tests in turn: b is kept, the pair is nested, no tracked effect is unlike.
+use mathlib.Core.Path.{refl}
+use borrow.Author.Tests.{eq-eqb, ne-eqb}
 use borrow.Author.Needs.{needs}
-use borrow.Author.Needs.{needs}
+use Rattle.marking.specs.Dense.{coversAt}
 use Rattle.marking.proofs.covering.covers.Statement.{statement}
 use Rattle.marking.proofs.covering.covers.Tie as tie
 
@@ -7,7 +10,8 @@ element-copy-out-if1 : tie.Need-element-copy-out-if1
 element-copy-out-if1 c = search needs
 
 returns : tie.Need-returns
-returns c = search needs
+unfolding coversAt
+returns c = rw (ne-eqb _ 1 (c .if1 .taken)) refl
 
 mul-if2 : tie.Need-mul-if2
 mul-if2 c = search needs
@@ -19,7 +23,9 @@ element-copy-out-if2 : tie.Need-element-copy-out-if2
 element-copy-out-if2 c = search needs
 
 returns-2 : tie.Need-returns-2
-returns-2 c = search needs
+unfolding coversAt
+returns-2 c =
+    rw (eq-eqb _ 1 (c .before .before .if1 .left), ne-eqb _ 1 (c .if2 .taken)) refl
 
 mul-unlike : tie.Need-mul-unlike
 mul-unlike c = search needs
@@ -31,7 +37,9 @@ unlike-requires : tie.Need-unlike-requires
 unlike-requires c κs = search needs
 
 returns-3 : tie.Need-returns-3
-returns-3 c = search needs
+unfolding coversAt
+returns-3 c =
+    rw (eq-eqb _ 1 (c .before .before .before .if1 .left), eq-eqb _ 1 (c .before .if2 .left), ← c .unlike .ensures) refl
 
 pub covers-spec : {M : Type 1} → statement M
 covers-spec =

@@ -1,61 +1,59 @@
+-- The tests in turn, and at level 4 the search.
+use mathlib.Core.Path.{refl}
+use borrow.Author.Tests.{eq-eqb, ne-eqb}
 use borrow.Author.Needs.{needs}
+use Rattle.marking.specs.Dense.{countedAt}
+use Rattle.marking.proofs.LoopCounts.{leb-ltb}
 use Rattle.marking.proofs.covering.is_counted.Statement.{statement}
 use Rattle.marking.proofs.covering.is_counted.Tie as tie
-use Rattle.marking.proofs.covering.is_counted.Reads as reads
-use Rattle.marking.proofs.covering.is_counted.Lts as lts
-use Rattle.marking.proofs.covering.coverer.Reads as coverer-reads
 
--- src/covering.rt:198:8
 element-copy-out-if1 : tie.Need-element-copy-out-if1
 element-copy-out-if1 c = search needs
 
--- src/covering.rt:199:9
 returns : tie.Need-returns
-returns c = ?
+unfolding countedAt
+returns c = rw (eq-eqb _ 1 (c .if1 .taken)) refl
 
--- src/covering.rt:201:8
 element-copy-out-if2 : tie.Need-element-copy-out-if2
 element-copy-out-if2 c = search needs
 
--- src/covering.rt:202:9
 returns-2 : tie.Need-returns-2
-returns-2 c = ?
+unfolding countedAt
+returns-2 c = rw (ne-eqb _ 1 (c .before .before .if1 .left), ne-eqb _ 1 (c .if2 .taken)) refl
 
--- src/covering.rt:205:9
 returns-3 : tie.Need-returns-3
-returns-3 c = ?
+unfolding countedAt
+returns-3 c =
+    rw (ne-eqb _ 1 (c .before .before .before .before .if1 .left), eq-eqb _ 1 (c .before .before .if2 .left), ne-eqb _ 4 (c .if3 .taken)) refl
 
--- src/covering.rt:207:18
-mul-before : tie.Need-mul-before
-mul-before c = search needs
+mul-coverer : tie.Need-mul-coverer
+mul-coverer c = search needs
 
--- src/covering.rt:207:18
-element-copy-out-before : tie.Need-element-copy-out-before
-element-copy-out-before c = search needs
+element-copy-out-coverer : tie.Need-element-copy-out-coverer
+element-copy-out-coverer c = search needs
 
--- src/covering.rt:207:18
-cast-before : tie.Need-cast-before
-cast-before c = ?
-
--- src/covering.rt:208:9
 coverer-requires : tie.Need-coverer-requires
 coverer-requires c κs = search needs
 
--- src/covering.rt:209:19
 cast-coverers : tie.Need-cast-coverers
 cast-coverers c = search needs
 
--- src/covering.rt:209:5
 mul-coverers : tie.Need-mul-coverers
 mul-coverers c = search needs
 
--- src/covering.rt:209:5
 element-write-coverers : tie.Need-element-write-coverers
 element-write-coverers c = search needs
 
--- src/covering.rt:185:1
 returns-4 : tie.Need-returns-4
-returns-4 c = ?
+unfolding countedAt
+returns-4 c =
+    rw (
+      ne-eqb _ 1 (c .before .before .before .before .before .before .before .if1 .left),
+      eq-eqb _ 1 (c .before .before .before .before .before .if2 .left),
+      eq-eqb _ 4 (c .before .before .before .if3 .left),
+      ← c .before .coverer .ensures .0,
+    )
+    (leb-ltb (c .before .before .before .before .before .before .before .before .before .args .scope .actions) (c .before .coverer .result))
 
 pub is-counted-spec : {M : Type 1} → statement M
 is-counted-spec =
@@ -66,9 +64,8 @@ is-counted-spec =
     element-copy-out-if2
     returns-2
     returns-3
-    mul-before
-    element-copy-out-before
-    cast-before
+    mul-coverer
+    element-copy-out-coverer
     coverer-requires
     cast-coverers
     mul-coverers

@@ -1,46 +1,50 @@
+-- The loop's invariant: the rows of the actions before `a` are filled.
+use Prim.Native.Nat.{ℕ, _+_, _*_, _-_, _≤_, _<_}
+use mathlib.Core.Path.{_≡_, refl, _∙_}
+use native.Mathlib.Omega.{arith}
+use lib.ListN.{length, getD}
+use borrow.Author.Count.{below-more}
+use borrow.Author.Needs.{needs}
+use Rattle.files.specs.Below.{bit}
+use Rattle.marking.specs.Dense.{nested}
 use Rattle.marking.proofs.covering.nest.Statement.{statement}
 use Rattle.marking.proofs.covering.nest.Tie as tie
-use Rattle.marking.proofs.covering.nest.Reads as reads
-use Rattle.marking.proofs.covering.nest.Lts as lts
-use Rattle.marking.proofs.covering.nest_row.Reads as nest-row-reads
 
 abbrev Inv-loop : tie.InvT-loop
-Inv-loop pairs₀ costs conditions variables actions a₀ pairs a = ?
+Inv-loop pairs₀ costs conditions variables actions a₀ pairs a =
+    (length pairs ≡ length pairs₀)
+    × ((i : ℕ) → i < a → (b : ℕ) → b < actions → getD pairs (512 * i + b) 0 ≡ bit (nested costs conditions variables b i))
+    × (a ≤ actions)
 
 abbrev μ-loop : tie.MeasureT-loop
-μ-loop pairs₀ costs conditions variables actions a₀ pairs a = ?
+μ-loop pairs₀ costs conditions variables actions a₀ pairs a = actions - a
 
--- src/covering.rt:76:9
 returns : tie.Need-returns Inv-loop μ-loop
-returns c = ?
+returns c = λ e. absurd (c .if1 .taken e)
 
--- src/covering.rt:79:5
 loop-holds : tie.Need-loop-holds Inv-loop μ-loop
-loop-holds c = ?
+loop-holds c = (refl, λ i h. absurd (omega arith), omega arith)
 
--- src/covering.rt:80:9
 nest-row-requires : tie.Need-nest-row-requires Inv-loop μ-loop
-nest-row-requires c κs = ?
+nest-row-requires c κs = search needs
 
--- src/covering.rt:81:9
 add-a : tie.Need-add-a Inv-loop μ-loop
-add-a c = ?
+add-a c = search needs
 
--- src/covering.rt:79:5
 loop-less : tie.Need-loop-less Inv-loop μ-loop
-loop-less c = ?
+loop-less c = search needs
 
--- src/covering.rt:79:5
 loop-again : tie.Need-loop-again Inv-loop μ-loop
-loop-again c = ?
+loop-again c =
+    let l = c .before .before .before .before .before .loop in
+    let row = c .before .before .nest-row .ensures in
+    (row .0 ∙ l .inv .0, below-more _ _ (λ i h b k. row .2 (512 * i + b) (omega arith) ∙ l .inv .1 i h b k) (row .1), omega arith)
 
--- src/covering.rt:69:1
 same-length : tie.Need-same-length Inv-loop μ-loop
-same-length c = ?
+same-length c = c .before .loop .inv .0
 
--- src/covering.rt:69:1
 returns-2 : tie.Need-returns-2 Inv-loop μ-loop
-returns-2 c = ?
+returns-2 c = λ e i b h k. c .before .loop .inv .1 i (omega arith) b k
 
 pub nest-spec : {M : Type 1} → statement M
 nest-spec =

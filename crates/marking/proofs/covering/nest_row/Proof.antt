@@ -1,15 +1,29 @@
+-- The loop's invariant: the row is filled up to `b`, and the table before it is as it was.
+use Prim.Native.Nat.{ℕ, _+_, _*_, _-_, _≤_, _<_}
+use mathlib.Core.Path.{_≡_, refl, _∙_}
+use native.Mathlib.Omega.{arith}
+use lib.ListN.{length, length-set, getD}
+use lib.Seq.{getD-set-other}
+use denote.Ref.{now}
 use borrow.Author.Needs.{needs}
+use Rattle.files.specs.Below.{bit}
+use Rattle.marking.specs.Dense.{nested}
+use Rattle.marking.proofs.LoopCounts.{row-next}
 use Rattle.marking.proofs.covering.nest_row.Statement.{statement}
 use Rattle.marking.proofs.covering.nest_row.Tie as tie
 
 abbrev Inv-loop : tie.InvT-loop
-Inv-loop pairs₀ costs conditions variables actions a b₀ pairs b = ?
+Inv-loop pairs₀ costs conditions variables actions a b₀ pairs b =
+    (length pairs ≡ length pairs₀)
+    × ((j : ℕ) → j < b → getD pairs (512 * a + j) 0 ≡ bit (nested costs conditions variables j a))
+    × ((i : ℕ) → i < 512 * a → getD pairs i 0 ≡ getD pairs₀ i 0)
+    × (b ≤ actions)
 
 abbrev μ-loop : tie.MeasureT-loop
-μ-loop pairs₀ costs conditions variables actions a b₀ pairs b = ?
+μ-loop pairs₀ costs conditions variables actions a b₀ pairs b = actions - b
 
 loop-holds : tie.Need-loop-holds Inv-loop μ-loop
-loop-holds c = search needs
+loop-holds c = (refl, λ j h. absurd (omega arith), λ i h. refl, omega arith)
 
 is-nested-requires : tie.Need-is-nested-requires Inv-loop μ-loop
 is-nested-requires c κs = search needs
@@ -33,13 +47,22 @@ loop-less : tie.Need-loop-less Inv-loop μ-loop
 loop-less c = search needs
 
 loop-again : tie.Need-loop-again Inv-loop μ-loop
-loop-again c = search needs
+loop-again c =
+    let l = c .before .before .before .loop in
+    let a = c .before .before .before .before .before .args in (
+      length-set (l .pairs) _ _ ∙ l .inv .0,
+      row-next (λ j. bit (nested (now (a .costs)) (now (a .conditions)) (a .variables) j (a .a))) (l .pairs) (512 * a .a) (l .b) _ (omega arith) (l .inv .1) (cc),
+      λ i h. getD-set-other (l .pairs) _ i _ 0 (omega arith) ∙ l .inv .2 i h,
+      omega arith,
+    )
 
 same-length : tie.Need-same-length Inv-loop μ-loop
-same-length c = search needs
+same-length c = c .before .loop .inv .0
 
 returns : tie.Need-returns Inv-loop μ-loop
-returns c = search needs
+returns c =
+    let l = c .before .loop in
+    (l .inv .0, λ b h. l .inv .1 b (omega arith), l .inv .2)
 
 pub nest-row-spec : {M : Type 1} → statement M
 nest-row-spec =

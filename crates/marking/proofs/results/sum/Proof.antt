@@ -1,25 +1,33 @@
+-- The loop's invariant: the total is that of the bytes before `i`.
+use Prim.Native.Nat.{_*_, _-_, _≤_}
+use mathlib.Core.Path.{_≡_, refl}
+use native.Mathlib.Omega.{arith}
+use lib.ListN.{getD}
+use denote.Ref.{now}
 use borrow.Author.Needs.{needs}
-use borrow.Author.Needs.{needs}
+use Rattle.files.specs.Below.{sumBelow}
+use Rattle.marking.proofs.SetWhere.{at-end}
+use Rattle.marking.proofs.LoopCounts.{sum-next}
 use Rattle.marking.proofs.results.sum.Statement.{statement}
 use Rattle.marking.proofs.results.sum.Tie as tie
 
 abbrev Inv-loop : tie.InvT-loop
-Inv-loop bytes count total₀ i₀ total i = ?
+Inv-loop bytes count total₀ i₀ total i = (total ≡ sumBelow i (λ j. getD bytes j 0)) × (total ≤ 255 * i) × (i ≤ count)
 
 abbrev μ-loop : tie.MeasureT-loop
-μ-loop bytes count total₀ i₀ total i = ?
+μ-loop bytes count total₀ i₀ total i = count - i
 
 loop-holds : tie.Need-loop-holds Inv-loop μ-loop
-loop-holds c = search needs
+loop-holds c = (refl, omega arith, omega arith)
 
 shared-slice-read-total : tie.Need-shared-slice-read-total Inv-loop μ-loop
 shared-slice-read-total c = search needs
 
 cast-total : tie.Need-cast-total Inv-loop μ-loop
-cast-total c = search needs
+cast-total c = omega (arith, c .shared-slice-known .given (c .before .before .loop .i))
 
 add-total : tie.Need-add-total Inv-loop μ-loop
-add-total c = search needs
+add-total c = omega (arith, c .shared-slice-known .given (c .before .before .loop .i))
 
 add-i : tie.Need-add-i Inv-loop μ-loop
 add-i c = search needs
@@ -28,10 +36,19 @@ loop-less : tie.Need-loop-less Inv-loop μ-loop
 loop-less c = search needs
 
 loop-again : tie.Need-loop-again Inv-loop μ-loop
-loop-again c = search needs
+loop-again c =
+    let l = c .before .before .loop in
+    let bytes = now (c .before .before .before .args .bytes) in (
+      sum-next (λ j. getD bytes j 0) (l .i) (l .total) _ (l .inv .0) refl,
+      omega (arith, c .shared-slice-known .given (l .i)),
+      omega arith,
+    )
 
 returns : tie.Need-returns Inv-loop μ-loop
-returns c = search needs
+returns c =
+    let l = c .before .loop in
+    let a = c .before .before .args in
+    (at-end (λ n. l .total ≡ sumBelow n (λ j. getD (now (a .bytes)) j 0)) (l .i) (a .count) (l .inv .2) (c .loop-test .left) (l .inv .0), omega arith)
 
 pub sum-spec : {M : Type 1} → statement M
 sum-spec =

@@ -1,16 +1,35 @@
+-- The loop's invariant: the bytes left, placed behind those that stand, make all the bytes.
+use Prim.Native.Nat.{ℕ, _+_, _*_}
+use mathlib.Core.Path.{_≡_, refl, _∙_}
+use mathlib.Core.List.{List}
+use native.Mathlib.Omega.{arith}
+use lib.ListN.{length, length-set, getD}
+use denote.Ref.{now}
 use borrow.Author.Needs.{needs}
-use borrow.Author.Needs.{needs}
+use Rattle.files.specs.Below.{tabulateFrom}
+use Rattle.files.specs.Bytes.{placed}
+use Rattle.marking.specs.Dense.{entryMark, entryMarks}
+use Rattle.marking.proofs.ResultLaws.{bytes-none, bytes-next}
 use Rattle.marking.proofs.results.write_values.Statement.{statement}
 use Rattle.marking.proofs.results.write_values.Tie as tie
 
+-- the byte of a variable's value
+abbrev mark : List ℕ → List ℕ → ℕ → ℕ → ℕ
+mark facts unlinked v d = entryMark (getD facts (32 * v + d) 0) (getD unlinked (32 * v + d) 0)
+
 abbrev Inv-loop : tie.InvT-loop
-Inv-loop marks₀ at facts unlinked v size d₀ place₀ left₀ marks d place left = ?
+Inv-loop marks₀ at facts unlinked v size d₀ place₀ left₀ marks d place left =
+    (placed marks place (tabulateFrom d left (mark facts unlinked v)) ≡ placed marks₀ at (entryMarks facts unlinked v size))
+    × (place + left ≡ at + size)
+    × (d + left ≡ size)
+    × (length marks ≡ length marks₀)
 
 abbrev μ-loop : tie.MeasureT-loop
-μ-loop marks₀ at facts unlinked v size d₀ place₀ left₀ marks d place left = ?
+μ-loop marks₀ at facts unlinked v size d₀ place₀ left₀ marks d place left = left
 
 loop-holds : tie.Need-loop-holds Inv-loop μ-loop
-loop-holds c = search needs
+unfolding entryMarks
+loop-holds c = (refl, refl, omega arith, refl)
 
 mul-fact-mark : tie.Need-mul-fact-mark Inv-loop μ-loop
 mul-fact-mark c = search needs
@@ -49,13 +68,23 @@ loop-less : tie.Need-loop-less Inv-loop μ-loop
 loop-less c = search needs
 
 loop-again : tie.Need-loop-again Inv-loop μ-loop
-loop-again c = search needs
+loop-again c =
+    let l = c .before .before .before .before .loop in
+    let a = c .before .before .before .before .before .before .args in (
+      bytes-next (mark (now (a .facts)) (now (a .unlinked)) (a .v)) (l .marks) (l .place) (l .d) (l .left) _ (c .before .before .before .loop-test .taken) (c .fact-mark .ensures) ∙ l .inv .0,
+      omega arith,
+      omega arith,
+      length-set (l .marks) _ _ ∙ l .inv .3,
+    )
 
 same-length : tie.Need-same-length Inv-loop μ-loop
-same-length c = search needs
+same-length c = c .before .loop .inv .3
 
 returns : tie.Need-returns Inv-loop μ-loop
-returns c = search needs
+returns c =
+    let l = c .before .loop in
+    let a = c .before .before .before .args in
+    bytes-none (mark (now (a .facts)) (now (a .unlinked)) (a .v)) (l .marks) (l .place) (l .d) (l .left) (c .loop-test .left) ∙ l .inv .0
 
 pub write-values-spec : {M : Type 1} → statement M
 write-values-spec =
