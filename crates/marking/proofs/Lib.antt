@@ -29,3 +29,5 @@ pub mod RoundActions
 pub mod RoundCovering
 pub mod RoundFacts
 pub mod RoundProgress
+pub mod RoundCount
+pub mod Rounding
