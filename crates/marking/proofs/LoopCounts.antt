@@ -9,8 +9,9 @@ use lib.Dec.{leb, ltb}
 use lib.ListN.{length, getD, set}
 use lib.Seq.{getD-set-same, getD-set-other}
 use borrow.Author.Tests.{lt-ltb, le-ltb, le-leb, lt-leb}
-use Rattle.files.specs.Below.{bit, countBelow, sumBelow}
+use Rattle.files.specs.Below.{bit, countBelow}
 use Rattle.files.proofs.Logic.{split-le}
+use Rattle.marking.specs.Dense.{sumOf}
 
 -- the two orders of a comparison
 pub leb-ltb : (m n : ℕ) → leb m n ≡ not (ltb n m)
@@ -19,18 +20,20 @@ leb-ltb m n = split-le m n (λ l. rw (le-leb m n l, le-ltb n m l)) (λ l. rw (lt
 pub count-next : (f : ℕ → Bool) (i count one : ℕ) → count ≡ countBelow i f → one ≡ bit (f i) → count + one ≡ countBelow (i + 1) f
 count-next f i count one e d = rw (add-one i) (omega arith)
 
-pub sum-next : (f : ℕ → ℕ) (i total one : ℕ) → total ≡ sumBelow i f → one ≡ f i → total + one ≡ sumBelow (i + 1) f
-sum-next f i total one e d = rw (add-one i) (omega arith)
+pub sum-next : (l : List ℕ) (i total one : ℕ) → total ≡ sumOf l i → one ≡ getD l i 0 → total + one ≡ sumOf l (i + 1)
+unfolding sumOf
+sum-next l i total one e d = rw (add-one i) (omega arith)
 
-sum-mono : (f : ℕ → ℕ) (m n : ℕ) → m ≤ n → sumBelow m f ≤ sumBelow n f
-sum-mono f m zero h = let e : m ≡ 0 = omega arith in rw e (omega arith)
-sum-mono f m (suc n) h =
+sum-mono : (l : List ℕ) (m n : ℕ) → m ≤ n → sumOf l m ≤ sumOf l n
+unfolding sumOf
+sum-mono l m zero h = let e : m ≡ 0 = omega arith in rw e (omega arith)
+sum-mono l m (suc n) h =
     split-le (suc n) m
-    (λ l. let e : m ≡ suc n = omega arith in rw e (omega arith))
-    (λ l. omega (arith, sum-mono f m n (omega arith)))
+    (λ a. let e : m ≡ suc n = omega arith in rw e (omega arith))
+    (λ a. omega (arith, sum-mono l m n (omega arith)))
 
-pub sum-within : (f : ℕ → ℕ) (i n total : ℕ) → i < n → total ≡ sumBelow i f → total + f i ≤ sumBelow n f
-sum-within f i n total h e = omega (arith, sum-next f i total (f i) e refl, sum-mono f (i + 1) n (omega arith))
+pub sum-within : (l : List ℕ) (i n total : ℕ) → i < n → total ≡ sumOf l i → total + getD l i 0 ≤ sumOf l n
+sum-within l i n total h e = omega (arith, sum-next l i total (getD l i 0) e refl, sum-mono l (i + 1) n (omega arith))
 
 -- the row at `base` of a table, filled up to its entry i
 pub row-next : (f : ℕ → ℕ) (l : List ℕ) (base i x : ℕ) → base + i < length l → ((j : ℕ) → j < i → getD l (base + j) 0 ≡ f j) → x ≡ f i

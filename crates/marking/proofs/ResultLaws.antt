@@ -10,7 +10,7 @@ use Rattle.files.specs.Bytes.{placed}
 use Rattle.files.proofs.Placed.{placed-then}
 use Rattle.files.proofs.Tabulate.{tabulateFrom-length}
 use Rattle.files.proofs.Writing.{placed-none, placed-next}
-use Rattle.marking.specs.Dense.{entryMark, entryMarks}
+use Rattle.marking.specs.Dense.{sumOf, entryMark, entryMarks}
 
 -- a loop that writes a byte a turn
 module _ (f : ℕ → ℕ) (b : List ℕ) (at i left : ℕ) where
@@ -34,9 +34,10 @@ joined-length f sizes (suc n) h = length-append (joinBelow n f) (f n) ∙ omega 
 -- a loop that writes a variable's bytes a turn
 pub facts-next : (facts unlinked sizes old now next : List ℕ) (v at : ℕ)
     → now ≡ placed old 0 (joinBelow v (λ w. entryMarks facts unlinked w (getD sizes w 0)))
-    → at ≡ sumBelow v (λ w. getD sizes w 0)
+    → at ≡ sumOf sizes v
     → next ≡ placed now at (entryMarks facts unlinked v (getD sizes v 0))
     → next ≡ placed old 0 (joinBelow (v + 1) (λ w. entryMarks facts unlinked w (getD sizes w 0)))
+unfolding sumOf
 facts-next facts unlinked sizes old now next v at e h p =
     let marks : ℕ → List ℕ = λ w. entryMarks facts unlinked w (getD sizes w 0) in
     rw (add-one v)

@@ -11,7 +11,7 @@ use Rattle.files.specs.Dense.{Arrays, held}
 use Rattle.files.specs.Task.{actionCount, variableCount, sizeOf}
 use Rattle.files.proofs.Valid.{Valid}
 use Rattle.marking.specs.Marks.{Marks, kept, relevant}
-use Rattle.marking.specs.Dense.{SetWhere, isMarked, heldMarks}
+use Rattle.marking.specs.Dense.{SetWhere, isMarked, heldMarks, sumOf}
 use Rattle.marking.proofs.CountOrder.{sum-order, sum-same}
 use Rattle.marking.proofs.HeldTask.{variables-held, actions-held, factAt, marks-held, kept-held, relevant-held}
 use Rattle.marking.proofs.MarkTables.{marksOf-same}
@@ -44,7 +44,7 @@ same a b h k = omega arith
 module _ (d : Arrays) where
   -- how many marks arrays hold
   abbrev pub markSum : List ℕ → List ℕ → ℕ
-  markSum actions facts = sumBelow (d .actions) (λ i. getD actions i 0) + sumBelow 2048 (λ i. getD facts i 0)
+  markSum actions facts = sumOf actions (d .actions) + sumOf facts 2048
 
 module _ (d : Arrays) (ok : Valid (held d)) (level : ℕ) (actions facts before threats noted named : List ℕ) (p : Progress d level actions facts before threats noted named)
     (actions′ facts′ before′ threats′ noted′ named′ : List ℕ) (q : Progress d level actions′ facts′ before′ threats′ noted′ named′)
@@ -56,6 +56,7 @@ module _ (d : Arrays) (ok : Valid (held d)) (level : ℕ) (actions facts before 
   fact-more i l = set-more names facts facts′ i r (omega (arith, p .facts-long)) (p .fact-bit i l)
 
   pub sum-same-marks : markSum d actions facts ≡ markSum d actions′ facts′ → heldMarks (held d) actions facts ≡ heldMarks (held d) actions′ facts′
+  unfolding sumOf
   sum-same-marks e =
       let both =
       no-more (sumBelow (d .actions) (λ i. getD actions i 0)) (sumBelow 2048 (λ i. getD facts i 0)) (sumBelow (d .actions) (λ i. getD actions′ i 0)) (sumBelow 2048 (λ i. getD facts′ i 0)) e
@@ -71,6 +72,7 @@ module _ (d : Arrays) (ok : Valid (held d)) (level : ℕ) (actions facts before 
       ∙ sym (marks-held d actions′ facts′)
 
   pub marks-same-sum : heldMarks (held d) actions facts ≡ heldMarks (held d) actions′ facts′ → markSum d actions facts ≡ markSum d actions′ facts′
+  unfolding sumOf
   marks-same-sum e =
       ap₂ _+_
       (sum-alike (d .actions) (λ i. getD actions i 0) (λ i. getD actions′ i 0)

@@ -19,7 +19,7 @@ use Rattle.marking.specs.Marks.{Marks, kept, relevant, names, firstMarks
 use Rattle.marking.specs.Links.{threatened, linked, unlinked}
 use Rattle.marking.specs.Rounds.{nextMarks, Marking, markFrom, marking}
 use Rattle.marking.specs.Mark.{factMark}
-use Rattle.marking.specs.Dense.{SetWhere, isMarked, heldMarks, otherThan, rowNames, entryMark, Final}
+use Rattle.marking.specs.Dense.{SetWhere, isMarked, heldMarks, otherThan, rowNames, sumOf, entryMark, Final}
 use Rattle.marking.proofs.HeldTask.{variables-held, actions-held, goal-held, goal-valid, factAt, marks-held, kept-held, relevant-held, relevant-inside, held-shaped, effectAt, threatened-held}
 use Rattle.marking.proofs.CountOrder.{sum-order}
 use Rattle.marking.proofs.MarkCount.{markCount, markCount-most}
@@ -134,15 +134,30 @@ module _ (d : Arrays) (ok : Valid (held d)) (level : ℕ) where
           whole = λ one v x y h i j q. first-named v y h j ∙ names-whole one v y x ∙ sym (first-named v x h i) ∙ q;
         }
 
-    pub rounding-begins : (count : ℕ) → count ≡ sumBelow 2048 (λ i. getD facts i 0) → Rounding d level (replicate 512 0) facts (replicate 2048 0) (replicate 64 0) (replicate 512 0) (replicate 512 0) 0 count
+    none-yet : sumOf (replicate 512 0) (d .actions) ≡ 0
+    unfolding sumOf
+    none-yet = sum-zero (d .actions) (λ i. getD {A = ℕ} (replicate 512 0) i 0) (λ i l. zeros-entry 512 i)
+
+    pub rounding-begins : (count : ℕ) → count ≡ sumOf facts 2048 → Rounding d level (replicate 512 0) facts (replicate 2048 0) (replicate 64 0) (replicate 512 0) (replicate 512 0) 0 count
     unfolding marking
     rounding-begins count e =
         record {
           progress = first-progress;
           ahead = ap₂ (λ (n : ℕ) (m : Marks). markFrom n (held d) level m 0) (all-left (limit d)) first-held;
           few = omega arith;
-          counted = e ∙ sym (ap (λ (n : ℕ). n + sumBelow 2048 (λ i. getD facts i 0)) (sum-zero (d .actions) (λ i. getD {A = ℕ} (replicate 512 0) i 0) (λ i l. zeros-entry 512 i)) ∙ zero-add (sumBelow 2048 (λ i. getD facts i 0)));
+          counted = e ∙ sym (ap (λ (n : ℕ). n + sumOf facts 2048) none-yet ∙ zero-add (sumOf facts 2048));
         }
+
+  -- there is a round left, and rounds are few
+  module _ (actions facts before threats noted named : List ℕ) (rounds count : ℕ) (w : Rounding d level actions facts before threats noted named rounds count) where
+    left : 0 < limit d - rounds
+    left = omega (arith, w .few, markCount-most (held d) (heldMarks (held d) actions facts))
+
+    pub rounds-few : rounds ≤ 2560
+    rounds-few = omega (arith, w .few, markCount-most (held d) (heldMarks (held d) actions facts), facts-few d ok, ok .actions-few)
+
+    pub rounding-less : limit d - (rounds + 1) < limit d - rounds
+    rounding-less = omega (arith, left)
 
   -- from one round to the next
   module _ (pairs actions facts before threats noted named : List ℕ) (rounds count : ℕ) (w : Rounding d level actions facts before threats noted named rounds count)
@@ -159,15 +174,6 @@ module _ (d : Arrays) (ok : Valid (held d)) (level : ℕ) where
 
     pub on : Progress d level actions′ facts′ u threats′ actions counted
     on = round-progress d ok level pairs actions facts before threats noted named (w .progress) threats′ u actions′ tracks counted facts′ r
-
-    left : 0 < limit d - rounds
-    left = omega (arith, w .few, markCount-most (held d) m)
-
-    pub rounds-few : rounds ≤ 2560
-    rounds-few = omega (arith, w .few, markCount-most (held d) m, facts-few d ok, ok .actions-few)
-
-    pub rounding-less : limit d - (rounds + 1) < limit d - rounds
-    rounding-less = omega (arith, left)
 
     not-same : (marks ≡ count → ⊥) → sameMarks m next ≡ false
     not-same differs =
@@ -192,7 +198,7 @@ module _ (d : Arrays) (ok : Valid (held d)) (level : ℕ) where
           ahead =
               ap (λ (k : Marks). markFrom (limit d - (rounds + 1)) (held d) level k (rounds + 1)) after
               ∙ ap (λ (n : ℕ). markFrom n (held d) level next (rounds + 1)) (sym fewer)
-              ∙ sym (mark-goes-on (held d) level m (limit d - rounds) rounds left changed)
+              ∙ sym (mark-goes-on (held d) level m (limit d - rounds) rounds (left actions facts before threats noted named rounds count w) changed)
               ∙ w .ahead;
           few = rw after (omega (arith, w .few, more));
           counted = sum;
@@ -206,7 +212,7 @@ module _ (d : Arrays) (ok : Valid (held d)) (level : ℕ) where
           (sym (w .counted) ∙ sym same ∙ sum)
 
       result : marking (held d) level ≡ record { marks = m; rounds = rounds + 1 }
-      result = sym (w .ahead) ∙ mark-ends (held d) level m (limit d - rounds) rounds left (sameMarks-equal m next (unchanged ∙ after))
+      result = sym (w .ahead) ∙ mark-ends (held d) level m (limit d - rounds) rounds (left actions facts before threats noted named rounds count w) (sameMarks-equal m next (unchanged ∙ after))
 
       final-marks : marking (held d) level .marks ≡ m
       final-marks = ap (λ (k : Marking). k .marks) result

@@ -2,22 +2,22 @@
 use Prim.Native.Nat.{_*_, _-_, _≤_}
 use mathlib.Core.Path.{_≡_, refl}
 use native.Mathlib.Omega.{arith}
-use lib.ListN.{getD}
 use denote.Ref.{now}
 use borrow.Author.Needs.{needs}
-use Rattle.files.specs.Below.{sumBelow}
+use Rattle.marking.specs.Dense.{sumOf}
 use Rattle.marking.proofs.SetWhere.{at-end}
 use Rattle.marking.proofs.LoopCounts.{sum-next}
 use Rattle.marking.proofs.results.sum.Statement.{statement}
 use Rattle.marking.proofs.results.sum.Tie as tie
 
 abbrev Inv-loop : tie.InvT-loop
-Inv-loop bytes count total₀ i₀ total i = (total ≡ sumBelow i (λ j. getD bytes j 0)) × (total ≤ 255 * i) × (i ≤ count)
+Inv-loop bytes count total₀ i₀ total i = (total ≡ sumOf bytes i) × (total ≤ 255 * i) × (i ≤ count)
 
 abbrev μ-loop : tie.MeasureT-loop
 μ-loop bytes count total₀ i₀ total i = count - i
 
 loop-holds : tie.Need-loop-holds Inv-loop μ-loop
+unfolding sumOf
 loop-holds c = (refl, omega arith, omega arith)
 
 shared-slice-read-total : tie.Need-shared-slice-read-total Inv-loop μ-loop
@@ -39,7 +39,7 @@ loop-again : tie.Need-loop-again Inv-loop μ-loop
 loop-again c =
     let l = c .before .before .loop in
     let bytes = now (c .before .before .before .args .bytes) in (
-      sum-next (λ j. getD bytes j 0) (l .i) (l .total) _ (l .inv .0) refl,
+      sum-next bytes (l .i) (l .total) _ (l .inv .0) refl,
       omega (arith, c .shared-slice-known .given (l .i)),
       omega arith,
     )
@@ -48,7 +48,7 @@ returns : tie.Need-returns Inv-loop μ-loop
 returns c =
     let l = c .before .loop in
     let a = c .before .before .args in
-    (at-end (λ n. l .total ≡ sumBelow n (λ j. getD (now (a .bytes)) j 0)) (l .i) (a .count) (l .inv .2) (c .loop-test .left) (l .inv .0), omega arith)
+    (at-end (λ n. l .total ≡ sumOf (now (a .bytes)) n) (l .i) (a .count) (l .inv .2) (c .loop-test .left) (l .inv .0), omega arith)
 
 pub sum-spec : {M : Type 1} → statement M
 sum-spec =

@@ -5,9 +5,9 @@ use native.Mathlib.Omega.{arith}
 use lib.ListN.{length, getD}
 use denote.Ref.{now}
 use borrow.Author.Needs.{needs}
-use Rattle.files.specs.Below.{joinBelow, sumBelow}
+use Rattle.files.specs.Below.{joinBelow}
 use Rattle.files.specs.Bytes.{placed}
-use Rattle.marking.specs.Dense.{entryMarks}
+use Rattle.marking.specs.Dense.{sumOf, entryMarks}
 use Rattle.marking.proofs.SetWhere.{at-end}
 use Rattle.marking.proofs.LoopCounts.{sum-next, sum-within}
 use Rattle.marking.proofs.ResultLaws.{facts-next}
@@ -17,7 +17,7 @@ use Rattle.marking.proofs.results.write_facts.Tie as tie
 abbrev Inv-loop : tie.InvT-loop
 Inv-loop marks₀ facts unlinked sizes variables v₀ at₀ marks v at =
     (marks ≡ placed marks₀ 0 (joinBelow v (λ w. entryMarks facts unlinked w (getD sizes w 0))))
-    × (at ≡ sumBelow v (λ w. getD sizes w 0))
+    × (at ≡ sumOf sizes v)
     × (v ≤ variables)
     × (length marks ≡ length marks₀)
 
@@ -25,7 +25,7 @@ abbrev μ-loop : tie.MeasureT-loop
 μ-loop marks₀ facts unlinked sizes variables v₀ at₀ marks v at = variables - v
 
 loop-holds : tie.Need-loop-holds Inv-loop μ-loop
-unfolding placed
+unfolding placed sumOf
 loop-holds c = (refl, refl, omega arith, refl)
 
 element-copy-out-size : tie.Need-element-copy-out-size Inv-loop μ-loop
@@ -40,13 +40,13 @@ write-values-requires c κs =
     let l = c .before .before .before .loop in
     let start = c .before .before .before .before .before in
     let more = c .before .before .loop-test .taken in
-    (omega (arith, sum-within (λ w. getD (now (start .args .sizes)) w 0) (l .v) (start .args .variables) (l .at) more (l .inv .1)), omega arith, start .pre .2 (l .v) more)
+    (omega (arith, sum-within (now (start .args .sizes)) (l .v) (start .args .variables) (l .at) more (l .inv .1)), omega arith, start .pre .2 (l .v) more)
 
 add-at : tie.Need-add-at Inv-loop μ-loop
 add-at c =
     let l = c .before .before .before .before .before .before .loop in
     let a = c .before .before .before .before .before .before .before .before .args in
-    omega (arith, sum-within (λ w. getD (now (a .sizes)) w 0) (l .v) (a .variables) (l .at) (c .before .before .before .before .before .loop-test .taken) (l .inv .1))
+    omega (arith, sum-within (now (a .sizes)) (l .v) (a .variables) (l .at) (c .before .before .before .before .before .loop-test .taken) (l .inv .1))
 
 add-v : tie.Need-add-v Inv-loop μ-loop
 add-v c = search needs
@@ -59,7 +59,7 @@ loop-again c =
     let l = c .before .before .before .before .before .before .loop in
     let sizes = now (c .before .before .before .before .before .before .before .before .args .sizes) in (
       facts-next _ _ sizes _ _ _ (l .v) (l .at) (l .inv .0) (l .inv .1) (c .before .before .write-values .ensures),
-      sum-next (λ w. getD sizes w 0) (l .v) (l .at) _ (l .inv .1) refl,
+      sum-next sizes (l .v) (l .at) _ (l .inv .1) refl,
       omega arith,
       omega arith,
     )
