@@ -1,4 +1,5 @@
--- Laws about the crate's definitions: a closed marking loses no cheapest plan; every marking ends, and ends closed.
+-- Laws about the crate's definitions: a closed marking loses no cheapest plan; every marking ends, and ends closed. Laws
+-- about the code: its tests, its loops, and its rounds.
 pub mod Computes
 pub mod Examples
 pub mod Closed
@@ -14,3 +15,19 @@ pub mod SameMarks
 pub mod MarkCount
 pub mod RoundBound
 pub mod MarkingClosed
+pub mod Truth
+pub mod RowTests
+pub mod SetWhere
+pub mod Places
+pub mod LoopCounts
+pub mod CoverSearch
+pub mod ResultLaws
+pub mod HeldTask
+pub mod Progress
+pub mod RoundLinks
+pub mod RoundActions
+pub mod RoundCovering
+pub mod RoundFacts
+pub mod RoundProgress
+pub mod RoundCount
+pub mod Rounding

@@ -17,11 +17,11 @@ use Rattle.marking.proofs.RoundLaws.{fact-names, first-marks, roundActi
 use Rattle.marking.proofs.SameMarks.{sameMarks-equal, sameMarks-says}
 
 module _ (t : Task) (level : ℕ) where
-  round-shaped : (m : Marks) → Shaped t (nextMarks t level m)
+  pub round-shaped : (m : Marks) → Shaped t (nextMarks t level m)
   round-shaped m = rw (round-marks t level m) (marksOf-shaped t (roundActions t level m) (roundFacts t level m (nextActions t level m)))
 
   -- a round adds marks and takes none away
-  round-adds : (m : Marks) → Among t m (nextMarks t level m)
+  pub round-adds : (m : Marks) → Among t m (nextMarks t level m)
   round-adds m =
       let A = roundActions t level m in
       let F = roundFacts t level m (nextActions t level m) in
@@ -31,7 +31,7 @@ module _ (t : Task) (level : ℕ) where
       }
 
   -- so it adds at least one, or the comparison passes
-  round-more : (m : Marks) → Shaped t m → sameMarks m (nextMarks t level m) ≡ false → markCount t m < markCount t (nextMarks t level m)
+  pub round-more : (m : Marks) → Shaped t m → sameMarks m (nextMarks t level m) ≡ false → markCount t m < markCount t (nextMarks t level m)
   round-more m s e =
       let next = nextMarks t level m in
       split-le (markCount t next) (markCount t m)
@@ -46,7 +46,7 @@ module _ (t : Task) (level : ℕ) where
       let place = fact-valid t 0 (t .goal) v d (w .goal) h in
       round-adds m .facts v d (place .known) (place .inside) (g v d h)
 
-  first-shaped : Shaped t (firstMarks t level)
+  pub first-shaped : Shaped t (firstMarks t level)
   first-shaped = rw (first-marks t level) (marksOf-shaped t (λ a. false) (names level (t .goal)))
 
   first-goal : Valid t → GoalRelevant (firstMarks t level)

@@ -5,7 +5,7 @@ use mathlib.Core.Bool.{Bool, true, false, not, cond, _&&_, _||_}
 use mathlib.Core.List.{List}
 use lib.Dec.{eqb, leb, ltb}
 use lib.ListN.{length, getD}
-use Rattle.files.specs.Below.{tabulate, anyBelow, bit, countBelow}
+use Rattle.files.specs.Below.{tabulate, anyBelow, bit, countBelow, sumBelow}
 use Rattle.files.specs.Task.{Task, variableCount, actionCount, sizeOf}
 use Rattle.marking.specs.Marks.{Marks, kept, actionMarks, factMarks}
 use Rattle.marking.specs.Rounds.{marking}
@@ -101,6 +101,10 @@ rowNames level row base sizes count i = anyBelow count (λ v. namesAt level v (g
 -- the facts that actions name which are counted and were not before, of the first `count`
 unfoldable pub namesAnew : ℕ → List ℕ → List ℕ → ℕ → List ℕ → List ℕ → ℕ → ℕ → Bool
 namesAnew level conditions sizes variables counted named count i = anyBelow count (λ a. differ counted named a && rowNames level conditions (64 * a) sizes variables i)
+
+-- the sum of the first `count` entries
+unfoldable pub sumOf : List ℕ → ℕ → ℕ
+sumOf entries count = sumBelow count (λ i. getD entries i 0)
 
 -- a fact's byte, from its two entries
 unfoldable pub entryMark : ℕ → ℕ → ℕ

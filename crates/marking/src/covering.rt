@@ -47,15 +47,15 @@ fn is_nested(
 
 // The row of one action in the table.
 fn nest_row(
-    pairs: &mut [u8; 262144],
+    pairs: &mut [u8],
     costs: &[u32; 512],
     conditions: &[u8; 32768],
     variables: usize,
     actions: usize,
     a: usize,
 )
-    requires { ⌜ (variables ≤ 64) × (actions ≤ 512) × (a < 512) ⌝ }
-    ensures { λ r. ⌜ ((b : ℕ) → b < actions → getD (now (pairs .exit)) (512 * a + b) 0 ≡ bit (nested (now (costs .entry)) (now (conditions .entry)) variables b a)) × ((i : ℕ) → i < 512 * a → getD (now (pairs .exit)) i 0 ≡ getD (now (pairs .entry)) i 0) ⌝ }
+    requires { ⌜ (variables ≤ 64) × (actions ≤ 512) × (a < 512) × (262144 ≤ length (now pairs)) ⌝ }
+    ensures { λ r. ⌜ (length (now (pairs .exit)) ≡ length (now (pairs .entry))) × ((b : ℕ) → b < actions → getD (now (pairs .exit)) (512 * a + b) 0 ≡ bit (nested (now (costs .entry)) (now (conditions .entry)) variables b a)) × ((i : ℕ) → i < 512 * a → getD (now (pairs .exit)) i 0 ≡ getD (now (pairs .entry)) i 0) ⌝ }
 {
     let mut b: usize = 0;
     while b < actions {
@@ -66,8 +66,8 @@ fn nest_row(
 }
 
 // The table of nested pairs, for level 4 alone.
-pub fn nest(pairs: &mut [u8; 262144], scope: Scope, costs: &[u32; 512], conditions: &[u8; 32768])
-    requires { ⌜ (scope .variables ≤ 64) × (scope .actions ≤ 512) ⌝ }
+pub fn nest(pairs: &mut [u8], scope: Scope, costs: &[u32; 512], conditions: &[u8; 32768])
+    requires { ⌜ (scope .variables ≤ 64) × (scope .actions ≤ 512) × (262144 ≤ length (now pairs)) ⌝ }
     ensures { λ r. ⌜ (scope .level ≡ 4 → (a b : ℕ) → a < scope .actions → b < scope .actions → getD (now (pairs .exit)) (512 * a + b) 0 ≡ bit (nested (now (costs .entry)) (now (conditions .entry)) (scope .variables) b a)) ⌝ }
 {
     let variables = scope.variables;
@@ -167,15 +167,16 @@ fn coverer(
     effects: &[u8; 32768],
     tracked: &[u8; 64],
     a: usize,
-    before: usize,
+    before: u16,
 ) -> usize
     requires { ⌜ (scope .variables ≤ 64) × (scope .actions ≤ 512) × (a < 512) ⌝ }
     ensures { λ r. ⌜ (ltb r (scope .actions) ≡ coveredAt (now (kept .entry)) (now (pairs .entry)) (now (effects .entry)) (now (tracked .entry)) (scope .variables) (scope .actions) a) × (r ≤ 512) ⌝ }
 {
     let variables = scope.variables;
-    if before < scope.actions {
-        if covers(kept, pairs, effects, tracked, variables, before, a) {
-            return before;
+    let first = before as usize;
+    if first < scope.actions {
+        if covers(kept, pairs, effects, tracked, variables, first, a) {
+            return first;
         }
     }
     find_coverer(scope, kept, pairs, effects, tracked, a)
@@ -204,8 +205,7 @@ fn is_counted(
     if scope.level != 4 {
         return true;
     }
-    let before = coverers[a] as usize;
-    let by = coverer(scope, kept, pairs, effects, tracked, a, before);
+    let by = coverer(scope, kept, pairs, effects, tracked, a, coverers[a]);
     coverers[a] = by as u16;
     scope.actions <= by
 }

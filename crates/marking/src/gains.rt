@@ -9,44 +9,44 @@ use crate::entries;
 use crate::rounds::Scope;
 
 // Keeps the actions that set a variable to a value.
-fn keep_setters(kept: &mut [u8; 512], effects: &[u8; 32768], v: usize, value: usize, actions: usize)
-    requires { ⌜ (v < 64) × (actions ≤ 512) ⌝ }
+fn keep_setters(kept: &mut [u8], effects: &[u8; 32768], v: usize, value: u8, actions: usize)
+    requires { ⌜ (v < 64) × (actions ≤ 512) × (512 ≤ length (now kept)) ⌝ }
     ensures { λ r. ⌜ SetWhere (sets (now (effects .entry)) v value actions) (now (kept .entry)) (now (kept .exit)) ⌝ }
 {
     let mut a: usize = 0;
     while a < actions {
-        kept[a] = entries::raised(kept[a], effects[64 * a + v] as usize == value);
+        kept[a] = entries::raised(kept[a], effects[64 * a + v] == value);
         a += 1;
     }
 }
 
 // The same for the fact at a place, where it has become unlinked.
 fn keep_anew(
-    kept: &mut [u8; 512],
+    kept: &mut [u8],
     effects: &[u8; 32768],
     place: usize,
     actions: usize,
     unlinked: u8,
     before: u8,
 )
-    requires { ⌜ (place < 2048) × (actions ≤ 512) ⌝ }
+    requires { ⌜ (place < 2048) × (actions ≤ 512) × (512 ≤ length (now kept)) ⌝ }
     ensures { λ r. ⌜ SetWhere (λ a. not (eqb unlinked before) && sets (now (effects .entry)) (place / 32) (place % 32) actions a) (now (kept .entry)) (now (kept .exit)) ⌝ }
 {
     if unlinked != before {
-        keep_setters(kept, effects, place / 32, place % 32, actions);
+        keep_setters(kept, effects, place / 32, (place % 32) as u8, actions);
     }
 }
 
 // Keeps the actions with an effect that is relevant and not linked, where those with an effect
 // that was so before are kept.
 pub fn gain_actions(
-    kept: &mut [u8; 512],
+    kept: &mut [u8],
     scope: Scope,
     effects: &[u8; 32768],
     before: &[u8; 2048],
     unlinked: &[u8; 2048],
 )
-    requires { ⌜ (scope .variables ≤ 64) × (scope .actions ≤ 512) ⌝ }
+    requires { ⌜ (scope .variables ≤ 64) × (scope .actions ≤ 512) × (512 ≤ length (now kept)) ⌝ }
     ensures { λ r. ⌜ SetWhere (achieves (now (effects .entry)) (scope .actions) (now (before .entry)) (now (unlinked .entry)) (32 * scope .variables)) (now (kept .entry)) (now (kept .exit)) ⌝ }
 {
     let actions = scope.actions;
@@ -59,8 +59,8 @@ pub fn gain_actions(
 }
 
 // Marks the first `size` values of a variable.
-fn name_values(facts: &mut [u8; 2048], v: usize, size: usize)
-    requires { ⌜ v < 64 ⌝ }
+fn name_values(facts: &mut [u8], v: usize, size: usize)
+    requires { ⌜ (v < 64) × (2048 ≤ length (now facts)) ⌝ }
     ensures { λ r. ⌜ SetWhere (λ i. eqb (i / 32) v && ltb (i % 32) size) (now (facts .entry)) (now (facts .exit)) ⌝ }
 {
     let mut d: usize = 0;
@@ -71,8 +71,8 @@ fn name_values(facts: &mut [u8; 2048], v: usize, size: usize)
 }
 
 // Marks the facts that an entry of a row names: at level 1 its variable counts whole.
-fn name_entry(facts: &mut [u8; 2048], level: u32, v: usize, entry: u8, size: u8)
-    requires { ⌜ v < 64 ⌝ }
+fn name_entry(facts: &mut [u8], level: u32, v: usize, entry: u8, size: u8)
+    requires { ⌜ (v < 64) × (2048 ≤ length (now facts)) ⌝ }
     ensures { λ r. ⌜ SetWhere (namesAt level v entry size) (now (facts .entry)) (now (facts .exit)) ⌝ }
 {
     if entry == 255 {
@@ -86,8 +86,8 @@ fn name_entry(facts: &mut [u8; 2048], level: u32, v: usize, entry: u8, size: u8)
 }
 
 // Marks the facts that the row at `base` names.
-pub fn name_row(facts: &mut [u8; 2048], scope: Scope, row: &[u8], base: usize, sizes: &[u8; 64])
-    requires { ⌜ (scope .variables ≤ 64) × (base + 64 ≤ length (now row)) ⌝ }
+pub fn name_row(facts: &mut [u8], scope: Scope, row: &[u8], base: usize, sizes: &[u8; 64])
+    requires { ⌜ (scope .variables ≤ 64) × (base + 64 ≤ length (now row)) × (2048 ≤ length (now facts)) ⌝ }
     ensures { λ r. ⌜ SetWhere (rowNames (scope .level) (now (row .entry)) base (now (sizes .entry)) (scope .variables)) (now (facts .entry)) (now (facts .exit)) ⌝ }
 {
     let level = scope.level;
@@ -100,7 +100,7 @@ pub fn name_row(facts: &mut [u8; 2048], scope: Scope, row: &[u8], base: usize, s
 
 // The same for the conditions of an action that is counted and was not before.
 fn name_anew(
-    facts: &mut [u8; 2048],
+    facts: &mut [u8],
     scope: Scope,
     conditions: &[u8; 32768],
     action: usize,
@@ -108,7 +108,7 @@ fn name_anew(
     counted: u8,
     named: u8,
 )
-    requires { ⌜ (scope .variables ≤ 64) × (action < 512) ⌝ }
+    requires { ⌜ (scope .variables ≤ 64) × (action < 512) × (2048 ≤ length (now facts)) ⌝ }
     ensures { λ r. ⌜ SetWhere (λ i. not (eqb counted named) && rowNames (scope .level) (now (conditions .entry)) (64 * action) (now (sizes .entry)) (scope .variables) i) (now (facts .entry)) (now (facts .exit)) ⌝ }
 {
     if counted != named {
@@ -119,14 +119,14 @@ fn name_anew(
 // Marks the facts that the conditions of counted actions name, where those that were counted
 // before have theirs marked.
 pub fn gain_facts(
-    facts: &mut [u8; 2048],
+    facts: &mut [u8],
     scope: Scope,
     conditions: &[u8; 32768],
     sizes: &[u8; 64],
     counted: &[u8; 512],
     named: &[u8; 512],
 )
-    requires { ⌜ (scope .variables ≤ 64) × (scope .actions ≤ 512) ⌝ }
+    requires { ⌜ (scope .variables ≤ 64) × (scope .actions ≤ 512) × (2048 ≤ length (now facts)) ⌝ }
     ensures { λ r. ⌜ SetWhere (namesAnew (scope .level) (now (conditions .entry)) (now (sizes .entry)) (scope .variables) (now (counted .entry)) (now (named .entry)) (scope .actions)) (now (facts .entry)) (now (facts .exit)) ⌝ }
 {
     let mut a: usize = 0;

@@ -11,13 +11,13 @@ use crate::rounds::Scope;
 
 // Marks the variables that the effects at `base` set to other values than their start values.
 fn threaten(
-    threats: &mut [u8; 64],
+    threats: &mut [u8],
     effects: &[u8; 32768],
     base: usize,
     starts: &[u8; 64],
     variables: usize,
 )
-    requires { ⌜ (variables ≤ 64) × (base + 64 ≤ 32768) ⌝ }
+    requires { ⌜ (variables ≤ 64) × (base + 64 ≤ 32768) × (64 ≤ length (now threats)) ⌝ }
     ensures { λ r. ⌜ SetWhere (threatens (now (effects .entry)) base (now (starts .entry)) variables) (now (threats .entry)) (now (threats .exit)) ⌝ }
 {
     let mut v: usize = 0;
@@ -30,7 +30,7 @@ fn threaten(
 
 // The same for an action that is kept and was not looked at before.
 fn threaten_anew(
-    threats: &mut [u8; 64],
+    threats: &mut [u8],
     effects: &[u8; 32768],
     action: usize,
     starts: &[u8; 64],
@@ -38,7 +38,7 @@ fn threaten_anew(
     kept: u8,
     noted: u8,
 )
-    requires { ⌜ (variables ≤ 64) × (action < 512) ⌝ }
+    requires { ⌜ (variables ≤ 64) × (action < 512) × (64 ≤ length (now threats)) ⌝ }
     ensures { λ r. ⌜ SetWhere (λ v. not (eqb kept noted) && threatens (now (effects .entry)) (64 * action) (now (starts .entry)) variables v) (now (threats .entry)) (now (threats .exit)) ⌝ }
 {
     if kept != noted {
@@ -48,14 +48,14 @@ fn threaten_anew(
 
 // Marks the variables that kept actions threaten, where those that were looked at before are marked.
 pub fn threatened(
-    threats: &mut [u8; 64],
+    threats: &mut [u8],
     scope: Scope,
     kept: &[u8; 512],
     noted: &[u8; 512],
     effects: &[u8; 32768],
     starts: &[u8; 64],
 )
-    requires { ⌜ (scope .variables ≤ 64) × (scope .actions ≤ 512) ⌝ }
+    requires { ⌜ (scope .variables ≤ 64) × (scope .actions ≤ 512) × (64 ≤ length (now threats)) ⌝ }
     ensures { λ r. ⌜ SetWhere (threatensAnew (now (effects .entry)) (now (starts .entry)) (scope .variables) (now (kept .entry)) (now (noted .entry)) (scope .actions)) (now (threats .entry)) (now (threats .exit)) ⌝ }
 {
     let variables = scope.variables;

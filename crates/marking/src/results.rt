@@ -2,14 +2,14 @@
 ghost use mathlib.Core.Path.{_≡_};
 ghost use Prim.Native.Nat.{ℕ, _+_, _*_, _≤_, _<_};
 ghost use lib.ListN.{length, getD};
-ghost use Rattle.files.specs.Below.{tabulate, joinBelow, sumBelow};
+ghost use Rattle.files.specs.Below.{tabulate, joinBelow};
 ghost use Rattle.files.specs.Bytes.{placed};
-ghost use Rattle.marking.specs.Dense.{entryMark, entryMarks};
+ghost use Rattle.marking.specs.Dense.{sumOf, entryMark, entryMarks};
 
 // The sum of the first `count` bytes.
 pub fn sum(bytes: &[u8], count: usize) -> usize
     requires { ⌜ (count ≤ length (now bytes)) × (count ≤ 4096) ⌝ }
-    ensures { λ r. ⌜ (r ≡ sumBelow count (λ i. getD (now (bytes .entry)) i 0)) × (r ≤ 255 * count) ⌝ }
+    ensures { λ r. ⌜ (r ≡ sumOf (now (bytes .entry)) count) × (r ≤ 255 * count) ⌝ }
 {
     let mut total: usize = 0;
     let mut i: usize = 0;
@@ -75,7 +75,7 @@ pub fn write_facts(
     sizes: &[u8; 64],
     variables: usize,
 )
-    requires { ⌜ (variables ≤ 64) × (sumBelow variables (λ v. getD (now sizes) v 0) ≤ length (now marks)) × ((v : ℕ) → v < variables → getD (now sizes) v 0 ≤ 32) ⌝ }
+    requires { ⌜ (variables ≤ 64) × (sumOf (now sizes) variables ≤ length (now marks)) × ((v : ℕ) → v < variables → getD (now sizes) v 0 ≤ 32) ⌝ }
     ensures { λ r. ⌜ now (marks .exit) ≡ placed (now (marks .entry)) 0 (joinBelow variables (λ v. entryMarks (now (facts .entry)) (now (unlinked .entry)) v (getD (now (sizes .entry)) v 0))) ⌝ }
 {
     let mut v: usize = 0;

@@ -1,0 +1,157 @@
+-- What covers what, by the entries of the arrays and the table of nested pairs; and the actions whose conditions count.
+use Prim.Native.Nat.{ℕ, _+_, _*_, _≤_, _<_}
+use mathlib.Core.Path.{_≡_, refl, sym, ap, ap₂, _∙_}
+use mathlib.Core.Bool.{Bool, true, false, not, cond, _&&_, _||_}
+use mathlib.Core.List.{List}
+use mathlib.Core.Option.{Option, none, some}
+use native.Mathlib.Omega.{arith}
+use lib.Dec.{eqb}
+use lib.ListN.{length, getD}
+use borrow.Author.Tests.{eqb-true, eqb-false, eq-eqb, ne-eqb}
+use Rattle.files.specs.Below.{anyBelow, allBelow, bit, anyOf}
+use Rattle.files.specs.Dense.{Arrays, rowPairs, held}
+use Rattle.files.specs.Task.{Pair, Action, actionOf, actionCount, variableCount, valueIn}
+use Rattle.files.proofs.Logic.{clash, split}
+use Rattle.files.proofs.RowValues.{entryValue, rowPairs-value}
+use Rattle.files.proofs.Tabulate.{tabulate-entry}
+use Rattle.plans.specs.State.{hasFact}
+use Rattle.marking.specs.Marks.{Marks, kept}
+use Rattle.marking.specs.Links.{tracked}
+use Rattle.marking.specs.Covering.{sameEffect, within, covers, covered}
+use Rattle.marking.specs.Rounds.{marked, nextActions, trackedMarks, countedActions}
+use Rattle.marking.specs.Dense.{isMarked, otherThan, missing, nested, unlike, trackedAt, coversAt, coveredAt, countedAt}
+use Rattle.marking.proofs.HeldTask.{variables-held, actions-held, cost-held, conditions-held, effectAt, effects-held}
+use Rattle.marking.proofs.RoundLaws.{trackedMarks-at}
+use Rattle.marking.proofs.RowTests.{any-row, row-fact}
+use Rattle.marking.proofs.Truth.{any-same, all-any, all-of-any, count-none, bit-marked}
+
+eqb-swap : (x y : ℕ) → eqb x y ≡ eqb y x
+eqb-swap x y = split (eqb x y) (λ e. e ∙ sym (eq-eqb y x (sym (eqb-true x y e)))) (λ e. e ∙ sym (ne-eqb y x (λ q. eqb-false x y e (sym q))))
+
+-- an entry that is there stands in the other row where the other has the same entry
+lacking : (x y : ℕ) → not (eqb x 255) && not (not (eqb y 255) && eqb y x) ≡ not (eqb x 255) && not (eqb x y)
+lacking x y =
+    split (eqb x 255)
+    (λ e. rw e refl)
+    (λ e.
+    split (eqb x y)
+    (λ q.
+    let is : x ≡ y = eqb-true x y q in
+    let there : eqb y 255 ≡ false = ap (λ (n : ℕ). eqb n 255) (sym is) ∙ e in
+    let back : eqb y x ≡ true = eq-eqb y x (sym is) in
+    rw (there, back, q) refl)
+    (λ q.
+    let back : eqb y x ≡ false = eqb-swap y x ∙ q in
+    rw (back, q) (both-false (not (eqb y 255)) (not (eqb x 255)))))
+  where
+    both-false : (b c : Bool) → c && not (b && false) ≡ c && true
+    both-false true c = refl
+    both-false false c = refl
+
+-- effects by their entries
+same-entries : (x y : ℕ) → sameEffect (entryValue x) (entryValue y) ≡ eqb x y
+same-entries x y =
+    split (eqb x 255)
+    (λ e.
+    split (eqb y 255)
+    (λ q. rw (e, q) (sym (eq-eqb x y (eqb-true x 255 e ∙ sym (eqb-true y 255 q)))))
+    (λ q. rw (e, q) (sym (ne-eqb x y (λ z. eqb-false y 255 q (sym z ∙ eqb-true x 255 e))))))
+    (λ e.
+    split (eqb y 255)
+    (λ q. rw (e, q) (sym (ne-eqb x y (λ z. eqb-false x 255 e (z ∙ eqb-true y 255 q)))))
+    (λ q. rw (e, q) refl))
+
+module _ (d : Arrays) where
+  within-held : (b a : ℕ) → b < d .actions → a < d .actions → within (actionOf (held d) b .conditions) (actionOf (held d) a .conditions) ≡ eqb (missing (d .conditions) (64 * b) (64 * a) (d .variables)) 0
+  unfolding within missing otherThan
+  within-held b a l k =
+      let others : List Pair = rowPairs (d .conditions) (64 * a) 0 (d .variables) in
+      ap₂ within (conditions-held d b l) (conditions-held d a k)
+      ∙ all-of-any (λ c. hasFact others (c .variable) (c .value)) (rowPairs (d .conditions) (64 * b) 0 (d .variables))
+      ∙ ap not
+      (any-row (d .conditions) (64 * b) (λ v x. not (hasFact others v x)) (d .variables)
+      ∙ any-same (d .variables)
+      (λ v. not (eqb (getD (d .conditions) (64 * b + v) 0) 255) && not (hasFact others v (getD (d .conditions) (64 * b + v) 0)))
+      (λ v. otherThan (getD (d .conditions) (64 * b + v) 0) (getD (d .conditions) (64 * a + v) 0))
+      (λ v h.
+      ap (λ (t : Bool). not (eqb (getD (d .conditions) (64 * b + v) 0) 255) && not t) (row-fact (d .conditions) (64 * a) (d .variables) v h (getD (d .conditions) (64 * b + v) 0))
+      ∙ lacking (getD (d .conditions) (64 * b + v) 0) (getD (d .conditions) (64 * a + v) 0)))
+      ∙ sym (count-none (d .variables) (λ v. otherThan (getD (d .conditions) (64 * b + v) 0) (getD (d .conditions) (64 * a + v) 0)))
+
+  nested-held : (b a : ℕ) → b < d .actions → a < d .actions → nested (d .costs) (d .conditions) (d .variables) b a ≡ eqb (actionOf (held d) b .cost) (actionOf (held d) a .cost) && (within (actionOf (held d) b .conditions) (actionOf (held d) a .conditions) && not (within (actionOf (held d) a .conditions) (actionOf (held d) b .conditions)))
+  unfolding nested
+  nested-held b a l k =
+      ap₂ (λ (c w : Bool). c && w)
+      (ap₂ eqb (sym (cost-held d b l)) (sym (cost-held d a k)))
+      (ap₂ (λ (w x : Bool). w && not x) (sym (within-held b a l k)) (sym (within-held a b k l)))
+
+  effect-held : (a v : ℕ) → a < d .actions → v < d .variables → valueIn (actionOf (held d) a .effects) v ≡ entryValue (effectAt d a v)
+  effect-held a v l h = ap (λ (ps : List Pair). valueIn ps v) (effects-held d a l) ∙ rowPairs-value (d .effects) (64 * a) 0 (d .variables) v (omega arith) (omega arith)
+
+  module _ (T : ℕ → Bool) (tracks : List ℕ) (track : (v : ℕ) → v < d .variables → isMarked tracks v ≡ T v) where
+    same-held : (b a : ℕ) → b < d .actions → a < d .actions → allBelow (variableCount (held d)) (λ v. not (T v) || sameEffect (valueIn (actionOf (held d) b .effects) v) (valueIn (actionOf (held d) a .effects) v)) ≡ eqb (unlike (d .effects) tracks (64 * b) (64 * a) (d .variables)) 0
+    unfolding unlike
+    same-held b a l k =
+        let same : ℕ → Bool = λ v. not (T v) || sameEffect (valueIn (actionOf (held d) b .effects) v) (valueIn (actionOf (held d) a .effects) v) in
+        ap (λ (n : ℕ). allBelow n same) (variables-held d)
+        ∙ all-any (d .variables) same
+        ∙ ap not
+        (any-same (d .variables) (λ v. not (same v)) (λ v. isMarked tracks v && not (eqb (effectAt d b v) (effectAt d a v)))
+        (λ v h.
+        ap (λ (t : Bool). not (not (T v) || t)) (ap₂ sameEffect (effect-held b v l h) (effect-held a v k h) ∙ same-entries (effectAt d b v) (effectAt d a v))
+        ∙ negated (T v) (eqb (effectAt d b v) (effectAt d a v))
+        ∙ ap (λ (t : Bool). t && not (eqb (effectAt d b v) (effectAt d a v))) (sym (track v h))))
+        ∙ sym (count-none (d .variables) (λ v. isMarked tracks v && not (eqb (effectAt d b v) (effectAt d a v))))
+      where
+        negated : (t s : Bool) → not (not t || s) ≡ t && not s
+        negated true s = refl
+        negated false s = refl
+
+    module _ (A : ℕ → Bool) (actions pairs : List ℕ) (action : (a : ℕ) → a < d .actions → isMarked actions a ≡ A a) (table : (a b : ℕ) → a < d .actions → b < d .actions → getD pairs (512 * a + b) 0 ≡ bit (nested (d .costs) (d .conditions) (d .variables) b a)) where
+      covers-held : (b a : ℕ) → b < d .actions → a < d .actions → coversAt actions pairs (d .effects) tracks (d .variables) b a ≡ A b && covers (held d) T (actionOf (held d) b) (actionOf (held d) a)
+      unfolding coversAt covers
+      covers-held b a l k =
+          ap₂ (λ (x y : Bool). x && y) (action b l)
+          (ap₂ (λ (x y : Bool). x && y)
+          (ap (λ (n : ℕ). eqb n 1) (table a b k l) ∙ bit-marked (nested (d .costs) (d .conditions) (d .variables) b a) ∙ nested-held b a l k)
+          (sym (same-held b a l k))
+          ∙ reorder
+          (eqb (actionOf (held d) b .cost) (actionOf (held d) a .cost))
+          (within (actionOf (held d) b .conditions) (actionOf (held d) a .conditions) && not (within (actionOf (held d) a .conditions) (actionOf (held d) b .conditions)))
+          (allBelow (variableCount (held d)) (λ v. not (T v) || sameEffect (valueIn (actionOf (held d) b .effects) v) (valueIn (actionOf (held d) a .effects) v))))
+        where
+          reorder : (c n s : Bool) → (c && n) && s ≡ c && (s && n)
+          reorder false n s = refl
+          reorder true true true = refl
+          reorder true true false = refl
+          reorder true false true = refl
+          reorder true false false = refl
+
+      pub covered-held : (a : ℕ) → a < d .actions → coveredAt actions pairs (d .effects) tracks (d .variables) (d .actions) a ≡ covered (held d) T A a
+      unfolding coveredAt covered
+      covered-held a k =
+          any-same (d .actions) (λ b. coversAt actions pairs (d .effects) tracks (d .variables) b a) (λ b. A b && covers (held d) T (actionOf (held d) b) (actionOf (held d) a)) (λ b l. covers-held b a l k)
+          ∙ sym (ap (λ (n : ℕ). anyBelow n (λ b. A b && covers (held d) T (actionOf (held d) b) (actionOf (held d) a))) (actions-held d))
+
+-- the actions whose conditions count in a round
+module _ (d : Arrays) (level : ℕ) (m : Marks) (actions pairs tracks : List ℕ)
+    (action : (a : ℕ) → a < d .actions → isMarked actions a ≡ marked (nextActions (held d) level m) a)
+    (track : (v : ℕ) → v < d .variables → isMarked tracks v ≡ tracked (held d) level m v)
+    (table : level ≡ 4 → (a b : ℕ) → a < d .actions → b < d .actions → getD pairs (512 * a + b) 0 ≡ bit (nested (d .costs) (d .conditions) (d .variables) b a)) where
+  abbrev pub counts : ℕ → Bool
+  counts a = marked (countedActions (held d) level (trackedMarks (held d) level m) (nextActions (held d) level m)) a
+
+  covering : (a : ℕ) → a < d .actions → eqb level 4 && coveredAt actions pairs (d .effects) tracks (d .variables) (d .actions) a ≡ eqb level 4 && covered (held d) (marked (trackedMarks (held d) level m)) (marked (nextActions (held d) level m)) a
+  covering a l =
+      split (eqb level 4)
+      (λ e.
+      ap (λ (t : Bool). eqb level 4 && t)
+      (covered-held d (marked (trackedMarks (held d) level m)) tracks (λ v h. track v h ∙ sym (trackedMarks-at (held d) level m v (omega (arith, variables-held d)))) (marked (nextActions (held d) level m)) actions pairs action (table (eqb-true level 4 e)) a l))
+      (λ e. rw e refl)
+
+  pub counted-now : (named : List ℕ) (a : ℕ) → a < d .actions → countedAt level actions named (coveredAt actions pairs (d .effects) tracks (d .variables) (d .actions) a) a ≡ isMarked named a || counts a
+  unfolding countedAt countedActions
+  counted-now named a l =
+      ap (λ (t : Bool). isMarked named a || t)
+      (ap₂ (λ (x y : Bool). x && not y) (action a l) (covering a l)
+      ∙ sym (tabulate-entry (λ b. marked (nextActions (held d) level m) b && not (eqb level 4 && covered (held d) (marked (trackedMarks (held d) level m)) (marked (nextActions (held d) level m)) b)) (actionCount (held d)) a false (omega (arith, actions-held d))))

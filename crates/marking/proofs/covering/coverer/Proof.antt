@@ -1,0 +1,23 @@
+-- What covered before is tried first, and else the search.
+use mathlib.Core.Path.{sym, _∙_}
+use native.Mathlib.Omega.{arith}
+use borrow.Author.Needs.{needs}
+use Rattle.marking.proofs.CoverSearch.{covered-found}
+use Rattle.marking.proofs.covering.coverer.Statement.{statement}
+use Rattle.marking.proofs.covering.coverer.Tie as tie
+
+covers-requires : tie.Need-covers-requires
+covers-requires c κs = search needs
+
+returns : tie.Need-returns
+returns c =
+    (covered-found _ _ _ _ _ _ _ _ (c .before .before .if1 .taken) (sym (c .before .covers .ensures) ∙ c .if2 .taken), omega arith)
+
+find-coverer-requires : tie.Need-find-coverer-requires
+find-coverer-requires c κs = search needs
+
+returns-2 : tie.Need-returns-2
+returns-2 c = search needs
+
+pub coverer-spec : {M : Type 1} → statement M
+coverer-spec = tie.close (tie.spec covers-requires returns find-coverer-requires returns-2)
