@@ -4,7 +4,7 @@ ghost use lib.ListN.{length};
 use crate::layout;
 use crate::marks;
 
-// The numbers of an answer.
+// Both lengths and the number of rounds.
 pub struct Numbers {
     pub actions: usize,
     pub facts: usize,

@@ -3,13 +3,14 @@ ghost use Prim.Native.Nat.{_+_, _≤_};
 use crate::layout;
 use crate::random;
 
+// One of two numbers.
 fn choose(first: bool, one: usize, other: usize) -> usize
     ensures { λ r. ⌜ r ≤ one + other ⌝ }
 {
     if first { one } else { other }
 }
 
-// The task of a number.
+// The task of a number. Its goal is much like the effects of one of its actions.
 pub fn task(number: usize, state: &mut u64) -> [u8; 416] {
     let mut task = [255u8; 416];
     let chained = put_counts(number, state, &mut task);
@@ -54,7 +55,7 @@ fn put_variables(state: &mut u64, task: &mut [u8; 416], variables: usize, chaine
     }
 }
 
-// A chain: each action sets the fact that the action before it asks.
+// A chain: each action sets the fact that is the condition of the action before it.
 fn put_chain(task: &mut [u8; 416], variables: usize, length: usize) {
     let mut action: usize = 0;
     while action < length {
@@ -91,8 +92,8 @@ fn put_actions(state: &mut u64, task: &mut [u8; 416], from: usize, to: usize) {
     }
 }
 
-// An action that is a variation of an earlier one, often of its cost, or else one whose conditions
-// are much like the effects of an earlier one.
+// An action: a variation of an earlier one, mostly of the same cost, or else one with new effects
+// whose conditions are much like the effects of an earlier one.
 fn put_action(state: &mut u64, task: &mut [u8; 416], action: usize) {
     let earlier = random::below(state, action);
     let varies = random::below(state, choose(action == 0, 0, 4)) != 0;
@@ -109,7 +110,7 @@ fn put_action(state: &mut u64, task: &mut [u8; 416], action: usize) {
     layout::put(task, layout::row_of(layout::COSTS, action), 0, cost);
 }
 
-// A row of pairs that is a variation of the row `from`.
+// A row of pairs: a variation of the row `from`, with `keep` chances in 16 for each value.
 fn put_row(state: &mut u64, task: &mut [u8; 416], from: usize, to: usize, keep: usize) {
     let variables = layout::variables(task);
     let mut variable: usize = 0;
@@ -120,7 +121,8 @@ fn put_row(state: &mut u64, task: &mut [u8; 416], from: usize, to: usize, keep: 
     }
 }
 
-// With `keep` chances in 16 a value of a row, or else no value, the start value or a random one.
+// With `keep` chances in 16 what a row has for a variable, else no value, the start value or a
+// random value.
 fn varied(state: &mut u64, task: &[u8; 416], row: usize, variable: usize, keep: usize) -> usize {
     let chance = random::below(state, 16);
     let value = random::below(state, layout::get(task, layout::SIZES, variable));

@@ -32,6 +32,7 @@ pub fn wide(byte: u8) -> usize
     byte as usize
 }
 
+// The byte in a row and a column, 255 where there is no such place.
 pub fn get(task: &[u8; 416], row: usize, column: usize) -> usize {
     if NO_ROW <= row {
         return NONE;
@@ -42,6 +43,7 @@ pub fn get(task: &[u8; 416], row: usize, column: usize) -> usize {
     wide(task[row * 8 + column])
 }
 
+// Stores a byte, where there is such a place.
 pub fn put(task: &mut [u8; 416], row: usize, column: usize, value: usize) {
     if row < NO_ROW {
         if column < 8 {
@@ -50,7 +52,7 @@ pub fn put(task: &mut [u8; 416], row: usize, column: usize, value: usize) {
     }
 }
 
-// The row of an action, where those of all actions begin at `first`.
+// The row of an action, where those of all actions begin at the row `first`; 52 where it has none.
 pub fn row_of(first: usize, action: usize) -> usize {
     if 16 <= action {
         return NO_ROW;
@@ -77,7 +79,7 @@ pub fn effect(task: &[u8; 416], action: usize, variable: usize) -> usize {
     get(task, row_of(EFFECTS, action), variable)
 }
 
-// The cost of an action. Two of the costs end in the same byte as another, or in the same two.
+// The cost of an action. The last byte of 257 and the last two bytes of 65537 are those of 1.
 pub fn cost(task: &[u8; 416], action: usize) -> usize {
     let number = get(task, row_of(COSTS, action), 0);
     match number {
