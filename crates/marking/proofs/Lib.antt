@@ -31,3 +31,4 @@ pub mod RoundFacts
 pub mod RoundProgress
 pub mod RoundCount
 pub mod Rounding
+pub mod MarkLaws

@@ -20,7 +20,7 @@ tabulate-inside : (f : ℕ → Bool) (n i : ℕ) → getD (tabulate n f) i false
 tabulate-inside f n i e = split-le n i (λ past. clash e (tabulate-past f n i false past)) (λ below. below)
 
 -- the same entries make the same list
-tabulate-same : {A : Type 0} (f g : ℕ → A) (n : ℕ) (d : A) → ((i : ℕ) → i < n → f i ≡ g i) → tabulate n f ≡ tabulate n g
+pub tabulate-same : {A : Type 0} (f g : ℕ → A) (n : ℕ) (d : A) → ((i : ℕ) → i < n → f i ≡ g i) → tabulate n f ≡ tabulate n g
 tabulate-same f g n d h = tabulate-is f n (tabulate n g) d (tabulateFrom-length g 0 n) (λ i l. h i l ∙ sym (tabulate-entry g n i d l))
 
 module _ (t : Task) where

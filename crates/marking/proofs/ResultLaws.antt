@@ -27,7 +27,7 @@ unfolding entryMarks
 row-length facts unlinked v size =
     tabulateFrom-length (λ d. entryMark (getD facts (32 * v + d) 0) (getD unlinked (32 * v + d) 0)) 0 size
 
-joined-length : (f : ℕ → List ℕ) (sizes : ℕ → ℕ) (n : ℕ) → ((v : ℕ) → length (f v) ≡ sizes v) → length (joinBelow n f) ≡ sumBelow n sizes
+pub joined-length : (f : ℕ → List ℕ) (sizes : ℕ → ℕ) (n : ℕ) → ((v : ℕ) → length (f v) ≡ sizes v) → length (joinBelow n f) ≡ sumBelow n sizes
 joined-length f sizes zero h = refl
 joined-length f sizes (suc n) h = length-append (joinBelow n f) (f n) ∙ omega (arith, joined-length f sizes n h, h n)
 

@@ -27,7 +27,7 @@ set-more test old new i s h small = omega (arith, s .entry i h, larger (test i) 
     larger false n k = omega arith
 
 -- the same entries have the same sum
-sum-alike : (n : ℕ) (f g : ℕ → ℕ) → ((i : ℕ) → i < n → f i ≡ g i) → sumBelow n f ≡ sumBelow n g
+pub sum-alike : (n : ℕ) (f g : ℕ → ℕ) → ((i : ℕ) → i < n → f i ≡ g i) → sumBelow n f ≡ sumBelow n g
 sum-alike zero f g h = refl
 sum-alike (suc n) f g h = ap₂ _+_ (h n (omega arith)) (sum-alike n f g (λ i l. h i (omega arith)))
 

@@ -44,7 +44,7 @@ pub fn mark(task: &[u8], level: u32, actions: &mut [u8], facts: &mut [u8]) -> Ma
     if read.number != 0 {
         return rounds::refused(read);
     }
-    if level < 1 || 4 < level {
+    if !rounds::valid_level(level) {
         return rounds::refused(outcomes::refuse(8, 0));
     }
     let scope = rounds::Scope {

@@ -6,7 +6,7 @@ ghost use Rattle.files.specs.Accepted.{acceptedTask};
 ghost use Rattle.files.specs.Dense.{held, arrays};
 ghost use Rattle.files.specs.Outcome.{after};
 ghost use Rattle.marking.specs.Dense.{Final};
-ghost use Rattle.marking.specs.Mark.{actionMarksOf, factMarksOf, marksFit, markAnswer, noMarks};
+ghost use Rattle.marking.specs.Mark.{actionMarksOf, factMarksOf, validLevel, marksFit, markAnswer, noMarks};
 use crate::Marked;
 use crate::covering;
 use crate::gains;
@@ -87,6 +87,16 @@ fn run(
         }
         count = marks;
     }
+}
+
+// Whether a level is one of 1 to 4.
+pub fn valid_level(level: u32) -> bool
+    ensures { λ r. ⌜ r ≡ validLevel level ⌝ }
+{
+    if level < 1 {
+        return false;
+    }
+    level <= 4
 }
 
 // Beside a refusal there are no lengths and no rounds.

@@ -1,62 +1,112 @@
+-- The file, the level and the room give the outcome in this order; the arrays hold the file's task.
+use mathlib.Core.Path.{_≡_, sym, ap, _∙_}
+use native.Mathlib.Omega.{arith}
+use denote.Ref.{now}
+use borrow.Author.Tests.{not-true, not-false}
+use Rattle.files.specs.declared.Outcome.{Outcome}
+use Rattle.files.specs.Accepted.{acceptedTask}
+use Rattle.files.specs.Bytes.{Octets}
+use Rattle.files.specs.TaskFile.{checkTask}
+use Rattle.files.proofs.TaskChecked.{task-accepted}
+use Rattle.marking.specs.Mark.{actionMarksOf, factMarksOf, mark, markedActions, markedFacts}
+use Rattle.marking.proofs.MarkLaws.{answer-refused, refusal-number, outcome-file, outcome-level, marks-answer, marks-buffer, held-by, stage-untouched}
 use borrow.Author.Needs.{needs}
 use Rattle.marking.proofs.mark.Statement.{statement}
 use Rattle.marking.proofs.mark.Tie as tie
-use Rattle.marking.proofs.mark.Reads as reads
-use Rattle.marking.proofs.mark.Lts as lts
-use Rattle.files.proofs.decode.read_task.Reads as read-task-reads
-use Rattle.files.proofs.outcomes.refuse.Reads as refuse-reads
-use Rattle.files.proofs.task.actions_in.Reads as actions-in-reads
-use Rattle.files.proofs.task.variables_in.Reads as variables-in-reads
-use Rattle.marking.proofs.rounds.mark_task.Reads as mark-task-reads
-use Rattle.marking.proofs.rounds.refused.Reads as refused-reads
 
--- src/lib.rt:35:9
+abbrev to-start : tie.After-read-task → tie.Start
+to-start c = c .before .before .before .before .before .before .before .before .before .before
+
+abbrev to-read : tie.After-valid-level → tie.After-read-task
+to-read c = c .before .before .before
+
 read-task-requires : tie.Need-read-task-requires
 read-task-requires c κs = search needs
 
--- src/lib.rt:45:9
 refused-requires : tie.Need-refused-requires
 refused-requires c κs = search needs
 
--- src/lib.rt:45:9
 returns : tie.Need-returns
-returns c = ?
+unfolding mark markedActions markedFacts
+returns c =
+    let d = c .before .before .before in
+    let refused = c .before .if1 .taken in
+    let read = d .read-task .ensures .0 in (
+      answer-refused _ _ refused (c .refused .ensures) _ _ _ (outcome-file _ _ _ _ _ read refused),
+      (
+        stage-untouched _ _ _ _ (outcome-file _ _ _ _ _ read refused) refused,
+        stage-untouched _ _ _ _ (outcome-file _ _ _ _ _ read refused) refused,
+      ),
+    )
 
--- src/lib.rt:48:32
+valid-level-requires : tie.Need-valid-level-requires
+valid-level-requires c κs = search needs
+
 refuse-requires : tie.Need-refuse-requires
 refuse-requires c κs = search needs
 
--- src/lib.rt:48:9
 refused-requires-2 : tie.Need-refused-requires-2
 refused-requires-2 c κs = search needs
 
--- src/lib.rt:48:9
 returns-2 : tie.Need-returns-2
-returns-2 c = ?
+unfolding mark markedActions markedFacts
+returns-2 c =
+    let v = c .before .before .before in
+    let d = to-read v in
+    let read = d .read-task .ensures .0 in
+    let passes = v .before .if1 .left in
+    let refused = refusal-number _ 8 _ (omega arith) (c .before .refuse .ensures) in
+    let invalid = sym (v .valid-level .ensures) ∙ not-true _ (c .before .before .if2 .taken) in (
+      answer-refused _ _ refused (c .refused2 .ensures) _ _ _ (outcome-level _ _ _ _ _ read passes _ invalid (c .before .refuse .ensures)),
+      (
+        stage-untouched _ _ _ _ (outcome-level _ _ _ _ _ read passes _ invalid (c .before .refuse .ensures)) refused,
+        stage-untouched _ _ _ _ (outcome-level _ _ _ _ _ read passes _ invalid (c .before .refuse .ensures)) refused,
+      ),
+    )
 
--- src/lib.rt:52:20
 variables-in-requires : tie.Need-variables-in-requires
 variables-in-requires c κs = search needs
 
--- src/lib.rt:53:18
 actions-in-requires : tie.Need-actions-in-requires
 actions-in-requires c κs = search needs
 
--- src/lib.rt:55:5
-mark-task-requires : tie.Need-mark-task-requires
-mark-task-requires c κs = ?
+abbrev to-level : tie.After-actions-in → tie.After-valid-level
+to-level c = c .before .before .before
 
--- src/lib.rt:24:1
+mark-task-requires : tie.Need-mark-task-requires
+mark-task-requires c κs =
+    let a = c .before .before .before .before .before .before .before .before in
+    let d = to-read (to-level a) in
+    let s = to-start d in
+    let file = now (s .args .task) in
+    let passes = to-level a .before .if1 .left in
+    let octets : Octets file = λ i. omega (arith, d .before .before .before .before .before .before .before .before .before .shared-slice-known .given i) in
+    let checked : checkTask file .number ≡ 0 = ap (λ (o : Outcome). o .number) (sym (d .read-task .ensures .0)) ∙ passes in
+    ap acceptedTask (held-by _ _ _ _ _ _ _ _ _ _ _ (a .before .variables-in .ensures .0) (a .actions-in .ensures .0) (d .read-task .ensures .1 passes)) ∙ task-accepted file octets checked
+
 same-length : tie.Need-same-length
 same-length c = search needs
 
--- src/lib.rt:24:1
 same-length-2 : tie.Need-same-length-2
 same-length-2 c = search needs
 
--- src/lib.rt:24:1
 returns-3 : tie.Need-returns-3
-returns-3 c = ?
+unfolding mark markedActions markedFacts
+returns-3 c =
+    let k = c .before .before .before .before in
+    let a = k .before .before .before .before .before .before .before .before .before in
+    let v = to-level a in
+    let d = to-read v in
+    let read = d .read-task .ensures .0 in
+    let passes = v .before .if1 .left in
+    let level = sym (v .valid-level .ensures) ∙ not-false _ (a .before .before .if2 .left) in
+    let is = held-by _ _ _ _ _ _ _ _ _ _ _ (a .before .variables-in .ensures .0) (a .actions-in .ensures .0) (d .read-task .ensures .1 passes) in (
+      marks-answer _ _ _ _ _ read passes level _ is _ (k .mark-task .ensures .0),
+      (
+        marks-buffer _ _ _ _ _ read passes level _ is _ (k .mark-task .ensures .0) actionMarksOf _ _ (k .mark-task .ensures .1 .0),
+        marks-buffer _ _ _ _ _ read passes level _ is _ (k .mark-task .ensures .0) factMarksOf _ _ (k .mark-task .ensures .1 .1),
+      ),
+    )
 
 pub mark-spec : {M : Type 1} → statement M
 mark-spec =
@@ -65,6 +115,7 @@ mark-spec =
     read-task-requires
     refused-requires
     returns
+    valid-level-requires
     refuse-requires
     refused-requires-2
     returns-2

@@ -1,71 +1,125 @@
+-- Refused where a buffer is too short; else the marks of the last round are written.
+use Prim.Native.Nat.{ℕ, _≤_}
+use mathlib.Core.Path.{_≡_, sym, ap, _∙_}
+use native.Mathlib.Omega.{arith}
+use denote.Ref.{now}
+use lib.ListN.{length, getD}
+use Rattle.files.specs.declared.Outcome.{Outcome}
+use Rattle.files.specs.Dense.{Arrays, held, arrays}
+use Rattle.files.specs.Task.{actionCount, factCount}
+use Rattle.files.proofs.Valid.{Valid, task-valid}
+use Rattle.marking.proofs.HeldTask.{variables-held, actions-held, size-held}
+use Rattle.marking.proofs.MarkLaws.{answer-refused, buffer-untouched, answer-done, refusal-number, actions-short, facts-short, both-fit, facts-held, action-bytes, fact-bytes, actions-written, facts-written}
 use borrow.Author.Needs.{needs}
 use Rattle.marking.proofs.rounds.mark_task.Statement.{statement}
 use Rattle.marking.proofs.rounds.mark_task.Tie as tie
-use Rattle.marking.proofs.rounds.mark_task.Reads as reads
-use Rattle.marking.proofs.rounds.mark_task.Lts as lts
-use Rattle.files.proofs.outcomes.done.Reads as done-reads
-use Rattle.files.proofs.outcomes.refuse.Reads as refuse-reads
-use Rattle.marking.proofs.results.sum.Reads as sum-reads
-use Rattle.marking.proofs.results.write_actions.Reads as write-actions-reads
-use Rattle.marking.proofs.results.write_facts.Reads as write-facts-reads
-use Rattle.marking.proofs.rounds.refused.Reads as refused-reads
-use Rattle.marking.proofs.rounds.run.Reads as run-reads
 
--- src/rounds.rt:124:9
+abbrev task : tie.Start → Arrays
+task s = arrays (s .args .scope .variables) (s .args .scope .actions) (now (s .args .sizes)) (now (s .args .starts)) (now (s .args .goal)) (now (s .args .costs)) (now (s .args .conditions)) (now (s .args .effects))
+
+valid : (s : tie.Start) → Valid (held (task s))
+valid s = task-valid (held (task s)) (s .pre)
+
+variables-few : (s : tie.Start) → s .args .scope .variables ≤ 64
+variables-few s = omega (arith, valid s .variables-few, variables-held (task s))
+
+actions-few : (s : tie.Start) → s .args .scope .actions ≤ 512
+actions-few s = omega (arith, valid s .actions-few, actions-held (task s))
+
+abbrev to-start : tie.After-sum → tie.Start
+to-start c = c .before .before .before .before
+
+facts-are : (c : tie.After-sum) → c .sum .result ≡ factCount (held (task (to-start c)))
+facts-are c = c .sum .ensures .0 ∙ facts-held (task (to-start c)) (valid (to-start c)) (to-start c .args .scope .level)
+
 sum-requires : tie.Need-sum-requires
-sum-requires c κs = ?
+sum-requires c κs =
+    let s = c .before .before .before in
+    (omega (arith, variables-few s), omega (arith, variables-few s))
 
--- src/rounds.rt:126:24
 refuse-requires : tie.Need-refuse-requires
 refuse-requires c κs = search needs
 
--- src/rounds.rt:126:9
 refused-requires : tie.Need-refused-requires
 refused-requires c κs = search needs
 
--- src/rounds.rt:126:9
 returns : tie.Need-returns
-returns c = ?
+returns c =
+    let n = c .before .before .before in
+    let s = to-start n in
+    let d = task s in
+    let refused = refusal-number _ 21 _ (omega arith) (c .before .refuse .ensures) in (
+      answer-refused _ _ refused (c .refused .ensures) _ (held d) (s .args .scope .level) (actions-short (held d) _ _ _ _ (sym (actions-held d)) (facts-are n) _ (c .before .before .if1 .taken) (c .before .refuse .ensures)),
+      (buffer-untouched _ _ refused (c .refused .ensures) _ _, buffer-untouched _ _ refused (c .refused .ensures) _ _),
+    )
 
--- src/rounds.rt:129:24
 refuse-requires-2 : tie.Need-refuse-requires-2
 refuse-requires-2 c κs = search needs
 
--- src/rounds.rt:129:9
 refused-requires-2 : tie.Need-refused-requires-2
 refused-requires-2 c κs = search needs
 
--- src/rounds.rt:129:9
 returns-2 : tie.Need-returns-2
-returns-2 c = ?
+returns-2 c =
+    let n = c .before .before .before .before in
+    let s = to-start n in
+    let d = task s in
+    let refused = refusal-number _ 21 _ (omega arith) (c .before .refuse2 .ensures) in (
+      answer-refused _ _ refused (c .refused2 .ensures) _ (held d) (s .args .scope .level) (facts-short (held d) _ _ _ _ (sym (actions-held d)) (facts-are n) _ (c .before .before .before .if1 .left) (c .before .before .if2 .taken) (c .before .refuse2 .ensures)),
+      (buffer-untouched _ _ refused (c .refused2 .ensures) _ _, buffer-untouched _ _ refused (c .refused2 .ensures) _ _),
+    )
 
--- src/rounds.rt:131:9
 run-requires : tie.Need-run-requires
 run-requires c κs = search needs
 
--- src/rounds.rt:135:5
 write-actions-requires : tie.Need-write-actions-requires
-write-actions-requires c κs = ?
+write-actions-requires c κs =
+    let s = to-start (c .before .before .before .before .before .before .before .before) in
+    (actions-few s, omega arith)
 
--- src/rounds.rt:136:5
+at-most : {x y z : ℕ} → x ≡ y → x ≤ z → y ≤ z
+at-most e h = omega arith
+
+abbrev to-run : tie.After-write-actions → tie.After-run
+to-run c = c .before .before .before .before .before .before
+
+abbrev to-sum : tie.After-run → tie.After-sum
+to-sum c = c .before .before .before
+
 write-facts-requires : tie.Need-write-facts-requires
-write-facts-requires c κs = ?
+write-facts-requires c κs =
+    let n = to-sum (to-run (c .before .before .before .before .before)) in
+    let s = to-start n in (
+      variables-few s,
+      at-most (n .sum .ensures .0) (to-run (c .before .before .before .before .before) .before .if2 .left),
+      λ v l. omega (arith, size-held (task s) v l, valid s .size-most v),
+    )
 
--- src/rounds.rt:137:9
 done-requires : tie.Need-done-requires
 done-requires c κs = search needs
 
--- src/rounds.rt:106:1
 same-length : tie.Need-same-length
 same-length c = search needs
 
--- src/rounds.rt:106:1
 same-length-2 : tie.Need-same-length-2
 same-length-2 c = search needs
 
--- src/rounds.rt:106:1
 returns-3 : tie.Need-returns-3
-returns-3 c = ?
+returns-3 c =
+    let w = c .before .before .before in
+    let k = w .before .before .before .before .before .before in
+    let r = to-run k in
+    let n = to-sum r in
+    let s = to-start n in
+    let d = task s in
+    let level = s .args .scope .level in
+    let zero : c .done .result .number ≡ 0 = ap (λ (o : Outcome). o .number) (c .done .ensures) in (
+      answer-done _ _ (held d) level _ _ _ zero (both-fit (held d) _ _ _ _ (sym (actions-held d)) (facts-are n) _ (r .before .before .if1 .left) (r .before .if2 .left) (c .done .ensures)) (sym (actions-held d)) (facts-are n) (r .run .ensures .count),
+      (
+        actions-written d (valid s) level _ zero _ _ (omega (arith, actions-held d, r .before .before .if1 .left)) _ (action-bytes d (valid s) level _ _ _ _ (r .run .ensures)) (k .write-actions .ensures),
+        facts-written d (valid s) level _ zero _ _ (omega (arith, facts-are n, r .before .if2 .left)) _ (fact-bytes d (valid s) level _ _ _ _ (r .run .ensures)) (w .write-facts .ensures),
+      ),
+    )
 
 pub mark-task-spec : {M : Type 1} → statement M
 mark-task-spec =

@@ -1,0 +1,164 @@
+-- The answer of marking and its buffers: refused for want of room, or done with the bytes of the last round's marks.
+use Prim.Native.Nat.{ℕ, zero, suc, _+_, _*_, _≤_, _<_}
+use mathlib.Core.Path.{_≡_, refl, sym, ap, ap₂, _∙_}
+use mathlib.Core.Bool.{Bool, true, false, cond}
+use mathlib.Core.List.{List, [], map, _++_}
+use native.Mathlib.Omega.{arith}
+use lib.Dec.{leb}
+use lib.ListN.{length, getD, length-map}
+use Rattle.files.specs.declared.Outcome.{Outcome}
+use Rattle.files.specs.Below.{tabulate, bit, joinBelow, sumBelow}
+use Rattle.files.specs.Bytes.{Octets, placed}
+use Rattle.files.specs.Dense.{Arrays, held, arrays}
+use Rattle.files.specs.Outcome.{done, refusal, isDone, guard, andThen, fits, overwrite, after}
+use Rattle.files.specs.Task.{Task, variableCount, actionCount, factCount, sizeOf}
+use Rattle.files.specs.TaskFile.{checkTask, taskOf}
+use Rattle.files.proofs.BelowLaws.{map-entry}
+use Rattle.files.proofs.Guards.{goes-le, stops-le, goes-on, stops, guard-passes, guard-refuses, is-done, is-refused, after-done, after-refused}
+use Rattle.files.proofs.Logic.{cond-case}
+use Rattle.files.proofs.Placed.{placed-overwrite}
+use Rattle.files.proofs.Tabulate.{tabulateFrom-length, tabulate-is}
+use Rattle.files.proofs.Valid.{Valid}
+use Rattle.marking.specs.declared.Marked.{Marked}
+use Rattle.marking.specs.Marks.{Marks, kept}
+use Rattle.marking.specs.Rounds.{nextActions, nextMarks, marking}
+use Rattle.marking.specs.Mark.{actionMarksOf, factMark, factMarksOf, validLevel, marksFit, markOutcome, noMarks, markAnswer, mark, markedActions, markedFacts}
+use Rattle.marking.specs.Dense.{sumOf, entryMark, entryMarks, Final}
+use Rattle.marking.proofs.HeldTask.{variables-held, actions-held, size-held}
+use Rattle.marking.proofs.MarkTables.{tabulate-same}
+use Rattle.marking.proofs.ResultLaws.{joined-length}
+use Rattle.marking.proofs.RoundBound.{marking-fixed}
+use Rattle.marking.proofs.RoundCount.{sum-alike}
+use Rattle.marking.proofs.RoundLaws.{round-actions}
+
+pub answer-outcome : (o : Outcome) (t : Task) (level : ℕ) → markAnswer o t level .outcome ≡ o
+unfolding markAnswer
+answer-outcome o t level = cond-case (λ (x : Marked). x .outcome ≡ o) (isDone o) _ (noMarks o) (λ e. refl) (λ e. refl)
+
+-- the answer beside an outcome, and a buffer after a refusal
+module _ (r : Marked) (o : Outcome) (refused : o .number ≡ 0 → ⊥) (e : r ≡ noMarks o) where
+  pub answer-refused : (stages : Outcome) (t : Task) (level : ℕ) → o ≡ stages → r ≡ markAnswer stages t level
+  unfolding markAnswer
+  answer-refused stages t level q = rw (← q, is-refused o refused) e
+
+  pub buffer-untouched : (new old : List ℕ) → old ≡ after (r .outcome) new old
+  buffer-untouched new old = sym (after-refused (r .outcome) new old (λ z. refused (sym (ap (λ (x : Marked). x .outcome .number) e) ∙ z)))
+
+pub answer-done : (o stages : Outcome) (t : Task) (level actions facts rounds : ℕ) → o .number ≡ 0 → o ≡ stages → actions ≡ actionCount t → facts ≡ factCount t → rounds ≡ marking t level .rounds
+    → record { outcome = o; actions = actions; facts = facts; rounds = rounds } ≡ markAnswer stages t level
+unfolding markAnswer
+answer-done o stages t level actions facts rounds z q a f r = rw (← q, is-done o z) (λ i. record { outcome = o; actions = a i; facts = f i; rounds = r i })
+
+-- a refusal has a number
+pub refusal-number : (o : Outcome) (n place : ℕ) → 0 < n → o ≡ refusal n place → o .number ≡ 0 → ⊥
+refusal-number o n place h e z = omega (arith, ap (λ (x : Outcome). x .number) e)
+
+-- room for both marks
+module _ (t : Task) (actionRoom factRoom actions facts : ℕ) (a : actions ≡ actionCount t) (f : facts ≡ factCount t) where
+  pub actions-short : (o : Outcome) → actionRoom < actions → o ≡ refusal 21 actions → o ≡ marksFit t actionRoom factRoom
+  unfolding marksFit fits
+  actions-short o h e = stops-le (actionCount t) actionRoom 21 (actionCount t) _ o actions actionRoom a refl h (e ∙ ap (refusal 21) a)
+
+  pub facts-short : (o : Outcome) → actions ≤ actionRoom → factRoom < facts → o ≡ refusal 21 facts → o ≡ marksFit t actionRoom factRoom
+  unfolding marksFit fits
+  facts-short o h k e =
+      goes-le (actionCount t) actionRoom 21 (actionCount t) _ o actions actionRoom a refl h
+      (stops-le (factCount t) factRoom 21 (factCount t) _ o facts factRoom f refl k (e ∙ ap (refusal 21) f))
+
+  pub both-fit : (o : Outcome) → actions ≤ actionRoom → facts ≤ factRoom → o ≡ done → o ≡ marksFit t actionRoom factRoom
+  unfolding marksFit fits
+  both-fit o h k e =
+      goes-le (actionCount t) actionRoom 21 (actionCount t) _ o actions actionRoom a refl h
+      (goes-le (factCount t) factRoom 21 (factCount t) _ o facts factRoom f refl k e)
+
+-- the bytes that are written
+joined-same : (n : ℕ) (f g : ℕ → List ℕ) → ((v : ℕ) → v < n → f v ≡ g v) → joinBelow n f ≡ joinBelow n g
+joined-same zero f g h = refl
+joined-same (suc n) f g h = ap₂ _++_ (joined-same n f g (λ v l. h v (omega arith))) (h n (omega arith))
+
+module _ (d : Arrays) (ok : Valid (held d)) (level : ℕ) where
+  -- the number of facts is the sum of the sizes
+  pub facts-held : sumOf (d .sizes) (d .variables) ≡ factCount (held d)
+  unfolding sumOf
+  facts-held =
+      sum-alike (d .variables) (λ v. getD (d .sizes) v 0) (sizeOf (held d)) (λ v l. sym (size-held d v l))
+      ∙ ap (λ (n : ℕ). sumBelow n (sizeOf (held d))) (sym (variables-held d))
+
+  abbrev m : Marks
+  m = marking (held d) level .marks
+
+  actions-long : length (m .actions) ≡ actionCount (held d)
+  unfolding nextActions
+  actions-long =
+      ap length (sym (ap (λ (k : Marks). k .actions) (marking-fixed (held d) level ok .same)) ∙ round-actions (held d) level m)
+      ∙ tabulateFrom-length _ 0 (actionCount (held d))
+
+  module _ (actions facts unlinked : List ℕ) (rounds : ℕ) (f : Final (held d) level actions facts unlinked rounds) where
+    pub action-bytes : tabulate (d .actions) (λ a. getD actions a 0) ≡ actionMarksOf (held d) level
+    unfolding actionMarksOf
+    action-bytes =
+        tabulate-is (λ a. getD actions a 0) (d .actions) (map bit (m .actions)) 0 (length-map (m .actions) bit ∙ actions-long ∙ actions-held d)
+        (λ a l.
+        let known : a < actionCount (held d) = omega (arith, actions-held d) in
+        f .action a known ∙ sym (map-entry bit (m .actions) a 0 false (omega (arith, actions-long))))
+
+    pub fact-bytes : joinBelow (d .variables) (λ v. entryMarks facts unlinked v (getD (d .sizes) v 0)) ≡ factMarksOf (held d) level
+    unfolding factMarksOf entryMarks
+    fact-bytes =
+        joined-same (d .variables) (λ v. tabulate (getD (d .sizes) v 0) (λ e. entryMark (getD facts (32 * v + e) 0) (getD unlinked (32 * v + e) 0))) (λ v. tabulate (sizeOf (held d) v) (factMark (held d) level m v))
+        (λ v l.
+        let known : v < variableCount (held d) = omega (arith, variables-held d) in
+        ap (λ (n : ℕ). tabulate n (λ e. entryMark (getD facts (32 * v + e) 0) (getD unlinked (32 * v + e) 0))) (sym (size-held d v l))
+        ∙ tabulate-same (λ e. entryMark (getD facts (32 * v + e) 0) (getD unlinked (32 * v + e) 0)) (factMark (held d) level m v) (sizeOf (held d) v) 0 (λ e k. f .fact v e known k))
+        ∙ ap (λ (n : ℕ). joinBelow n (λ v. tabulate (sizeOf (held d) v) (factMark (held d) level m v))) (sym (variables-held d))
+
+  action-marks-long : length (actionMarksOf (held d) level) ≡ actionCount (held d)
+  unfolding actionMarksOf
+  action-marks-long = length-map (m .actions) bit ∙ actions-long
+
+  fact-marks-long : length (factMarksOf (held d) level) ≡ factCount (held d)
+  unfolding factMarksOf
+  fact-marks-long = joined-length (λ v. tabulate (sizeOf (held d) v) (factMark (held d) level m v)) (sizeOf (held d)) (variableCount (held d)) (λ v. tabulateFrom-length (factMark (held d) level m v) 0 (sizeOf (held d) v))
+
+  -- a buffer that is long enough holds its bytes
+  module _ (o : Outcome) (z : o .number ≡ 0) (old new : List ℕ) where
+    pub actions-written : actionCount (held d) ≤ length old → (bytes : List ℕ) → bytes ≡ actionMarksOf (held d) level → new ≡ placed old 0 bytes → new ≡ after o (actionMarksOf (held d) level) old
+    actions-written h bytes b e = e ∙ ap (placed old 0) b ∙ placed-overwrite old (actionMarksOf (held d) level) (omega (arith, action-marks-long)) ∙ sym (after-done o (actionMarksOf (held d) level) old z)
+
+    pub facts-written : factCount (held d) ≤ length old → (bytes : List ℕ) → bytes ≡ factMarksOf (held d) level → new ≡ placed old 0 bytes → new ≡ after o (factMarksOf (held d) level) old
+    facts-written h bytes b e = e ∙ ap (placed old 0) b ∙ placed-overwrite old (factMarksOf (held d) level) (omega (arith, fact-marks-long)) ∙ sym (after-done o (factMarksOf (held d) level) old z)
+
+-- the stages of marking called alone: the file, the level, the room
+module _ (file : List ℕ) (level actionRoom factRoom : ℕ) (read : Outcome) (e : read ≡ checkTask file) where
+  pub outcome-file : (read .number ≡ 0 → ⊥) → read ≡ markOutcome file level actionRoom factRoom
+  unfolding markOutcome
+  outcome-file refused = stops (checkTask file) _ read e refused
+
+  module _ (z : read .number ≡ 0) where
+    pub outcome-level : (o : Outcome) → validLevel level ≡ false → o ≡ refusal 8 0 → o ≡ markOutcome file level actionRoom factRoom
+    unfolding markOutcome
+    outcome-level o v q = goes-on (checkTask file) _ o read e z (guard-refuses (validLevel level) 8 0 _ o v q)
+
+    outcome-room : validLevel level ≡ true → marksFit (taskOf file) actionRoom factRoom ≡ markOutcome file level actionRoom factRoom
+    unfolding markOutcome
+    outcome-room v = goes-on (checkTask file) _ (marksFit (taskOf file) actionRoom factRoom) read e z (guard-passes (validLevel level) 8 0 _ _ v refl)
+
+    module _ (v : validLevel level ≡ true) (t : Task) (is : t ≡ taskOf file) (r : Marked) (a : r ≡ markAnswer (marksFit t actionRoom factRoom) t level) where
+      pub marks-answer : r ≡ mark file level actionRoom factRoom
+      unfolding mark
+      marks-answer = a ∙ ap (λ (x : Task). markAnswer (marksFit x actionRoom factRoom) x level) is ∙ ap (λ (o : Outcome). markAnswer o (taskOf file) level) (outcome-room v)
+
+      pub marks-buffer : (f : Task → ℕ → List ℕ) (new old : List ℕ) → new ≡ after (r .outcome) (f t level) old → new ≡ after (markOutcome file level actionRoom factRoom) (f (taskOf file) level) old
+      marks-buffer f new old b =
+          b
+          ∙ ap₂ (λ (o : Outcome) (x : Task). after o (f x level) old)
+          (ap (λ (x : Marked). x .outcome) a ∙ answer-outcome (marksFit t actionRoom factRoom) t level ∙ ap (λ (x : Task). marksFit x actionRoom factRoom) is ∙ outcome-room v)
+          is
+
+-- the task that arrays hold, by counts that are read again
+pub held-by : (v w n k : ℕ) (sizes starts goal costs conditions effects : List ℕ) (t : Task) → v ≡ w → n ≡ k → held (arrays w k sizes starts goal costs conditions effects) ≡ t → held (arrays v n sizes starts goal costs conditions effects) ≡ t
+held-by v w n k sizes starts goal costs conditions effects t a b e = ap₂ (λ (x y : ℕ). held (arrays x y sizes starts goal costs conditions effects)) a b ∙ e
+
+-- a buffer after a refusal of any stage
+pub stage-untouched : (o stages : Outcome) (new old : List ℕ) → o ≡ stages → (o .number ≡ 0 → ⊥) → old ≡ after stages new old
+stage-untouched o stages new old q d = sym (after-refused o new old d) ∙ ap (λ (x : Outcome). after x new old) q
