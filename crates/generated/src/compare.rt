@@ -6,12 +6,22 @@ use crate::marks;
 // Whether an answer is done, with the expected lengths and rounds.
 fn answers(answer: marking::Marked, numbers: Numbers) -> bool {
     let outcome = answer.outcome;
-    if outcome.number != 0 || outcome.file != 0 || outcome.place != 0 {
+    if outcome.number != 0 {
         return false;
     }
-    answer.actions == numbers.actions
-        && answer.facts == numbers.facts
-        && answer.rounds == numbers.rounds
+    if outcome.file != 0 {
+        return false;
+    }
+    if outcome.place != 0 {
+        return false;
+    }
+    if answer.actions != numbers.actions {
+        return false;
+    }
+    if answer.facts != numbers.facts {
+        return false;
+    }
+    answer.rounds == numbers.rounds
 }
 
 // Whether marking the first `length` bytes of a file gives other numbers than are expected, or leaves

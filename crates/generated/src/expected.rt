@@ -36,20 +36,12 @@ fn put_actions(task: &[u8; 416], marks: &[u8; 48], buffer: &mut [u8; 48]) {
     }
 }
 
-// Whether a task has a fact.
-fn has_fact(task: &[u8; 416], variable: usize, value: usize) -> bool {
-    if layout::variables(task) <= variable {
-        return false;
-    }
-    value < layout::get(task, layout::SIZES, variable)
-}
-
 // Writes a byte for each fact, by variable, then value, and answers how many.
 fn put_facts(task: &[u8; 416], level: u32, marks: &[u8; 48], buffer: &mut [u8; 48]) -> usize {
     let mut count: usize = 0;
     let mut fact: usize = 0;
     while fact < 32 {
-        if has_fact(task, fact / 4, fact % 4) {
+        if fact % 4 < layout::get(task, layout::SIZES, fact / 4) {
             buffer[count] = marks::fact_mark(task, level, marks, fact / 4, fact % 4);
             count += 1;
         }

@@ -14,20 +14,14 @@ fn choose(first: bool, one: usize, other: usize) -> usize
 pub fn task(number: usize, state: &mut u64) -> [u8; 416] {
     let mut task = [255u8; 416];
     let chained = put_counts(number, state, &mut task);
-    let variables = layout::variables(&task);
     let actions = layout::actions(&task);
-    put_variables(state, &mut task, variables, chained);
-    put_chain(&mut task, variables, chained);
+    put_sizes(state, &mut task, chained);
+    put_chain(&mut task, chained);
     put_actions(state, &mut task, chained, actions);
     let last = choose(chained == 0, random::below(state, actions), 0);
-    put_row(
-        state,
-        &mut task,
-        layout::row_of(layout::EFFECTS, last),
-        layout::GOAL,
-        14,
-    );
-    move_starts(state, &mut task, variables);
+    let effects = layout::row_of(layout::EFFECTS, last);
+    put_row(state, &mut task, effects, layout::GOAL, 14);
+    put_starts(state, &mut task);
     task
 }
 
@@ -44,42 +38,52 @@ fn put_counts(number: usize, state: &mut u64, task: &mut [u8; 416]) -> usize {
     chained
 }
 
-// Variables of up to 4 values, of 4 where there is a chain.
-fn put_variables(state: &mut u64, task: &mut [u8; 416], variables: usize, chained: usize) {
+// The domain sizes: up to 4, or 4 where there is a chain; 0 in the columns of no variable.
+fn put_sizes(state: &mut u64, task: &mut [u8; 416], chained: usize) {
+    let variables = layout::variables(task);
     let mut variable: usize = 0;
-    while variable < variables {
+    while variable < 8 {
         let size = choose(chained == 0, 1 + random::below(state, 4), 4);
+        let size = choose(variable < variables, size, 0);
         layout::put(task, layout::SIZES, variable, size);
-        layout::put(task, layout::STARTS, variable, random::below(state, size));
         variable += 1;
     }
 }
 
-// A chain: each action sets the fact that is the condition of the action before it.
-fn put_chain(task: &mut [u8; 416], variables: usize, length: usize) {
-    let mut action: usize = 0;
-    while action < length {
-        put_fact(
+// The start values: one that is the goal's is drawn a second time.
+fn put_starts(state: &mut u64, task: &mut [u8; 416]) {
+    let mut variable: usize = 0;
+    while variable < 8 {
+        let size = layout::get(task, layout::SIZES, variable);
+        let goal = layout::get(task, layout::GOAL, variable);
+        let first = random::below(state, size);
+        let second = random::below(state, size);
+        layout::put(
             task,
-            variables,
-            layout::row_of(layout::EFFECTS, action),
-            action,
+            layout::STARTS,
+            variable,
+            choose(first == goal, second, first),
         );
-        put_fact(
-            task,
-            variables,
-            layout::row_of(layout::CONDITIONS, action),
-            action + 1,
-        );
-        layout::put(task, layout::row_of(layout::COSTS, action), 0, action % 4);
-        action += 1;
+        variable += 1;
     }
 }
 
-// Sets the pair of a fact in a row, where all variables have 4 values.
-fn put_fact(task: &mut [u8; 416], variables: usize, row: usize, fact: usize) {
-    if variables != 0 {
-        layout::put(task, row, fact % variables, fact / variables % 4);
+// A chain: each action sets the fact that is the condition of the action before it. Facts are taken
+// by value, then variable, where all variables have 4 values.
+fn put_chain(task: &mut [u8; 416], length: usize) {
+    let variables = layout::variables(task);
+    if variables == 0 {
+        return;
+    }
+    let mut action: usize = 0;
+    while action < length {
+        let fact = action + 1;
+        let effects = layout::row_of(layout::EFFECTS, action);
+        layout::put(task, effects, action % variables, action / variables % 4);
+        let conditions = layout::row_of(layout::CONDITIONS, action);
+        layout::put(task, conditions, fact % variables, fact / variables % 4);
+        layout::put(task, layout::row_of(layout::COSTS, action), 0, action % 4);
+        action += 1;
     }
 }
 
@@ -121,42 +125,12 @@ fn put_row(state: &mut u64, task: &mut [u8; 416], from: usize, to: usize, keep: 
     }
 }
 
-// With `keep` chances in 16 what a row has for a variable, else no value, the start value or a
-// random value.
+// With `keep` chances in 16 what a row has for a variable, else a random value, or none.
 fn varied(state: &mut u64, task: &[u8; 416], row: usize, variable: usize, keep: usize) -> usize {
     let chance = random::below(state, 16);
     let value = random::below(state, layout::get(task, layout::SIZES, variable));
     if chance < keep {
         return layout::get(task, row, variable);
     }
-    if chance == keep {
-        return layout::NONE;
-    }
-    if chance - keep == 1 {
-        return layout::get(task, layout::STARTS, variable);
-    }
-    value
-}
-
-// Moves most of the start values that are the goal's to another value.
-fn move_starts(state: &mut u64, task: &mut [u8; 416], variables: usize) {
-    let mut variable: usize = 0;
-    while variable < variables {
-        let start = moved_start(task, variable, random::below(state, 4));
-        layout::put(task, layout::STARTS, variable, start);
-        variable += 1;
-    }
-}
-
-// The start value of a variable, or the one after it where it is the goal's and `chance` is not 0.
-fn moved_start(task: &[u8; 416], variable: usize, chance: usize) -> usize {
-    let start = layout::get(task, layout::STARTS, variable);
-    let size = layout::get(task, layout::SIZES, variable);
-    if chance == 0 || layout::get(task, layout::GOAL, variable) != start {
-        return start;
-    }
-    if size <= start || size - start == 1 {
-        return 0;
-    }
-    start + 1
+    choose(chance == keep, layout::NONE, value)
 }

@@ -2,7 +2,7 @@
 // with its value, or 255 where there is no pair of it.
 //
 //     row 0           the number of variables, the number of actions
-//     row 1           the domain size of each variable, at most 4
+//     row 1           the domain size of each variable, at most 4, then 0
 //     row 2           the start value of each variable
 //     row 3           the pairs of the goal
 //     rows 4 to 19    for each action a number that says its cost
@@ -33,7 +33,9 @@ pub fn wide(byte: u8) -> usize
 }
 
 // The byte in a row and a column, 255 where there is no such place.
-pub fn get(task: &[u8; 416], row: usize, column: usize) -> usize {
+pub fn get(task: &[u8; 416], row: usize, column: usize) -> usize
+    ensures { λ r. ⌜ r ≤ 255 ⌝ }
+{
     if NO_ROW <= row {
         return NONE;
     }

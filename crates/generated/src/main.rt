@@ -43,9 +43,9 @@ fn run_task(number: usize, level: u32, state: &mut u64, sums: &mut [usize; 10]) 
     let numbers = expected::mark(&task, level, &mut actions, &mut facts);
     totals::add_task(sums, &actions, &facts, numbers.rounds);
     let unlike = unlike_before(&task, level, &actions, &facts);
-    totals::count(sums, totals::UNLIKE, unlike);
+    totals::add(sums, totals::UNLIKE, unlike as usize);
     let differs = compare::differs(&file, length, level, &actions, &facts, numbers);
-    totals::count(sums, totals::DIFFER, differs);
+    totals::add(sums, totals::DIFFER, differs as usize);
     print_difference(number, level, differs);
 }
 

@@ -37,7 +37,10 @@ pub fn fact_mark(
     if marks[16 + variable * 4 + value] == 0 {
         return 0;
     }
-    if level < 3 || value != layout::get(task, layout::STARTS, variable) {
+    if level < 3 {
+        return 1;
+    }
+    if value != layout::get(task, layout::STARTS, variable) {
         return 1;
     }
     if threatened(task, marks, variable) {

@@ -25,7 +25,7 @@ pub const ROUNDS: usize = 8;
 pub const MOST: usize = 9;
 
 // Adds a number to the total of a place. A total stays far below the bound.
-fn add(totals: &mut [usize; 10], place: usize, number: usize) {
+pub fn add(totals: &mut [usize; 10], place: usize, number: usize) {
     if 10 <= place {
         return;
     }
@@ -55,12 +55,5 @@ pub fn add_task(totals: &mut [usize; 10], actions: &[u8; 48], facts: &[u8; 48], 
     add(totals, ROUNDS, rounds);
     if totals[MOST] < rounds {
         totals[MOST] = rounds;
-    }
-}
-
-// Counts a task at a place where a test is true of it.
-pub fn count(totals: &mut [usize; 10], place: usize, test: bool) {
-    if test {
-        add(totals, place, 1);
     }
 }

@@ -15,8 +15,8 @@ abbrev μ-loop : tie.MeasureT-loop
 loop-holds : tie.Need-loop-holds Inv-loop μ-loop
 loop-holds c = search needs
 
-has-fact-requires : tie.Need-has-fact-requires Inv-loop μ-loop
-has-fact-requires c κs = search needs
+get-requires : tie.Need-get-requires Inv-loop μ-loop
+get-requires c κs = search needs
 
 fact-mark-requires : tie.Need-fact-mark-requires Inv-loop μ-loop
 fact-mark-requires c κs = search needs
@@ -46,7 +46,7 @@ put-facts-spec =
     Inv-loop
     μ-loop
     loop-holds
-    has-fact-requires
+    get-requires
     fact-mark-requires
     element-write-buffer
     add-count
