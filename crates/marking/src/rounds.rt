@@ -31,7 +31,7 @@ pub struct Marks {
 
 // The rounds up to the first that changes nothing. Each looks at the actions kept and the facts
 // unlinked since the one before: `noted` are the actions whose effects, `named` those whose
-// conditions have been looked at.
+// conditions have been looked at, and `by` is what covered each action when it was last sought.
 fn run(
     scope: Scope,
     sizes: &[u8; 64],
@@ -52,7 +52,7 @@ fn run(
     let mut kept = [0u8; 512];
     let mut noted = [0u8; 512];
     let mut named = [0u8; 512];
-    let mut coverers = [0u16; 512];
+    let mut by = [0u16; 512];
     let mut threats = [0u8; 64];
     let mut before = [0u8; 2048];
     let mut rounds: usize = 0;
@@ -64,15 +64,7 @@ fn run(
         gains::gain_actions(&mut kept, scope, effects, &before, &unlinked);
         before = unlinked;
         let tracked = links::tracked(scope, &unlinked);
-        let counted = covering::counted(
-            scope,
-            &kept,
-            &named,
-            &pairs,
-            effects,
-            &tracked,
-            &mut coverers,
-        );
+        let counted = covering::counted(scope, &kept, &named, &pairs, effects, &tracked, &mut by);
         gains::gain_facts(&mut facts, scope, conditions, sizes, &counted, &named);
         named = counted;
         rounds += 1;
