@@ -5,6 +5,8 @@ use crate::lines;
 // t: a task file is checked. o: an origin file is checked. p: a plan file is checked against a
 // task of so many actions as the first byte says. a: a task file is read and written again.
 // c: the plan checker; the first two bytes say how many of the others are the task file.
+// m: marking; the first byte is the level, then two bytes each for the lengths of the buffers for
+// action marks and fact marks, which hold 9s.
 pub fn run_line(text: &[u8], from: usize, to: usize, file: &mut [u8], written: &mut [u8; 70000]) {
     let letter = files::bytes::byte_at(text, from);
     if letter == 35 {
@@ -34,6 +36,11 @@ fn run_call(letter: usize, file: &[u8], written: &mut [u8; 70000]) {
     if letter == 99 {
         check_both(file);
     }
+    if letter == 109 {
+        let mut actions = [9u8; 600];
+        let mut facts = [9u8; 2100];
+        mark_file(file, &mut actions, &mut facts);
+    }
 }
 
 // Checks a plan against a task, and prints the outcome, the cost and the steps.
@@ -54,6 +61,48 @@ fn check_both(file: &[u8]) {
     lines::print_minutes(cost.0);
     lines::print_byte(b' ');
     lines::print_number(steps.0 as usize);
+}
+
+// Marks a task, and prints the outcome, both lengths, the rounds and both buffers.
+fn mark_file(file: &[u8], actions: &mut [u8], facts: &mut [u8]) {
+    if file.len() < 5 {
+        return;
+    }
+    let kept = files::bytes::u16_at(file, 1);
+    let relevant = files::bytes::u16_at(file, 3);
+    if actions.len() < kept {
+        return;
+    }
+    if facts.len() < relevant {
+        return;
+    }
+    let marked = marking::mark(
+        &file[5..],
+        file[0] as u32,
+        &mut actions[..kept],
+        &mut facts[..relevant],
+    );
+    let outcome = marked.outcome;
+    lines::print_outcome(outcome);
+    lines::print_byte(b' ');
+    lines::print_number(marked.actions);
+    lines::print_byte(b' ');
+    lines::print_number(marked.facts);
+    lines::print_byte(b' ');
+    lines::print_number(marked.rounds);
+    lines::print_byte(b' ');
+    print_marks(actions, kept);
+    lines::print_byte(b' ');
+    print_marks(facts, relevant);
+}
+
+// Prints the first `count` marks, a digit each.
+fn print_marks(marks: &[u8], count: usize) {
+    let mut at: usize = 0;
+    while at < count {
+        lines::print_byte((48 + files::bytes::byte_at(marks, at) % 10) as u8);
+        at += 1;
+    }
 }
 
 // Reads a task, and writes it again where it is accepted.
