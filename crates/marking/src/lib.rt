@@ -1,9 +1,9 @@
 // Relevance marking at levels 1 to 4.
-// The call open to callers is mark; the module rounds serves the layers above.
+// The call open to callers is mark; the public modules serve the layers above.
 mod covering;
 mod entries;
-mod gains;
-mod links;
+pub mod gains;
+pub mod links;
 mod results;
 pub mod rounds;
 

@@ -5,3 +5,4 @@ pub mod Task
 pub mod Preserved
 pub mod Reduce
 pub mod Stretch
+pub mod Dense

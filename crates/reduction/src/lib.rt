@@ -1,4 +1,6 @@
 // Reduction: the reduced task and its origins, and the condition pairs of an action.
+mod named;
+mod renumber;
 
 // What reduction answers: the four lengths written and the round count, 0 beside a refusal.
 pub struct Reduced {

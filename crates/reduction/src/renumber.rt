@@ -1,0 +1,173 @@
+// New numbers of values, and rows by new numbers.
+ghost use mathlib.Core.Path.{_≡_};
+ghost use Prim.Native.Nat.{ℕ, _+_, _*_, _≤_, _<_};
+ghost use mathlib.Core.Bool.{Bool, cond};
+ghost use lib.Dec.{eqb};
+ghost use lib.ListN.{length, getD};
+ghost use Rattle.reduction.specs.Dense.{namedIn, newValueAt, newSizeAt, mappedEntry};
+use crate::named;
+
+// The number of a value: its rank where it is named, else the number of the values left over.
+fn number(mark: u8, rank: u8, rest: u8) -> u8
+    ensures { λ r. ⌜ r ≡ cond (eqb mark 1) rank rest ⌝ }
+{
+    if mark == 1 { rank } else { rest }
+}
+
+// The new numbers of a variable's values.
+fn number_values(values: &mut [u8], named: &[u8; 2048], v: usize)
+    requires { ⌜ (v < 64) × (2048 ≤ length (now values)) ⌝ }
+    ensures { λ r. ⌜ (length (now (values .exit)) ≡ length (now (values .entry))) × ((d : ℕ) → d < 32 → getD (now (values .exit)) (32 * v + d) 0 ≡ newValueAt (now (named .entry)) v d) × ((i : ℕ) → i < 32 * v → getD (now (values .exit)) i 0 ≡ getD (now (values .entry)) i 0) ⌝ }
+{
+    let rest = named::named_in(named, v);
+    let mut rank: u8 = 0;
+    let mut d: usize = 0;
+    while d < 32 {
+        values[32 * v + d] = number(named[32 * v + d], rank, rest);
+        rank += named::marked(named[32 * v + d]);
+        d += 1;
+    }
+}
+
+// The new numbers of all values.
+pub fn new_values(named: &[u8; 2048], variables: usize) -> [u8; 2048]
+    requires { ⌜ variables ≤ 64 ⌝ }
+    ensures { λ r. ⌜ ((v d : ℕ) → v < variables → d < 32 → getD r (32 * v + d) 0 ≡ newValueAt (now (named .entry)) v d) ⌝ }
+{
+    let mut values = [0u8; 2048];
+    let mut v: usize = 0;
+    while v < variables {
+        number_values(&mut values, named, v);
+        v += 1;
+    }
+    values
+}
+
+// How many values a kept variable has.
+pub fn new_size(named: &[u8; 2048], v: usize, size: u8) -> u8
+    requires { ⌜ v < 64 ⌝ }
+    ensures { λ r. ⌜ r ≡ newSizeAt (now (named .entry)) v size ⌝ }
+{
+    let count = named::named_in(named, v);
+    if count < size { count + 1 } else { count }
+}
+
+// An entry of a row by new values.
+pub fn mapped(values: &[u8; 2048], v: usize, entry: u8) -> u8
+    requires { ⌜ v < 64 ⌝ }
+    ensures { λ r. ⌜ r ≡ mappedEntry (now (values .entry)) v entry ⌝ }
+{
+    if entry == 255 {
+        return 255;
+    }
+    values[32 * v + (entry % 32) as usize]
+}
+
+// A row of the kept variables: `count` entries at `to`, from the row at `from`.
+pub fn map_row(
+    row: &mut [u8],
+    to: usize,
+    old: &[u8],
+    from: usize,
+    numbers: &[u8; 64],
+    count: usize,
+    values: &[u8; 2048],
+)
+    requires { ⌜ (count ≤ 64) × (to + 64 ≤ length (now row)) × (from + 64 ≤ length (now old)) × ((i : ℕ) → i < count → getD (now numbers) i 0 < 64) ⌝ }
+    ensures { λ r. ⌜ (length (now (row .exit)) ≡ length (now (row .entry))) × ((i : ℕ) → i < count → getD (now (row .exit)) (to + i) 0 ≡ mappedEntry (now (values .entry)) (getD (now (numbers .entry)) i 0) (getD (now (old .entry)) (from + getD (now (numbers .entry)) i 0) 0)) × ((j : ℕ) → j < to → getD (now (row .exit)) j 0 ≡ getD (now (row .entry)) j 0) ⌝ }
+{
+    let mut i: usize = 0;
+    while i < count {
+        let v = numbers[i] as usize;
+        row[to + i] = mapped(values, v, old[from + v]);
+        i += 1;
+    }
+}
+
+// The rows of the kept actions.
+pub fn map_rows(
+    rows: &mut [u8],
+    old: &[u8; 32768],
+    originals: &[u16; 512],
+    actions: usize,
+    numbers: &[u8; 64],
+    count: usize,
+    values: &[u8; 2048],
+)
+    requires { ⌜ (count ≤ 64) × (actions ≤ 512) × (32768 ≤ length (now rows)) × ((j : ℕ) → j < actions → getD (now originals) j 0 < 512) × ((i : ℕ) → i < count → getD (now numbers) i 0 < 64) ⌝ }
+    ensures { λ r. ⌜ ((j i : ℕ) → j < actions → i < count → getD (now (rows .exit)) (64 * j + i) 0 ≡ mappedEntry (now (values .entry)) (getD (now (numbers .entry)) i 0) (getD (now (old .entry)) (64 * getD (now (originals .entry)) j 0 + getD (now (numbers .entry)) i 0) 0)) ⌝ }
+{
+    let mut j: usize = 0;
+    while j < actions {
+        let a = originals[j] as usize;
+        map_row(rows, 64 * j, old, 64 * a, numbers, count, values);
+        j += 1;
+    }
+}
+
+// The costs of the kept actions.
+pub fn map_costs(costs: &mut [u32], old: &[u32; 512], originals: &[u16; 512], actions: usize)
+    requires { ⌜ (actions ≤ 512) × (512 ≤ length (now costs)) × ((j : ℕ) → j < actions → getD (now originals) j 0 < 512) ⌝ }
+    ensures { λ r. ⌜ ((j : ℕ) → j < actions → getD (now (costs .exit)) j 0 ≡ getD (now (old .entry)) (getD (now (originals .entry)) j 0) 0) ⌝ }
+{
+    let mut j: usize = 0;
+    while j < actions {
+        costs[j] = old[originals[j] as usize];
+        j += 1;
+    }
+}
+
+// The domain sizes of the kept variables, as they were.
+pub fn map_sizes(sizes: &mut [u8], old: &[u8; 64], numbers: &[u8; 64], count: usize)
+    requires { ⌜ (count ≤ 64) × (64 ≤ length (now sizes)) × ((i : ℕ) → i < count → getD (now numbers) i 0 < 64) ⌝ }
+    ensures { λ r. ⌜ ((i : ℕ) → i < count → getD (now (sizes .exit)) i 0 ≡ getD (now (old .entry)) (getD (now (numbers .entry)) i 0) 0) ⌝ }
+{
+    let mut i: usize = 0;
+    while i < count {
+        sizes[i] = old[numbers[i] as usize];
+        i += 1;
+    }
+}
+
+// The new domain sizes of the kept variables.
+pub fn new_sizes(
+    sizes: &mut [u8],
+    old: &[u8; 64],
+    named: &[u8; 2048],
+    numbers: &[u8; 64],
+    count: usize,
+)
+    requires { ⌜ (count ≤ 64) × (64 ≤ length (now sizes)) × ((i : ℕ) → i < count → getD (now numbers) i 0 < 64) ⌝ }
+    ensures { λ r. ⌜ ((i : ℕ) → i < count → getD (now (sizes .exit)) i 0 ≡ newSizeAt (now (named .entry)) (getD (now (numbers .entry)) i 0) (getD (now (old .entry)) (getD (now (numbers .entry)) i 0) 0)) ⌝ }
+{
+    let mut i: usize = 0;
+    while i < count {
+        let v = numbers[i] as usize;
+        sizes[i] = new_size(named, v, old[v]);
+        i += 1;
+    }
+}
+
+// The new numbers of each kept variable's values, a row of 32 each.
+pub fn value_rows(rows: &mut [u8], values: &[u8; 2048], numbers: &[u8; 64], count: usize)
+    requires { ⌜ (count ≤ 64) × (2048 ≤ length (now rows)) × ((i : ℕ) → i < count → getD (now numbers) i 0 < 64) ⌝ }
+    ensures { λ r. ⌜ ((i d : ℕ) → i < count → d < 32 → getD (now (rows .exit)) (32 * i + d) 0 ≡ getD (now (values .entry)) (32 * getD (now (numbers .entry)) i 0 + d) 0) ⌝ }
+{
+    let mut i: usize = 0;
+    while i < count {
+        copy_row(rows, 32 * i, values, 32 * numbers[i] as usize);
+        i += 1;
+    }
+}
+
+// Copies 32 entries.
+fn copy_row(row: &mut [u8], to: usize, old: &[u8], from: usize)
+    requires { ⌜ (to + 32 ≤ length (now row)) × (from + 32 ≤ length (now old)) ⌝ }
+    ensures { λ r. ⌜ (length (now (row .exit)) ≡ length (now (row .entry))) × ((d : ℕ) → d < 32 → getD (now (row .exit)) (to + d) 0 ≡ getD (now (old .entry)) (from + d) 0) × ((j : ℕ) → j < to → getD (now (row .exit)) j 0 ≡ getD (now (row .entry)) j 0) ⌝ }
+{
+    let mut d: usize = 0;
+    while d < 32 {
+        row[to + d] = old[from + d];
+        d += 1;
+    }
+}
