@@ -16,12 +16,20 @@ use Rattle.files.proofs.Tabulate.{tabulateFrom-length, tabulate-entry}
 use Rattle.files.proofs.Valid.{Valid, value-valid}
 use Rattle.plans.specs.State.{hasFact}
 use Rattle.plans.proofs.WalkLaws.{held-action}
-use Rattle.marking.specs.Marks.{Marks, kept, relevant, names}
+use Rattle.marking.specs.Marks.{Marks, kept, relevant, actionMarks, factMarks}
 use Rattle.marking.specs.Links.{setsOther, threatened}
-use Rattle.marking.specs.Dense.{isMarked, heldMarks, otherThan}
+use Rattle.marking.specs.Dense.{isMarked, otherThan}
 use Rattle.marking.proofs.MarkTables.{marksOf, marksOf-kept, marksOf-relevant, marksOf-inside, Shaped, marksOf-shaped}
 use Rattle.marking.proofs.RowTests.{row-fact, row-other, row-mentions}
 use Rattle.marking.proofs.Truth.{any-same}
+
+-- the marks that arrays hold: a byte per action, 32 per variable
+unfoldable pub heldMarks : Task → List ℕ → List ℕ → Marks
+heldMarks t kept facts =
+    record {
+      actions = actionMarks t (isMarked kept);
+      facts = factMarks t (λ v value. isMarked facts (32 * v + value));
+    }
 
 module _ (d : Arrays) where
   pub variables-held : variableCount (held d) ≡ d .variables

@@ -10,8 +10,8 @@ use Rattle.files.specs.Dense.{Arrays, held}
 use Rattle.files.specs.Task.{actionOf, sizeOf}
 use Rattle.marking.specs.Marks.{Marks, names}
 use Rattle.marking.specs.Links.{threatened, unlinked}
-use Rattle.marking.specs.Dense.{isMarked, heldMarks}
-use Rattle.marking.proofs.HeldTask.{effectAt}
+use Rattle.marking.specs.Dense.{isMarked}
+use Rattle.marking.proofs.HeldTask.{heldMarks, effectAt}
 
 -- actions and facts are the marks; of the actions in `noted` the threats are marked, of those in `named` the conditions are
 -- among the facts, and of the facts in `before` the actions that achieve them are kept

@@ -17,8 +17,8 @@ use Rattle.files.proofs.Valid.{Valid}
 use Rattle.plans.specs.State.{hasFact}
 use Rattle.marking.specs.Marks.{Marks, kept, relevant}
 use Rattle.marking.specs.Links.{linked, unlinked, hasRelevant, gainsAction}
-use Rattle.marking.specs.Dense.{SetWhere, isMarked, heldMarks, differ, sets, achieves}
-use Rattle.marking.proofs.HeldTask.{variables-held, actions-held, effectAt, effects-held, effect-valid, kept-held, relevant-held, relevant-inside}
+use Rattle.marking.specs.Dense.{SetWhere, isMarked, differ, sets, achieves}
+use Rattle.marking.proofs.HeldTask.{heldMarks, variables-held, actions-held, effectAt, effects-held, effect-valid, kept-held, relevant-held, relevant-inside}
 use Rattle.marking.proofs.LinkLaws.{unlinked-intro, gainsAction-intro}
 use Rattle.marking.proofs.Progress.{Progress}
 use Rattle.marking.proofs.RoundLinks.{differ-new, new-differs}

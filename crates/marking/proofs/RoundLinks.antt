@@ -16,8 +16,8 @@ use Rattle.files.proofs.Logic.{clash, split, split-le, and-split, and-join, or-
 use Rattle.files.proofs.Valid.{Valid}
 use Rattle.marking.specs.Marks.{Marks, kept, relevant}
 use Rattle.marking.specs.Links.{threatened, linked, unlinked, tracked}
-use Rattle.marking.specs.Dense.{SetWhere, isMarked, heldMarks, differ, otherThan, threatens, threatensAnew, linkedEntry, unlinkedAt, trackedAt}
-use Rattle.marking.proofs.HeldTask.{variables-held, actions-held, size-held, start-held, effectAt, threatened-held, kept-held, relevant-held, relevant-inside, factAt}
+use Rattle.marking.specs.Dense.{SetWhere, isMarked, differ, otherThan, threatens, threatensAnew, linkedEntry, unlinkedAt, trackedAt}
+use Rattle.marking.proofs.HeldTask.{heldMarks, variables-held, actions-held, size-held, start-held, effectAt, threatened-held, kept-held, relevant-held, relevant-inside, factAt}
 use Rattle.marking.proofs.Progress.{Progress}
 use Rattle.marking.proofs.Truth.{same-truth, any-same, any-bound, bit-marked, bit-empty, marked-bit, cond-bit}
 

@@ -18,8 +18,8 @@ use Rattle.files.proofs.Valid.{Valid}
 use Rattle.marking.specs.Marks.{Marks, kept, relevant, names}
 use Rattle.marking.specs.Links.{setsOther, threatened, linked, unlinked, tracked, gainsAction}
 use Rattle.marking.specs.Rounds.{marked, nextActions, trackedMarks, countedActions, gainsFact, nextMarks}
-use Rattle.marking.specs.Dense.{SetWhere, isMarked, heldMarks, threatensAnew, unlinkedAt, achieves, trackedAt, nested, coveredAt, countedAt, namesAnew}
-use Rattle.marking.proofs.HeldTask.{variables-held, actions-held, effectAt, effect-valid, factAt, marks-held, kept-held, relevant-held, relevant-inside}
+use Rattle.marking.specs.Dense.{SetWhere, isMarked, threatensAnew, unlinkedAt, achieves, trackedAt, nested, coveredAt, countedAt, namesAnew}
+use Rattle.marking.proofs.HeldTask.{heldMarks, variables-held, actions-held, effectAt, effect-valid, factAt, marks-held, kept-held, relevant-held, relevant-inside}
 use Rattle.marking.proofs.MarkCount.{Among}
 use Rattle.marking.proofs.MarkTables.{marksOf, marksOf-same}
 use Rattle.marking.proofs.Progress.{Progress}

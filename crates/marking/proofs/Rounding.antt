@@ -19,8 +19,8 @@ use Rattle.marking.specs.Marks.{Marks, kept, relevant, names, firstMarks
 use Rattle.marking.specs.Links.{threatened, linked, unlinked}
 use Rattle.marking.specs.Rounds.{nextMarks, Marking, markFrom, marking}
 use Rattle.marking.specs.Mark.{factMark}
-use Rattle.marking.specs.Dense.{SetWhere, isMarked, heldMarks, otherThan, rowNames, sumOf, entryMark, Final}
-use Rattle.marking.proofs.HeldTask.{variables-held, actions-held, goal-held, goal-valid, factAt, marks-held, kept-held, relevant-held, relevant-inside, held-shaped, effectAt, threatened-held}
+use Rattle.marking.specs.Dense.{SetWhere, isMarked, otherThan, rowNames, sumOf, entryMark, Final}
+use Rattle.marking.proofs.HeldTask.{heldMarks, variables-held, actions-held, goal-held, goal-valid, factAt, marks-held, kept-held, relevant-held, relevant-inside, held-shaped, effectAt, threatened-held}
 use Rattle.marking.proofs.CountOrder.{sum-order}
 use Rattle.marking.proofs.MarkCount.{markCount, markCount-most}
 use Rattle.marking.proofs.MarkTables.{marksOf-same}

@@ -7,20 +7,12 @@ use lib.Dec.{eqb, leb, ltb}
 use lib.ListN.{length, getD}
 use Rattle.files.specs.Below.{tabulate, anyBelow, bit, countBelow, sumBelow}
 use Rattle.files.specs.Task.{Task, variableCount, actionCount, sizeOf}
-use Rattle.marking.specs.Marks.{Marks, kept, actionMarks, factMarks}
+use Rattle.marking.specs.Marks.{kept}
 use Rattle.marking.specs.Rounds.{marking}
 use Rattle.marking.specs.Mark.{factMark}
 
 abbrev pub isMarked : List ℕ → ℕ → Bool
 isMarked marks i = eqb (getD marks i 0) 1
-
--- the marks that arrays hold
-unfoldable pub heldMarks : Task → List ℕ → List ℕ → Marks
-heldMarks t kept facts =
-    record {
-      actions = actionMarks t (isMarked kept);
-      facts = factMarks t (λ v value. isMarked facts (32 * v + value));
-    }
 
 -- the second list is the first with 1 at each place that passes
 pub record SetWhere (test : ℕ → Bool) (old new : List ℕ) : Type 0 where
