@@ -1,0 +1,27 @@
+use borrow.Author.Needs.{needs}
+use borrow.Author.Needs.{needs}
+use Rattle.reduction.proofs.renumber.mapped.Statement.{statement}
+use Rattle.reduction.proofs.renumber.mapped.Tie as tie
+
+returns : tie.Need-returns
+returns c = search needs
+
+mul-result : tie.Need-mul-result
+mul-result c = search needs
+
+cast-result : tie.Need-cast-result
+cast-result c = search needs
+
+add-result : tie.Need-add-result
+add-result c = search needs
+
+element-copy-out-result : tie.Need-element-copy-out-result
+element-copy-out-result c = search needs
+
+returns-2 : tie.Need-returns-2
+returns-2 c = search needs
+
+pub mapped-spec : {M : Type 1} → statement M
+mapped-spec =
+    tie.close
+    (tie.spec returns mul-result cast-result add-result element-copy-out-result returns-2)
