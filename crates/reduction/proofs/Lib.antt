@@ -7,3 +7,5 @@ pub mod Correspondence
 pub mod ReducedLength
 pub mod ReducedValid
 pub mod Preservation
+pub mod NamedHeld
+pub mod ReducedHeld

@@ -8,7 +8,7 @@ use Rattle.files.specs.declared.Outcome.{Outcome}
 use Rattle.files.specs.Outcome.{done, isDone, guard, andThen, fits, after}
 use Rattle.files.specs.Task.{Task, actionCount, factCount}
 use Rattle.files.specs.TaskFile.{checkTask, taskOf, taskFile}
-use Rattle.files.specs.OriginFile.{originFile}
+use Rattle.files.specs.OriginFile.{Origin, originFile}
 use Rattle.marking.specs.Rounds.{marking}
 use Rattle.marking.specs.Mark.{validLevel, marksFit, actionMarksOf, factMarksOf}
 use Rattle.reduction.specs.Task.{reducedTask, originsAt}
@@ -20,6 +20,13 @@ reducedFile t level signer = taskFile (reducedTask t level) signer
 
 unfoldable pub originsFile : Task → ℕ → ℕ → List ℕ
 originsFile t level signer = originFile (originsAt t level) signer
+
+-- the room for the files of a task and its origins, before either is written
+unfoldable pub filesFit : Task → Origin → ℕ → ℕ → ℕ → Outcome
+filesFit t origins signer reducedRoom originRoom =
+    fits (length (taskFile t signer)) reducedRoom
+    (fits (length (originFile origins signer)) originRoom
+    done)
 
 -- the lengths of the four lent buffers
 pub record Rooms : Type 0 where
@@ -40,11 +47,13 @@ markStage task level signer room =
 unfoldable pub reduceStage : List ℕ → ℕ → ℕ → Rooms → Outcome
 reduceStage task level signer room =
     andThen (markStage task level signer room)
-    (fits (length (reducedFile (taskOf task) level signer)) (room .reduced)
-    (fits (length (originsFile (taskOf task) level signer)) (room .origin)
-    done))
+    (filesFit (reducedTask (taskOf task) level) (originsAt (taskOf task) level) signer (room .reduced) (room .origin))
 
--- an outcome with lengths and rounds, which are 0 beside a refusal
+-- beside a refusal there are no lengths and no rounds
+abbrev pub noFiles : Outcome → Reduced
+noFiles o = record { outcome = o; actions = 0; facts = 0; reduced = 0; origin = 0; rounds = 0 }
+
+-- an outcome with lengths and rounds
 unfoldable pub reduce : List ℕ → ℕ → ℕ → Rooms → Reduced
 reduce task level signer room =
     let o = reduceStage task level signer room in
@@ -59,7 +68,7 @@ reduce task level signer room =
       rounds = marking t level .rounds;
     }
     in
-    cond (isDone o) answer (record { outcome = o; actions = 0; facts = 0; reduced = 0; origin = 0; rounds = 0 })
+    cond (isDone o) answer (noFiles o)
 
 -- each buffer after the call: a finished stage's holds its result, a later one is untouched
 unfoldable pub reducedActionMarks : List ℕ → ℕ → ℕ → Rooms → List ℕ → List ℕ

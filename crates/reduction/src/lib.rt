@@ -1,4 +1,5 @@
 // Reduction: the reduced task and its origins, and the condition pairs of an action.
+mod arrays;
 mod named;
 mod renumber;
 

@@ -1,0 +1,85 @@
+// The reduced task and its origins as arrays, and their files.
+ghost use mathlib.Core.Path.{_≡_};
+ghost use mathlib.Core.Bool.{Bool, true};
+ghost use Prim.Native.Nat.{ℕ, _≤_, _<_};
+ghost use lib.ListN.{length, getD};
+ghost use Rattle.files.specs.Accepted.{acceptedTask};
+ghost use Rattle.files.specs.Below.{bit};
+ghost use Rattle.files.specs.Dense.{held, arrays, heldOrigin, originArrays, OriginSizes};
+ghost use Rattle.files.specs.OriginFile.{originFile};
+ghost use Rattle.files.specs.Outcome.{after};
+ghost use Rattle.files.specs.TaskFile.{taskFile};
+ghost use Rattle.reduction.specs.Reduce.{filesFit};
+ghost use Rattle.reduction.specs.Task.{reducedBy, originBy};
+use crate::named;
+use crate::renumber;
+use files::outcomes;
+use marking::rounds::Scope;
+
+// How many variables and actions the reduced task has.
+pub struct Counts {
+    pub variables: usize,
+    pub actions: usize,
+}
+
+// Fills arrays with the reduced task and its origins: `ranges` has the domain sizes as they were,
+// `rows` the new values of each kept variable.
+pub fn fill(
+    scope: Scope,
+    sizes: &[u8; 64],
+    starts: &[u8; 64],
+    goal: &[u8; 64],
+    costs: &[u32; 512],
+    conditions: &[u8; 32768],
+    effects: &[u8; 32768],
+    kept: &[u8; 512],
+    newsizes: &mut [u8; 64],
+    newstarts: &mut [u8; 64],
+    newgoal: &mut [u8; 64],
+    newcosts: &mut [u32; 512],
+    newconditions: &mut [u8; 32768],
+    neweffects: &mut [u8; 32768],
+    numbers: &mut [u8; 64],
+    ranges: &mut [u8; 64],
+    rows: &mut [u8; 2048],
+    originals: &mut [u16; 512],
+) -> Counts
+    requires { ⌜ (acceptedTask (held (arrays (scope .variables) (scope .actions) (now sizes) (now starts) (now goal) (now costs) (now conditions) (now effects))) ≡ true) × (scope .level ≡ 2) ⌝ }
+    ensures few { λ r. ⌜ (r .variables ≤ 64) × (r .actions ≤ 512) × (OriginSizes (now (ranges .exit)) (r .variables)) ⌝ }
+    ensures task { λ r. ⌜ ((A : ℕ → Bool) → ((a : ℕ) → a < scope .actions → getD (now (kept .entry)) a 0 ≡ bit (A a)) → held (arrays (r .variables) (r .actions) (now (newsizes .exit)) (now (newstarts .exit)) (now (newgoal .exit)) (now (newcosts .exit)) (now (newconditions .exit)) (now (neweffects .exit))) ≡ reducedBy (held (arrays (scope .variables) (scope .actions) (now (sizes .entry)) (now (starts .entry)) (now (goal .entry)) (now (costs .entry)) (now (conditions .entry)) (now (effects .entry)))) A) ⌝ }
+    ensures origins { λ r. ⌜ ((A : ℕ → Bool) → ((a : ℕ) → a < scope .actions → getD (now (kept .entry)) a 0 ≡ bit (A a)) → heldOrigin (originArrays (r .variables) (r .actions) (now (numbers .exit)) (now (ranges .exit)) (now (rows .exit)) (now (originals .exit))) ≡ originBy (held (arrays (scope .variables) (scope .actions) (now (sizes .entry)) (now (starts .entry)) (now (goal .entry)) (now (costs .entry)) (now (conditions .entry)) (now (effects .entry)))) A) ⌝ }
+{
+    let named = named::named_facts(scope, sizes, goal, conditions, kept);
+    let changed = named::changed(scope, starts, effects, kept);
+    let values = renumber::new_values(&named, scope.variables);
+    let variables = named::kept_variables(numbers, scope, &named, &changed, starts);
+    let actions = named::originals(originals, kept, scope.actions);
+    renumber::new_sizes(newsizes, sizes, &named, numbers, variables);
+    renumber::map_row(newstarts, 0, starts, 0, numbers, variables, &values);
+    renumber::map_row(newgoal, 0, goal, 0, numbers, variables, &values);
+    renumber::map_costs(newcosts, costs, originals, actions);
+    renumber::map_rows(
+        newconditions,
+        conditions,
+        originals,
+        actions,
+        numbers,
+        variables,
+        &values,
+    );
+    renumber::map_rows(
+        neweffects,
+        effects,
+        originals,
+        actions,
+        numbers,
+        variables,
+        &values,
+    );
+    renumber::map_sizes(ranges, sizes, numbers, variables);
+    renumber::value_rows(rows, &values, numbers, variables);
+    Counts {
+        variables: variables,
+        actions: actions,
+    }
+}
