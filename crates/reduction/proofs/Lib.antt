@@ -1,4 +1,5 @@
--- Laws about the crate's definitions: what is kept, plans that correspond, and that the reduced task is accepted.
+-- Laws about the crate's definitions: what is kept, plans that correspond, and that the reduced task is accepted. Laws
+-- about the code: numbers chosen into an array, and marks set in an array of zeros.
 pub mod Computes
 pub mod KeptFacts
 pub mod KeptVariables
@@ -9,3 +10,5 @@ pub mod ReducedValid
 pub mod Preservation
 pub mod NamedHeld
 pub mod ReducedHeld
+pub mod Choosing
+pub mod FreshMarks

@@ -1,12 +1,15 @@
-use borrow.Author.Needs.{needs}
+-- The test decides the bit.
+use mathlib.Core.Path.{sym}
+use borrow.Author.Tests.{eq-eqb, ne-eqb}
+use Rattle.files.proofs.BelowLaws.{bit-true, bit-false}
 use Rattle.reduction.proofs.named.marked.Statement.{statement}
 use Rattle.reduction.proofs.named.marked.Tie as tie
 
 returns : tie.Need-returns
-returns c = search needs
+returns c = sym (bit-true _ (eq-eqb _ 1 (c .if1 .taken)))
 
 returns-2 : tie.Need-returns-2
-returns-2 c = search needs
+returns-2 c = sym (bit-false _ (ne-eqb _ 1 (c .if1 .left)))
 
 pub marked-spec : {M : Type 1} → statement M
 marked-spec = tie.close (tie.spec returns returns-2)

@@ -1,5 +1,9 @@
+-- The marks of the goal, then those of the actions, are set in an array of zeros.
+use denote.Ref.{now}
 use borrow.Author.Needs.{needs}
-use borrow.Author.Needs.{needs}
+use Rattle.marking.specs.Dense.{rowNames, namesAnew}
+use Rattle.reduction.specs.Dense.{namedAt, unmarked}
+use Rattle.reduction.proofs.FreshMarks.{fresh-marks-twice}
 use Rattle.reduction.proofs.named.named_facts.Statement.{statement}
 use Rattle.reduction.proofs.named.named_facts.Tie as tie
 
@@ -16,7 +20,18 @@ gain-facts-requires : tie.Need-gain-facts-requires
 gain-facts-requires c κs = search needs
 
 returns : tie.Need-returns
-returns c = search needs
+unfolding namedAt
+returns c =
+    let n = c .before .before .before .before .before in
+    let s = n .before .before .before in
+    let a = s .args in
+    fresh-marks-twice 2048 (a .scope .level) 2
+    (λ level. rowNames level (now (a .goal)) 0 (now (a .sizes)) (a .scope .variables))
+    (λ level. namesAnew level (now (a .conditions)) (now (a .sizes)) (a .scope .variables) (now (a .kept)) unmarked (a .scope .actions))
+    _ _
+    (s .pre .2)
+    (n .name-row .ensures)
+    (c .before .gain-facts .ensures)
 
 pub named-facts-spec : {M : Type 1} → statement M
 named-facts-spec =
