@@ -83,3 +83,75 @@ pub fn fill(
         actions: actions,
     }
 }
+
+// What came of writing the files, and how many bytes each has or would have had.
+pub struct Written {
+    pub outcome: files::Outcome,
+    pub reduced: usize,
+    pub origin: usize,
+}
+
+// Writes the files of a task and its origins that arrays hold, where both buffers are long enough.
+pub fn write(
+    counts: Counts,
+    sizes: &[u8; 64],
+    starts: &[u8; 64],
+    goal: &[u8; 64],
+    costs: &[u32; 512],
+    conditions: &[u8; 32768],
+    effects: &[u8; 32768],
+    numbers: &[u8; 64],
+    ranges: &[u8; 64],
+    rows: &[u8; 2048],
+    originals: &[u16; 512],
+    signer: u32,
+    reduced: &mut [u8],
+    origin: &mut [u8],
+) -> Written
+    requires { ⌜ (counts .variables ≤ 64) × (counts .actions ≤ 512) × (OriginSizes (now ranges) (counts .variables)) ⌝ }
+    ensures outcome { λ r. ⌜ r .outcome ≡ filesFit (held (arrays (counts .variables) (counts .actions) (now (sizes .entry)) (now (starts .entry)) (now (goal .entry)) (now (costs .entry)) (now (conditions .entry)) (now (effects .entry)))) (heldOrigin (originArrays (counts .variables) (counts .actions) (now (numbers .entry)) (now (ranges .entry)) (now (rows .entry)) (now (originals .entry)))) signer (length (now (reduced .entry))) (length (now (origin .entry))) ⌝ }
+    ensures lengths { λ r. ⌜ (r .reduced ≡ length (taskFile (held (arrays (counts .variables) (counts .actions) (now (sizes .entry)) (now (starts .entry)) (now (goal .entry)) (now (costs .entry)) (now (conditions .entry)) (now (effects .entry)))) signer)) × (r .origin ≡ length (originFile (heldOrigin (originArrays (counts .variables) (counts .actions) (now (numbers .entry)) (now (ranges .entry)) (now (rows .entry)) (now (originals .entry)))) signer)) ⌝ }
+    ensures reduced { λ r. ⌜ now (reduced .exit) ≡ after (r .outcome) (taskFile (held (arrays (counts .variables) (counts .actions) (now (sizes .entry)) (now (starts .entry)) (now (goal .entry)) (now (costs .entry)) (now (conditions .entry)) (now (effects .entry)))) signer) (now (reduced .entry)) ⌝ }
+    ensures origin { λ r. ⌜ now (origin .exit) ≡ after (r .outcome) (originFile (heldOrigin (originArrays (counts .variables) (counts .actions) (now (numbers .entry)) (now (ranges .entry)) (now (rows .entry)) (now (originals .entry)))) signer) (now (origin .entry)) ⌝ }
+{
+    let v = counts.variables;
+    let n = counts.actions;
+    let first = files::write::task_needed(v, n, goal, conditions, effects);
+    let second = files::write_origin::origin_needed(v, n, ranges);
+    if reduced.len() < first {
+        let short = outcomes::refuse(21, first);
+        return Written {
+            outcome: short,
+            reduced: first,
+            origin: second,
+        };
+    }
+    if origin.len() < second {
+        let short = outcomes::refuse(21, second);
+        return Written {
+            outcome: short,
+            reduced: first,
+            origin: second,
+        };
+    }
+    let by = signer as usize;
+    files::write::write_task(
+        reduced,
+        v,
+        n,
+        sizes,
+        starts,
+        goal,
+        costs,
+        conditions,
+        effects,
+        by,
+    );
+    files::write_origin::write_origin(origin, v, n, numbers, ranges, rows, originals, by);
+    let done = outcomes::done();
+    Written {
+        outcome: done,
+        reduced: first,
+        origin: second,
+    }
+}
