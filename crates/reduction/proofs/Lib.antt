@@ -7,3 +7,4 @@ pub mod Correspondence
 pub mod ReducedLength
 pub mod ReducedValid
 pub mod Preservation
+pub mod Rows
