@@ -1,4 +1,4 @@
--- Laws about the crate's definitions: what is kept, plans that correspond, and that the reduced task is accepted.
+-- Laws about the crate's definitions: what is kept, plans that correspond, that the reduced task is accepted, and rows that are filled.
 pub mod Computes
 pub mod KeptFacts
 pub mod KeptVariables

@@ -3,7 +3,6 @@ use Prim.Native.Nat.{ℕ, _+_, _*_, _-_, _≤_, _<_}
 use mathlib.Core.Path.{_≡_, refl, _∙_}
 use native.Mathlib.Omega.{arith}
 use lib.ListN.{length, getD}
-use denote.Ref.{now}
 use borrow.Author.Count.{below-more}
 use Rattle.reduction.specs.Dense.{mappedEntry}
 use borrow.Author.Needs.{needs}
