@@ -1,5 +1,5 @@
 -- Laws about the crate's definitions: what is kept, plans that correspond, and that the reduced task is accepted. Laws
--- about the code: numbers chosen into an array, and marks set in an array of zeros.
+-- about the code: numbers chosen into an array, marks set in an array of zeros, and arrays that hold the reduced task.
 pub mod Computes
 pub mod KeptFacts
 pub mod KeptVariables
@@ -8,7 +8,8 @@ pub mod Correspondence
 pub mod ReducedLength
 pub mod ReducedValid
 pub mod Preservation
-pub mod NamedHeld
-pub mod ReducedHeld
 pub mod Choosing
 pub mod FreshMarks
+pub mod Rows
+pub mod NamedHeld
+pub mod ReducedHeld

@@ -1,15 +1,27 @@
+-- The loop's invariant: the entries before `d` are copied, and those below `to` are as they were.
+use Prim.Native.Nat.{ℕ, _+_, _-_, _≤_, _<_}
+use mathlib.Core.Path.{_≡_, refl, _∙_}
+use native.Mathlib.Omega.{arith}
+use lib.ListN.{length, length-set, getD}
+use denote.Ref.{now}
+use Rattle.marking.proofs.LoopCounts.{row-next}
+use Rattle.reduction.proofs.Rows.{below-next}
 use borrow.Author.Needs.{needs}
 use Rattle.reduction.proofs.renumber.copy_row.Statement.{statement}
 use Rattle.reduction.proofs.renumber.copy_row.Tie as tie
 
 abbrev Inv-loop : tie.InvT-loop
-Inv-loop row₀ to old from d₀ row d = ?
+Inv-loop row₀ to old from d₀ row d =
+    (length row ≡ length row₀)
+    × ((j : ℕ) → j < d → getD row (to + j) 0 ≡ getD old (from + j) 0)
+    × ((j : ℕ) → j < to → getD row j 0 ≡ getD row₀ j 0)
+    × (d ≤ 32)
 
 abbrev μ-loop : tie.MeasureT-loop
-μ-loop row₀ to old from d₀ row d = ?
+μ-loop row₀ to old from d₀ row d = 32 - d
 
 loop-holds : tie.Need-loop-holds Inv-loop μ-loop
-loop-holds c = search needs
+loop-holds c = (refl, λ j h. absurd (omega arith), λ j h. refl, omega arith)
 
 add-row : tie.Need-add-row Inv-loop μ-loop
 add-row c = search needs
@@ -30,13 +42,22 @@ loop-less : tie.Need-loop-less Inv-loop μ-loop
 loop-less c = search needs
 
 loop-again : tie.Need-loop-again Inv-loop μ-loop
-loop-again c = search needs
+loop-again c =
+    let l = c .before .before .loop in
+    let a = c .before .before .before .args in (
+      length-set (l .row) _ _ ∙ l .inv .0,
+      row-next (λ j. getD (now (a .old)) (a .from + j) 0) (l .row) (a .to) (l .d) _ (omega arith) (l .inv .1) refl,
+      below-next (now (a .row)) (l .row) (a .to) (l .d) _ (l .inv .2),
+      omega arith,
+    )
 
 same-length : tie.Need-same-length Inv-loop μ-loop
-same-length c = search needs
+same-length c = c .before .loop .inv .0
 
 returns : tie.Need-returns Inv-loop μ-loop
-returns c = search needs
+returns c =
+    let l = c .before .loop in
+    (l .inv .0, λ d h. l .inv .1 d (omega arith), l .inv .2)
 
 pub copy-row-spec : {M : Type 1} → statement M
 copy-row-spec =

@@ -1,15 +1,25 @@
+-- The loop's invariant: the entries before `j` are those of the numbers there.
+use Prim.Native.Nat.{ℕ, _-_, _≤_, _<_}
+use mathlib.Core.Path.{_≡_, refl, _∙_}
+use native.Mathlib.Omega.{arith}
+use lib.ListN.{length, length-set, getD}
+use denote.Ref.{now}
+use Rattle.files.proofs.Filling.{filled-before}
 use borrow.Author.Needs.{needs}
 use Rattle.reduction.proofs.renumber.map_costs.Statement.{statement}
 use Rattle.reduction.proofs.renumber.map_costs.Tie as tie
 
 abbrev Inv-loop : tie.InvT-loop
-Inv-loop costs₀ old originals actions j₀ costs j = ?
+Inv-loop costs₀ old originals actions j₀ costs j =
+    (length costs ≡ length costs₀)
+    × ((k : ℕ) → k < j → getD costs k 0 ≡ getD old (getD originals k 0) 0)
+    × (j ≤ actions)
 
 abbrev μ-loop : tie.MeasureT-loop
-μ-loop costs₀ old originals actions j₀ costs j = ?
+μ-loop costs₀ old originals actions j₀ costs j = actions - j
 
 loop-holds : tie.Need-loop-holds Inv-loop μ-loop
-loop-holds c = search needs
+loop-holds c = (refl, λ k h. absurd (omega arith), omega arith)
 
 mul-costs : tie.Need-mul-costs Inv-loop μ-loop
 mul-costs c = search needs
@@ -18,13 +28,13 @@ element-copy-out-costs : tie.Need-element-copy-out-costs Inv-loop μ-loop
 element-copy-out-costs c = search needs
 
 cast-costs : tie.Need-cast-costs Inv-loop μ-loop
-cast-costs c = search needs
+cast-costs c = omega (arith, c .before .before .before .pre .2 (c .before .before .loop .j) (c .before .loop-test .taken))
 
 mul-costs-2 : tie.Need-mul-costs-2 Inv-loop μ-loop
-mul-costs-2 c = search needs
+mul-costs-2 c = omega (arith, c .before .before .before .pre .2 (c .before .before .loop .j) (c .before .loop-test .taken))
 
 element-copy-out-costs-2 : tie.Need-element-copy-out-costs-2 Inv-loop μ-loop
-element-copy-out-costs-2 c = search needs
+element-copy-out-costs-2 c = c .before .before .before .pre .2 (c .before .before .loop .j) (c .before .loop-test .taken)
 
 mul-costs-3 : tie.Need-mul-costs-3 Inv-loop μ-loop
 mul-costs-3 c = search needs
@@ -39,13 +49,19 @@ loop-less : tie.Need-loop-less Inv-loop μ-loop
 loop-less c = search needs
 
 loop-again : tie.Need-loop-again Inv-loop μ-loop
-loop-again c = search needs
+loop-again c =
+    let l = c .before .before .before .loop in
+    let a = c .before .before .before .before .args in (
+      length-set (l .costs) _ _ ∙ l .inv .0,
+      filled-before (l .costs) (l .j) _ (λ k x. x ≡ getD (now (a .old)) (getD (now (a .originals)) k 0) 0) (omega arith) (l .inv .1) refl,
+      omega arith,
+    )
 
 same-length : tie.Need-same-length Inv-loop μ-loop
-same-length c = search needs
+same-length c = c .before .loop .inv .0
 
 returns : tie.Need-returns Inv-loop μ-loop
-returns c = search needs
+returns c = λ k h. c .before .loop .inv .1 k (omega arith)
 
 pub map-costs-spec : {M : Type 1} → statement M
 map-costs-spec =
