@@ -53,23 +53,23 @@ answer-done o stages t level actions facts rounds z q a f r = rw (← q, is-done
 pub refusal-number : (o : Outcome) (n place : ℕ) → 0 < n → o ≡ refusal n place → o .number ≡ 0 → ⊥
 refusal-number o n place h e z = omega (arith, ap (λ (x : Outcome). x .number) e)
 
--- room for both marks
-module _ (t : Task) (actionRoom factRoom actions facts : ℕ) (a : actions ≡ actionCount t) (f : facts ≡ factCount t) where
-  pub actions-short : (o : Outcome) → actionRoom < actions → o ≡ refusal 21 actions → o ≡ marksFit t actionRoom factRoom
-  unfolding marksFit fits
-  actions-short o h e = stops-le (actionCount t) actionRoom 21 (actionCount t) _ o actions actionRoom a refl h (e ∙ ap (refusal 21) a)
+-- room for two results, the first before the second
+module _ (needed other room rest first second : ℕ) (a : first ≡ needed) (b : second ≡ other) where
+  pub first-short : (o : Outcome) → room < first → o ≡ refusal 21 first → o ≡ fits needed room (fits other rest done)
+  unfolding fits
+  first-short o h e = stops-le needed room 21 needed _ o first room a refl h (e ∙ ap (refusal 21) a)
 
-  pub facts-short : (o : Outcome) → actions ≤ actionRoom → factRoom < facts → o ≡ refusal 21 facts → o ≡ marksFit t actionRoom factRoom
-  unfolding marksFit fits
-  facts-short o h k e =
-      goes-le (actionCount t) actionRoom 21 (actionCount t) _ o actions actionRoom a refl h
-      (stops-le (factCount t) factRoom 21 (factCount t) _ o facts factRoom f refl k (e ∙ ap (refusal 21) f))
+  pub second-short : (o : Outcome) → first ≤ room → rest < second → o ≡ refusal 21 second → o ≡ fits needed room (fits other rest done)
+  unfolding fits
+  second-short o h k e =
+      goes-le needed room 21 needed _ o first room a refl h
+      (stops-le other rest 21 other _ o second rest b refl k (e ∙ ap (refusal 21) b))
 
-  pub both-fit : (o : Outcome) → actions ≤ actionRoom → facts ≤ factRoom → o ≡ done → o ≡ marksFit t actionRoom factRoom
-  unfolding marksFit fits
+  pub both-fit : (o : Outcome) → first ≤ room → second ≤ rest → o ≡ done → o ≡ fits needed room (fits other rest done)
+  unfolding fits
   both-fit o h k e =
-      goes-le (actionCount t) actionRoom 21 (actionCount t) _ o actions actionRoom a refl h
-      (goes-le (factCount t) factRoom 21 (factCount t) _ o facts factRoom f refl k e)
+      goes-le needed room 21 needed _ o first room a refl h
+      (goes-le other rest 21 other _ o second rest b refl k e)
 
 -- the bytes that are written
 joined-same : (n : ℕ) (f g : ℕ → List ℕ) → ((v : ℕ) → v < n → f v ≡ g v) → joinBelow n f ≡ joinBelow n g

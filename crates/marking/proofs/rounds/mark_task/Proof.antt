@@ -8,8 +8,9 @@ use Rattle.files.specs.declared.Outcome.{Outcome}
 use Rattle.files.specs.Dense.{Arrays, held, arrays}
 use Rattle.files.specs.Task.{actionCount, factCount}
 use Rattle.files.proofs.Valid.{Valid, task-valid}
+use Rattle.marking.specs.Mark.{marksFit}
 use Rattle.marking.proofs.HeldTask.{variables-held, actions-held, size-held}
-use Rattle.marking.proofs.MarkLaws.{answer-refused, buffer-untouched, answer-done, refusal-number, actions-short, facts-short, both-fit, facts-held, action-bytes, fact-bytes, actions-written, facts-written}
+use Rattle.marking.proofs.MarkLaws.{answer-refused, buffer-untouched, answer-done, refusal-number, first-short, second-short, both-fit, facts-held, action-bytes, fact-bytes, actions-written, facts-written}
 use borrow.Author.Needs.{needs}
 use Rattle.marking.proofs.rounds.mark_task.Statement.{statement}
 use Rattle.marking.proofs.rounds.mark_task.Tie as tie
@@ -44,12 +45,13 @@ refused-requires : tie.Need-refused-requires
 refused-requires c κs = search needs
 
 returns : tie.Need-returns
+unfolding marksFit
 returns c =
     let n = c .before .before .before in
     let s = to-start n in
     let d = task s in
     let refused = refusal-number _ 21 _ (omega arith) (c .before .refuse .ensures) in (
-      answer-refused _ _ refused (c .refused .ensures) _ (held d) (s .args .scope .level) (actions-short (held d) _ _ _ _ (sym (actions-held d)) (facts-are n) _ (c .before .before .if1 .taken) (c .before .refuse .ensures)),
+      answer-refused _ _ refused (c .refused .ensures) _ (held d) (s .args .scope .level) (first-short _ _ _ _ _ _ (sym (actions-held d)) (facts-are n) _ (c .before .before .if1 .taken) (c .before .refuse .ensures)),
       (buffer-untouched _ _ refused (c .refused .ensures) _ _, buffer-untouched _ _ refused (c .refused .ensures) _ _),
     )
 
@@ -60,12 +62,13 @@ refused-requires-2 : tie.Need-refused-requires-2
 refused-requires-2 c κs = search needs
 
 returns-2 : tie.Need-returns-2
+unfolding marksFit
 returns-2 c =
     let n = c .before .before .before .before in
     let s = to-start n in
     let d = task s in
     let refused = refusal-number _ 21 _ (omega arith) (c .before .refuse2 .ensures) in (
-      answer-refused _ _ refused (c .refused2 .ensures) _ (held d) (s .args .scope .level) (facts-short (held d) _ _ _ _ (sym (actions-held d)) (facts-are n) _ (c .before .before .before .if1 .left) (c .before .before .if2 .taken) (c .before .refuse2 .ensures)),
+      answer-refused _ _ refused (c .refused2 .ensures) _ (held d) (s .args .scope .level) (second-short _ _ _ _ _ _ (sym (actions-held d)) (facts-are n) _ (c .before .before .before .if1 .left) (c .before .before .if2 .taken) (c .before .refuse2 .ensures)),
       (buffer-untouched _ _ refused (c .refused2 .ensures) _ _, buffer-untouched _ _ refused (c .refused2 .ensures) _ _),
     )
 
@@ -105,6 +108,7 @@ same-length-2 : tie.Need-same-length-2
 same-length-2 c = search needs
 
 returns-3 : tie.Need-returns-3
+unfolding marksFit
 returns-3 c =
     let w = c .before .before .before in
     let k = w .before .before .before .before .before .before in
@@ -114,7 +118,7 @@ returns-3 c =
     let d = task s in
     let level = s .args .scope .level in
     let zero : c .done .result .number ≡ 0 = ap (λ (o : Outcome). o .number) (c .done .ensures) in (
-      answer-done _ _ (held d) level _ _ _ zero (both-fit (held d) _ _ _ _ (sym (actions-held d)) (facts-are n) _ (r .before .before .if1 .left) (r .before .if2 .left) (c .done .ensures)) (sym (actions-held d)) (facts-are n) (r .run .ensures .count),
+      answer-done _ _ (held d) level _ _ _ zero (both-fit _ _ _ _ _ _ (sym (actions-held d)) (facts-are n) _ (r .before .before .if1 .left) (r .before .if2 .left) (c .done .ensures)) (sym (actions-held d)) (facts-are n) (r .run .ensures .count),
       (
         actions-written d (valid s) level _ zero _ _ (omega (arith, actions-held d, r .before .before .if1 .left)) _ (action-bytes d (valid s) level _ _ _ _ (r .run .ensures)) (k .write-actions .ensures),
         facts-written d (valid s) level _ zero _ _ (omega (arith, facts-are n, r .before .if2 .left)) _ (fact-bytes d (valid s) level _ _ _ _ (r .run .ensures)) (w .write-facts .ensures),
