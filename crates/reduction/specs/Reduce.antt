@@ -35,6 +35,9 @@ pub record Rooms : Type 0 where
   pub reduced : ℕ
   pub origin : ℕ
 
+abbrev pub rooms : ℕ → ℕ → ℕ → ℕ → Rooms
+rooms actions facts reduced origin = record { actions = actions; facts = facts; reduced = reduced; origin = origin }
+
 -- the stages check and marking: the file, the level, the signer, the room for the marks
 unfoldable pub markStage : List ℕ → ℕ → ℕ → Rooms → Outcome
 markStage task level signer room =
@@ -54,10 +57,8 @@ abbrev pub noFiles : Outcome → Reduced
 noFiles o = record { outcome = o; actions = 0; facts = 0; reduced = 0; origin = 0; rounds = 0 }
 
 -- an outcome with lengths and rounds
-unfoldable pub reduce : List ℕ → ℕ → ℕ → Rooms → Reduced
-reduce task level signer room =
-    let o = reduceStage task level signer room in
-    let t = taskOf task in
+unfoldable pub reduceAnswer : Outcome → Task → ℕ → ℕ → Reduced
+reduceAnswer o t level signer =
     let answer : Reduced =
     record {
       outcome = o;
@@ -69,6 +70,9 @@ reduce task level signer room =
     }
     in
     cond (isDone o) answer (noFiles o)
+
+unfoldable pub reduce : List ℕ → ℕ → ℕ → Rooms → Reduced
+reduce task level signer room = reduceAnswer (reduceStage task level signer room) (taskOf task) level signer
 
 -- each buffer after the call: a finished stage's holds its result, a later one is untouched
 unfoldable pub reducedActionMarks : List ℕ → ℕ → ℕ → Rooms → List ℕ → List ℕ

@@ -155,3 +155,69 @@ pub fn write(
         origin: second,
     }
 }
+
+// Writes the files of the reduced task, for the actions that are marked, where both buffers are
+// long enough.
+pub fn write_reduced(
+    scope: Scope,
+    sizes: &[u8; 64],
+    starts: &[u8; 64],
+    goal: &[u8; 64],
+    costs: &[u32; 512],
+    conditions: &[u8; 32768],
+    effects: &[u8; 32768],
+    kept: &[u8; 512],
+    signer: u32,
+    reduced: &mut [u8],
+    origin: &mut [u8],
+) -> Written
+    requires { ⌜ (acceptedTask (held (arrays (scope .variables) (scope .actions) (now sizes) (now starts) (now goal) (now costs) (now conditions) (now effects))) ≡ true) × (scope .level ≡ 2) ⌝ }
+    ensures { λ r. ⌜ ((A : ℕ → Bool) → ((a : ℕ) → a < scope .actions → getD (now (kept .entry)) a 0 ≡ bit (A a)) → (r .outcome ≡ filesFit (reducedBy (held (arrays (scope .variables) (scope .actions) (now (sizes .entry)) (now (starts .entry)) (now (goal .entry)) (now (costs .entry)) (now (conditions .entry)) (now (effects .entry)))) A) (originBy (held (arrays (scope .variables) (scope .actions) (now (sizes .entry)) (now (starts .entry)) (now (goal .entry)) (now (costs .entry)) (now (conditions .entry)) (now (effects .entry)))) A) signer (length (now (reduced .entry))) (length (now (origin .entry)))) × (r .reduced ≡ length (taskFile (reducedBy (held (arrays (scope .variables) (scope .actions) (now (sizes .entry)) (now (starts .entry)) (now (goal .entry)) (now (costs .entry)) (now (conditions .entry)) (now (effects .entry)))) A) signer)) × (r .origin ≡ length (originFile (originBy (held (arrays (scope .variables) (scope .actions) (now (sizes .entry)) (now (starts .entry)) (now (goal .entry)) (now (costs .entry)) (now (conditions .entry)) (now (effects .entry)))) A) signer)) × (now (reduced .exit) ≡ after (r .outcome) (taskFile (reducedBy (held (arrays (scope .variables) (scope .actions) (now (sizes .entry)) (now (starts .entry)) (now (goal .entry)) (now (costs .entry)) (now (conditions .entry)) (now (effects .entry)))) A) signer) (now (reduced .entry))) × (now (origin .exit) ≡ after (r .outcome) (originFile (originBy (held (arrays (scope .variables) (scope .actions) (now (sizes .entry)) (now (starts .entry)) (now (goal .entry)) (now (costs .entry)) (now (conditions .entry)) (now (effects .entry)))) A) signer) (now (origin .entry)))) ⌝ }
+{
+    let mut a = [0u8; 64];
+    let mut b = [0u8; 64];
+    let mut g = [0u8; 64];
+    let mut m = [0u32; 512];
+    let mut c = [0u8; 32768];
+    let mut e = [0u8; 32768];
+    let mut n = [0u8; 64];
+    let mut s = [0u8; 64];
+    let mut v = [0u8; 2048];
+    let mut o = [0u16; 512];
+    let counts = fill(
+        scope,
+        sizes,
+        starts,
+        goal,
+        costs,
+        conditions,
+        effects,
+        kept,
+        &mut a,
+        &mut b,
+        &mut g,
+        &mut m,
+        &mut c,
+        &mut e,
+        &mut n,
+        &mut s,
+        &mut v,
+        &mut o,
+    );
+    write(
+        counts,
+        &a,
+        &b,
+        &g,
+        &m,
+        &c,
+        &e,
+        &n,
+        &s,
+        &v,
+        &o,
+        signer,
+        reduced,
+        origin,
+    )
+}

@@ -1,7 +1,14 @@
 // Reduction: the reduced task and its origins, and the condition pairs of an action.
+// The calls open to callers are reduce and conditions; the module row serves the layers above.
 mod arrays;
 mod named;
 mod renumber;
+pub mod row;
+
+ghost use mathlib.Core.Path.{_≡_};
+ghost use lib.ListN.{length};
+ghost use Rattle.reduction.specs.Reduce.{rooms, reduce, reducedActionMarks, reducedFactMarks, reducedBuffer, originBuffer};
+use files::outcomes;
 
 // What reduction answers: the four lengths written and the round count, 0 beside a refusal.
 pub struct Reduced {
@@ -11,4 +18,66 @@ pub struct Reduced {
     pub reduced: usize,
     pub origin: usize,
     pub rounds: usize,
+}
+
+// Marks the task of a task file at a level, and writes the files of its reduced task and of its
+// origins under a signer.
+pub fn reduce(
+    task: &[u8],
+    level: u32,
+    signer: u32,
+    actions: &mut [u8],
+    facts: &mut [u8],
+    reduced: &mut [u8],
+    origin: &mut [u8],
+) -> Reduced
+    ensures answer { λ r. ⌜ r ≡ reduce (now (task .entry)) level signer (rooms (length (now (actions .entry))) (length (now (facts .entry))) (length (now (reduced .entry))) (length (now (origin .entry)))) ⌝ }
+    ensures actions { λ r. ⌜ now (actions .exit) ≡ reducedActionMarks (now (task .entry)) level signer (rooms (length (now (actions .entry))) (length (now (facts .entry))) (length (now (reduced .entry))) (length (now (origin .entry)))) (now (actions .entry)) ⌝ }
+    ensures facts { λ r. ⌜ now (facts .exit) ≡ reducedFactMarks (now (task .entry)) level signer (rooms (length (now (actions .entry))) (length (now (facts .entry))) (length (now (reduced .entry))) (length (now (origin .entry)))) (now (facts .entry)) ⌝ }
+    ensures reduced { λ r. ⌜ now (reduced .exit) ≡ reducedBuffer (now (task .entry)) level signer (rooms (length (now (actions .entry))) (length (now (facts .entry))) (length (now (reduced .entry))) (length (now (origin .entry)))) (now (reduced .entry)) ⌝ }
+    ensures origin { λ r. ⌜ now (origin .exit) ≡ originBuffer (now (task .entry)) level signer (rooms (length (now (actions .entry))) (length (now (facts .entry))) (length (now (reduced .entry))) (length (now (origin .entry)))) (now (origin .entry)) ⌝ }
+{
+    let mut sizes = [0u8; 64];
+    let mut starts = [0u8; 64];
+    let mut goal = [0u8; 64];
+    let mut costs = [0u32; 512];
+    let mut conditions = [0u8; 32768];
+    let mut effects = [0u8; 32768];
+    let read = files::decode::read_task(
+        task,
+        &mut sizes,
+        &mut starts,
+        &mut goal,
+        &mut costs,
+        &mut conditions,
+        &mut effects,
+    );
+    if read.number != 0 {
+        return row::refused(read);
+    }
+    if !marking::rounds::valid_level(level) {
+        return row::refused(outcomes::refuse(8, 0));
+    }
+    if signer < 1 {
+        return row::refused(outcomes::refuse(7, 0));
+    }
+    let scope = marking::rounds::Scope {
+        level: level,
+        variables: files::task::variables_in(task),
+        actions: files::task::actions_in(task),
+    };
+    row::reduce_task(
+        scope,
+        &sizes,
+        &starts,
+        &goal,
+        &costs,
+        &conditions,
+        &effects,
+        signer,
+        actions,
+        facts,
+        reduced,
+        origin,
+    )
 }
