@@ -14,3 +14,4 @@ pub mod Rows
 pub mod NamedHeld
 pub mod ReducedHeld
 pub mod Filled
+pub mod ReduceRow
