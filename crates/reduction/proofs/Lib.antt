@@ -13,3 +13,4 @@ pub mod FreshMarks
 pub mod Rows
 pub mod NamedHeld
 pub mod ReducedHeld
+pub mod StretchLaws
