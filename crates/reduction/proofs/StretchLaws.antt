@@ -1,16 +1,15 @@
 -- Conditions of an accepted file: the pairs of each action lie within it; and what a stretch that is not refused has passed.
 use Prim.Native.Nat.{ℕ, zero, suc, _+_, _-_, _*_, _≤_, _<_}
 use mathlib.Core.Path.{_≡_, refl, sym, ap, _∙_}
-use mathlib.Core.Bool.{true, false, cond}
 use mathlib.Core.List.{List, []}
 use native.Mathlib.Omega.{arith}
 use lib.ListN.{length, take, drop}
 use lib.Dec.{eqb}
 use Rattle.files.specs.declared.Outcome.{Outcome}
-use Rattle.files.specs.Outcome.{isDone, inSecond}
+use Rattle.files.specs.Outcome.{inSecond}
 use Rattle.files.specs.Records.{recordEnd, recordsEnd, bodyRule, bodyFits, headAt, sizeFits}
 use Rattle.files.specs.Task.{actionCount}
-use Rattle.files.specs.TaskFile.{headerAt, actionsIn, conditionsIn, effectsIn, actionLength, actionFormAt, actionAt, actionsAt, actionsPlace, actionPlace, checkTask, taskOf}
+use Rattle.files.specs.TaskFile.{headerAt, actionsIn, conditionsIn, actionLength, actionFormAt, actionAt, actionsAt, actionsPlace, actionPlace, checkTask, taskOf}
 use Rattle.files.proofs.Done.{facts}
 use Rattle.files.proofs.Guards.{is-done, is-refused}
 use Rattle.files.proofs.Logic.{cond-case}
@@ -48,7 +47,7 @@ module _ (s : List ℕ) (a at n : ℕ) (place : at ≡ actionPlace s a) (count :
       let long : at + 12 + 4 * n - (at + 12) ≡ 4 * conditionsIn s (actionPlace s a) = omega (arith, same-count) in
       rw (long, place) refl
 
--- a stretch that is done has two accepted files, and its action is one of the side's
+-- where a stretch is done, the side's file is accepted and has the action
 pub record Passed (full reduced : List ℕ) (side a : ℕ) : Type 0 where
   pub accepted : checkTask (sideOf side full reduced) .number ≡ 0
   pub below : a < actionsIn (sideOf side full reduced)
