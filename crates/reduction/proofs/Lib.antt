@@ -9,6 +9,8 @@ pub mod Correspondence
 pub mod ReducedLength
 pub mod ReducedValid
 pub mod Preservation
+pub mod OriginAccepted
+pub mod FilesPreserved
 pub mod Choosing
 pub mod FreshMarks
 pub mod Rows

@@ -63,7 +63,7 @@ validPairs-lower t low high (p ∷ ps) h e = let first = simp facts at e in simp
 
 module _ (t : Task) (A : ℕ → Bool) where
   -- new values lie in the new size, which is at most the old one
-  newValue-inside : (v value : ℕ) → value < sizeOf t v → newValue t A v value < newSize t A v
+  pub newValue-inside : (v value : ℕ) → value < sizeOf t v → newValue t A v value < newSize t A v
   unfolding newValue newSize namedCount
   newValue-inside v value h =
       split (named t A v value)
@@ -72,7 +72,7 @@ module _ (t : Task) (A : ℕ → Bool) where
       let over : anyBelow (sizeOf t v) (λ x. not (named t A v x)) ≡ true = anyBelow-intro (sizeOf t v) (λ x. not (named t A v x)) value h (rw n) in
       rw (n, over) (omega arith))
 
-  newSize-most : (v : ℕ) → newSize t A v ≤ sizeOf t v
+  pub newSize-most : (v : ℕ) → newSize t A v ≤ sizeOf t v
   unfolding newSize namedCount
   newSize-most v =
       split (anyBelow (sizeOf t v) (λ x. not (named t A v x)))

@@ -2,7 +2,7 @@
 pub mod Named
 pub mod Renumber
 pub mod Task
-pub mod Preserved
 pub mod Reduce
+pub mod Preserved
 pub mod Stretch
 pub mod Dense
