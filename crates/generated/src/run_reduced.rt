@@ -7,7 +7,8 @@ use crate::expected;
 use crate::expected::Numbers;
 use crate::generate;
 use crate::lengths;
-use crate::print;
+use crate::print::print_difference;
+use crate::print::print_labelled;
 use crate::reduced_file;
 use crate::reduced_file::Written;
 use crate::totals;
@@ -61,41 +62,58 @@ fn run_task(number: usize, level: u32, state: &mut u64, sums: &mut [usize; 10]) 
     let written = reduced_file::write(&task, level, &mut reduced, &mut origin);
     add_task(sums, written);
     let answer = done(numbers, written);
-    let case = lengths::longer(answer);
     let differ = differs(
         &file,
         length,
         level,
-        case,
+        lengths::longer(answer),
         &actions,
         &facts,
         &reduced,
         &origin,
     );
     totals::add(sums, DIFFER, differ as usize);
-    print::print_difference(b" differs reduced at level ", number, level, differ);
+    print_difference(b" differs reduced at level ", number, level, differ);
     if number % 3 == 0 {
-        totals::add(sums, LENGTHS, 1);
-        let case = lengths::exact(answer);
-        let differ = differs(
+        run_lengths(
+            number,
+            level,
             &file,
             length,
-            level,
-            case,
+            answer,
             &actions,
             &facts,
             &reduced,
             &origin,
+            sums,
         );
-        totals::add(sums, EXACT, differ as usize);
-        print::print_difference(
-            b" differs with exact buffers at level ",
-            number,
-            level,
-            differ,
-        );
-        run_short(number, level, &file, length, answer, &actions, &facts, sums);
     }
+}
+
+// Reduces a task with buffers of other lengths.
+fn run_lengths(
+    number: usize,
+    level: u32,
+    file: &[u8; 2048],
+    length: usize,
+    answer: reduction::Reduced,
+    actions: &[u8; 48],
+    facts: &[u8; 48],
+    reduced: &[u8; 2048],
+    origin: &[u8; 2048],
+    sums: &mut [usize; 10],
+) {
+    let case = lengths::exact(answer);
+    let differ = differs(file, length, level, case, actions, facts, reduced, origin);
+    totals::add(sums, LENGTHS, 1);
+    totals::add(sums, EXACT, differ as usize);
+    print_difference(
+        b" differs with exact buffers at level ",
+        number,
+        level,
+        differ,
+    );
+    run_short(number, level, file, length, answer, actions, facts, sums);
 }
 
 // Reduces a task with short buffers: the marks are written, both files are left as they are.
@@ -111,19 +129,13 @@ fn run_short(
 ) {
     let left = compare_reduced::lent_file();
     let case = lengths::short_reduced(answer);
-    let differ = differs(file, length, level, case, actions, facts, &left, &left);
-    totals::add(sums, SHORT_REDUCED, differ as usize);
-    print::print_difference(
-        b" differs with a short reduced buffer at level ",
-        number,
-        level,
-        differ,
-    );
+    let one = differs(file, length, level, case, actions, facts, &left, &left);
     let case = lengths::short_both(answer);
-    let differ = differs(file, length, level, case, actions, facts, &left, &left);
+    let both = differs(file, length, level, case, actions, facts, &left, &left);
+    let differ = one || both;
     totals::add(sums, SHORT_REDUCED, differ as usize);
-    print::print_difference(
-        b" differs with two short buffers at level ",
+    print_difference(
+        b" differs with a short reduced buffer at level ",
         number,
         level,
         differ,
@@ -131,7 +143,7 @@ fn run_short(
     let case = lengths::short_origin(answer);
     let differ = differs(file, length, level, case, actions, facts, &left, &left);
     totals::add(sums, SHORT_ORIGIN, differ as usize);
-    print::print_difference(
+    print_difference(
         b" differs with a short origin buffer at level ",
         number,
         level,
@@ -164,21 +176,21 @@ fn done(numbers: Numbers, written: Written) -> reduction::Reduced {
 }
 
 fn print_totals(level: u32, sums: &[usize; 10]) {
-    print::print_labelled(b"reduced at level ", level as usize);
-    print::print_labelled(b": tasks ", sums[TASKS]);
-    print::print_labelled(b", differ ", sums[DIFFER]);
-    print::print_labelled(b", variables kept ", sums[VARIABLES]);
-    print::print_labelled(b", actions kept ", sums[ACTIONS]);
-    print::print_labelled(b", bytes ", sums[REDUCED]);
-    print::print_labelled(b", bytes of origins ", sums[ORIGIN]);
+    print_labelled(b"reduced at level ", level as usize);
+    print_labelled(b": tasks ", sums[TASKS]);
+    print_labelled(b", differ ", sums[DIFFER]);
+    print_labelled(b", variables kept ", sums[VARIABLES]);
+    print_labelled(b", actions kept ", sums[ACTIONS]);
+    print_labelled(b", bytes ", sums[REDUCED]);
+    print_labelled(b", bytes of origins ", sums[ORIGIN]);
     io::write_all(1, b"\n");
 }
 
 fn print_lengths(level: u32, sums: &[usize; 10]) {
-    print::print_labelled(b"other lengths at level ", level as usize);
-    print::print_labelled(b": tasks ", sums[LENGTHS]);
-    print::print_labelled(b", differ with exact buffers ", sums[EXACT]);
-    print::print_labelled(b", with a short reduced buffer ", sums[SHORT_REDUCED]);
-    print::print_labelled(b", with a short origin buffer ", sums[SHORT_ORIGIN]);
+    print_labelled(b"other lengths at level ", level as usize);
+    print_labelled(b": tasks ", sums[LENGTHS]);
+    print_labelled(b", differ with exact buffers ", sums[EXACT]);
+    print_labelled(b", with a short reduced buffer ", sums[SHORT_REDUCED]);
+    print_labelled(b", with a short origin buffer ", sums[SHORT_ORIGIN]);
     io::write_all(1, b"\n");
 }
