@@ -87,7 +87,7 @@ module _ (d : Arrays) (ok : Valid (held d)) (level : ℕ) where
   abbrev m : Marks
   m = marking (held d) level .marks
 
-  actions-long : length (m .actions) ≡ actionCount (held d)
+  pub actions-long : length (m .actions) ≡ actionCount (held d)
   unfolding nextActions
   actions-long =
       ap length (sym (ap (λ (k : Marks). k .actions) (marking-fixed (held d) level ok .same)) ∙ round-actions (held d) level m)
@@ -112,7 +112,7 @@ module _ (d : Arrays) (ok : Valid (held d)) (level : ℕ) where
         ∙ tabulate-same (λ e. entryMark (getD facts (32 * v + e) 0) (getD unlinked (32 * v + e) 0)) (factMark (held d) level m v) (sizeOf (held d) v) 0 (λ e k. f .fact v e known k))
         ∙ ap (λ (n : ℕ). joinBelow n (λ v. tabulate (sizeOf (held d) v) (factMark (held d) level m v))) (sym (variables-held d))
 
-  action-marks-long : length (actionMarksOf (held d) level) ≡ actionCount (held d)
+  pub action-marks-long : length (actionMarksOf (held d) level) ≡ actionCount (held d)
   unfolding actionMarksOf
   action-marks-long = length-map (m .actions) bit ∙ actions-long
 

@@ -1,5 +1,6 @@
 -- Laws about the crate's definitions: what is kept, plans that correspond, and that the reduced task is accepted. Laws
--- about the code: numbers chosen into an array, marks set in an array of zeros, and arrays that hold the reduced task.
+-- about the code: numbers chosen into an array, marks set in an array of zeros, arrays that hold the reduced task, and
+-- the condition pairs of an action within its file.
 pub mod Computes
 pub mod KeptFacts
 pub mod KeptVariables
@@ -14,3 +15,5 @@ pub mod Rows
 pub mod NamedHeld
 pub mod ReducedHeld
 pub mod Filled
+pub mod ReduceRow
+pub mod StretchLaws

@@ -4,10 +4,12 @@ mod arrays;
 mod named;
 mod renumber;
 pub mod row;
+mod stretch;
 
 ghost use mathlib.Core.Path.{_≡_};
 ghost use lib.ListN.{length};
 ghost use Rattle.reduction.specs.Reduce.{rooms, reduce, reducedActionMarks, reducedFactMarks, reducedBuffer, originBuffer};
+ghost use Rattle.reduction.specs.Stretch.{stretchOutcome, stretch};
 use files::outcomes;
 
 // What reduction answers: the four lengths written and the round count, 0 beside a refusal.
@@ -80,4 +82,27 @@ pub fn reduce(
         reduced,
         origin,
     )
+}
+
+// The condition pairs of an action, as they stand in the file of a side: 0 the first, any other
+// number the second.
+pub fn conditions<'a>(
+    full: &'a [u8],
+    reduced: &'a [u8],
+    side: u32,
+    action: usize,
+    number: &mut u32,
+    file: &mut u32,
+    place: &mut usize,
+) -> &'a [u8]
+    ensures { λ r. ⌜ (now r ≡ stretch (now (full .entry)) (now (reduced .entry)) side action) × (now (number .exit) ≡ stretchOutcome (now (full .entry)) (now (reduced .entry)) side action .number) × (now (file .exit) ≡ stretchOutcome (now (full .entry)) (now (reduced .entry)) side action .file) × (now (place .exit) ≡ stretchOutcome (now (full .entry)) (now (reduced .entry)) side action .place) ⌝ }
+{
+    let outcome = stretch::outcome(full, reduced, side, action);
+    *number = outcome.number;
+    *file = outcome.file;
+    *place = outcome.place;
+    if outcome.number != 0 {
+        return &full[0..0];
+    }
+    stretch::pairs_of(stretch::side_of(side, full, reduced), action)
 }

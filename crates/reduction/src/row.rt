@@ -27,17 +27,6 @@ pub fn refused(outcome: files::Outcome) -> Reduced
     }
 }
 
-// The scope of a task at level 2, at which a condition names its fact alone.
-fn plain(scope: Scope) -> Scope
-    ensures { λ r. ⌜ (r .level ≡ 2) × (r .variables ≡ scope .variables) × (r .actions ≡ scope .actions) ⌝ }
-{
-    Scope {
-        level: 2,
-        variables: scope.variables,
-        actions: scope.actions,
-    }
-}
-
 // Marks and reduces the task that arrays hold, each stage where its buffers are long enough.
 pub fn reduce_task(
     scope: Scope,
@@ -76,8 +65,14 @@ pub fn reduce_task(
         return refused(first);
     }
     let kept = named::kept_actions(actions, scope.actions);
+    // At level 2 a condition names its fact alone.
+    let plain = Scope {
+        level: 2,
+        variables: scope.variables,
+        actions: scope.actions,
+    };
     let written = arrays::write_reduced(
-        plain(scope),
+        plain,
         sizes,
         starts,
         goal,

@@ -1,87 +1,151 @@
+-- The file, the level, the signer and the row give the outcome in this order; the arrays hold the file's task.
+use mathlib.Core.Path.{_≡_, sym, ap, _∙_}
+use native.Mathlib.Omega.{arith}
+use denote.Ref.{now}
+use borrow.Author.Tests.{not-true, not-false}
+use Rattle.files.specs.declared.Outcome.{Outcome}
+use Rattle.files.specs.Accepted.{acceptedTask}
+use Rattle.files.specs.Bytes.{Octets}
+use Rattle.files.specs.TaskFile.{checkTask}
+use Rattle.files.proofs.TaskChecked.{task-accepted}
+use Rattle.marking.proofs.MarkLaws.{refusal-number, held-by}
+use Rattle.reduction.proofs.ReduceRow.{Early, early-file, early-level, early-signer, early-answer, early-actions, early-facts, early-reduced, early-origin, alone-answer, alone-actions, alone-facts, alone-reduced, alone-origin}
 use borrow.Author.Needs.{needs}
 use Rattle.reduction.proofs.reduce.Statement.{statement}
 use Rattle.reduction.proofs.reduce.Tie as tie
-use Rattle.reduction.proofs.reduce.Reads as reads
-use Rattle.reduction.proofs.reduce.Lts as lts
-use Rattle.files.proofs.decode.read_task.Reads as read-task-reads
-use Rattle.files.proofs.outcomes.refuse.Reads as refuse-reads
-use Rattle.files.proofs.task.actions_in.Reads as actions-in-reads
-use Rattle.files.proofs.task.variables_in.Reads as variables-in-reads
-use Rattle.marking.proofs.rounds.valid_level.Reads as valid-level-reads
-use Rattle.reduction.proofs.row.reduce_task.Reads as reduce-task-reads
-use Rattle.reduction.proofs.row.refused.Reads as refused-reads
 
--- src/lib.rt:46:9
+-- from each call to the one before it
+abbrev to-start : tie.After-read-task → tie.Start
+to-start c = c .before .before .before .before .before .before .before .before .before .before .before .before
+
+abbrev to-read : tie.After-valid-level → tie.After-read-task
+to-read c = c .before .before .before
+
+abbrev to-level : tie.After-actions-in → tie.After-valid-level
+to-level c = c .before .before .before .before
+
 read-task-requires : tie.Need-read-task-requires
 read-task-requires c κs = search needs
 
--- src/lib.rt:56:9
 refused-requires : tie.Need-refused-requires
 refused-requires c κs = search needs
 
--- src/lib.rt:56:9
 returns : tie.Need-returns
-returns c = ?
+returns c =
+    let d = c .before .before .before in
+    let read = d .read-task .ensures .0 in
+    let early = early-file _ _ _ _ _ _ _ _ read (c .before .if1 .taken) in (
+      early-answer _ _ _ _ _ _ _ _ read _ early _ (c .refused .ensures),
+      (
+        early-actions _ _ _ _ _ _ _ _ read _ early _ (c .refused .ensures) _,
+        (
+          early-facts _ _ _ _ _ _ _ _ read _ early _ (c .refused .ensures) _,
+          (early-reduced _ _ _ _ _ _ _ _ read _ early _ (c .refused .ensures) _, early-origin _ _ _ _ _ _ _ _ read _ early _ (c .refused .ensures) _),
+        ),
+      ),
+    )
 
--- src/lib.rt:58:9
 valid-level-requires : tie.Need-valid-level-requires
 valid-level-requires c κs = search needs
 
--- src/lib.rt:59:29
 refuse-requires : tie.Need-refuse-requires
 refuse-requires c κs = search needs
 
--- src/lib.rt:59:9
 refused-requires-2 : tie.Need-refused-requires-2
 refused-requires-2 c κs = search needs
 
--- src/lib.rt:59:9
 returns-2 : tie.Need-returns-2
-returns-2 c = ?
+returns-2 c =
+    let v = c .before .before .before in
+    let d = to-read v in
+    let read = d .read-task .ensures .0 in
+    let refused = refusal-number _ 8 _ (omega arith) (c .before .refuse .ensures) in
+    let early = early-level _ _ _ _ _ _ _ _ read (v .before .if1 .left) _ refused (sym (v .valid-level .ensures) ∙ not-true _ (c .before .before .if2 .taken)) (c .before .refuse .ensures) in (
+      early-answer _ _ _ _ _ _ _ _ read _ early _ (c .refused2 .ensures),
+      (
+        early-actions _ _ _ _ _ _ _ _ read _ early _ (c .refused2 .ensures) _,
+        (
+          early-facts _ _ _ _ _ _ _ _ read _ early _ (c .refused2 .ensures) _,
+          (early-reduced _ _ _ _ _ _ _ _ read _ early _ (c .refused2 .ensures) _, early-origin _ _ _ _ _ _ _ _ read _ early _ (c .refused2 .ensures) _),
+        ),
+      ),
+    )
 
--- src/lib.rt:62:29
 refuse-requires-2 : tie.Need-refuse-requires-2
 refuse-requires-2 c κs = search needs
 
--- src/lib.rt:62:9
 refused-requires-3 : tie.Need-refused-requires-3
 refused-requires-3 c κs = search needs
 
--- src/lib.rt:62:9
 returns-3 : tie.Need-returns-3
-returns-3 c = ?
+returns-3 c =
+    let v = c .before .before .before .before in
+    let d = to-read v in
+    let read = d .read-task .ensures .0 in
+    let refused = refusal-number _ 7 _ (omega arith) (c .before .refuse2 .ensures) in
+    let early = early-signer _ _ _ _ _ _ _ _ read (v .before .if1 .left) _ refused (sym (v .valid-level .ensures) ∙ not-false _ (c .before .before .before .if2 .left)) (c .before .before .if3 .taken) (c .before .refuse2 .ensures) in (
+      early-answer _ _ _ _ _ _ _ _ read _ early _ (c .refused3 .ensures),
+      (
+        early-actions _ _ _ _ _ _ _ _ read _ early _ (c .refused3 .ensures) _,
+        (
+          early-facts _ _ _ _ _ _ _ _ read _ early _ (c .refused3 .ensures) _,
+          (early-reduced _ _ _ _ _ _ _ _ read _ early _ (c .refused3 .ensures) _, early-origin _ _ _ _ _ _ _ _ read _ early _ (c .refused3 .ensures) _),
+        ),
+      ),
+    )
 
--- src/lib.rt:66:20
 variables-in-requires : tie.Need-variables-in-requires
 variables-in-requires c κs = search needs
 
--- src/lib.rt:67:18
 actions-in-requires : tie.Need-actions-in-requires
 actions-in-requires c κs = search needs
 
--- src/lib.rt:69:5
 reduce-task-requires : tie.Need-reduce-task-requires
-reduce-task-requires c κs = ?
+reduce-task-requires c κs =
+    let a = c .before .before .before .before .before .before .before .before .before .before in
+    let d = to-read (to-level a) in
+    let s = to-start d in
+    let file = now (s .args .task) in
+    let passes = to-level a .before .if1 .left in
+    let octets : Octets file = λ i. omega (arith, d .before .before .before .before .before .before .before .before .before .before .before .shared-slice-known .given i) in
+    let checked : checkTask file .number ≡ 0 = ap (λ (o : Outcome). o .number) (sym (d .read-task .ensures .0)) ∙ passes in
+    ap acceptedTask (held-by _ _ _ _ _ _ _ _ _ _ _ (a .before .variables-in .ensures .0) (a .actions-in .ensures .0) (d .read-task .ensures .1 passes)) ∙ task-accepted file octets checked
 
--- src/lib.rt:25:1
 same-length : tie.Need-same-length
 same-length c = search needs
 
--- src/lib.rt:25:1
 same-length-2 : tie.Need-same-length-2
 same-length-2 c = search needs
 
--- src/lib.rt:25:1
 same-length-3 : tie.Need-same-length-3
 same-length-3 c = search needs
 
--- src/lib.rt:25:1
 same-length-4 : tie.Need-same-length-4
 same-length-4 c = search needs
 
--- src/lib.rt:25:1
 returns-4 : tie.Need-returns-4
-returns-4 c = ?
+returns-4 c =
+    let k = c .before .before .before .before .before .before .before .before in
+    let a = k .before .before .before .before .before .before .before .before .before .before .before in
+    let v = to-level a in
+    let d = to-read v in
+    let read = d .read-task .ensures .0 in
+    let passes = v .before .if1 .left in
+    let level = sym (v .valid-level .ensures) ∙ not-false _ (a .before .before .before .if2 .left) in
+    let signed = a .before .before .if3 .left in
+    let is = held-by _ _ _ _ _ _ _ _ _ _ _ (a .before .variables-in .ensures .0) (a .actions-in .ensures .0) (d .read-task .ensures .1 passes) in (
+      alone-answer _ _ _ _ _ _ _ _ read passes level signed _ is _ (k .reduce-task .ensures .0),
+      (
+        alone-actions _ _ _ _ _ _ _ _ read passes level signed _ is _ (k .reduce-task .ensures .0) _ _ (k .reduce-task .ensures .1 .0),
+        (
+          alone-facts _ _ _ _ _ _ _ _ read passes level signed _ is _ (k .reduce-task .ensures .0) _ _ (k .reduce-task .ensures .1 .1 .0),
+          (
+            alone-reduced _ _ _ _ _ _ _ _ read passes level signed _ is _ (k .reduce-task .ensures .0) _ _ (k .reduce-task .ensures .1 .1 .1 .0),
+            alone-origin _ _ _ _ _ _ _ _ read passes level signed _ is _ (k .reduce-task .ensures .0) _ _ (k .reduce-task .ensures .1 .1 .1 .1),
+          ),
+        ),
+      ),
+    )
 
 pub reduce-spec : {M : Type 1} → statement M
 reduce-spec =

@@ -1,30 +1,35 @@
+-- The arrays hold the reduced task and its origins, so the files written are theirs.
+use mathlib.Core.Path.{_∙_}
+use Rattle.reduction.proofs.ReduceRow.{fit-alike, task-length, task-after, origin-length, origin-after}
 use borrow.Author.Needs.{needs}
 use Rattle.reduction.proofs.arrays.write_reduced.Statement.{statement}
 use Rattle.reduction.proofs.arrays.write_reduced.Tie as tie
-use Rattle.reduction.proofs.arrays.write_reduced.Reads as reads
-use Rattle.reduction.proofs.arrays.write_reduced.Lts as lts
-use Rattle.reduction.proofs.arrays.fill.Reads as fill-reads
-use Rattle.reduction.proofs.arrays.write.Reads as write-reads
 
--- src/arrays.rt:187:9
 fill-requires : tie.Need-fill-requires
 fill-requires c κs = search needs
 
--- src/arrays.rt:207:5
 write-requires : tie.Need-write-requires
 write-requires c κs = search needs
 
--- src/arrays.rt:161:1
 same-length : tie.Need-same-length
 same-length c = search needs
 
--- src/arrays.rt:161:1
 same-length-2 : tie.Need-same-length-2
 same-length-2 c = search needs
 
--- src/arrays.rt:161:1
 returns : tie.Need-returns
-returns c = ?
+returns c =
+    let w = c .before .before .before .before in
+    let f = w .before .before .before .before .before .before .before .before .before .before .before .before .before in
+    λ A bits.
+    let t = f .fill .ensures .1 .0 A bits in
+    let o = f .fill .ensures .1 .1 A bits in (
+      w .write .ensures .0 ∙ fit-alike _ _ t _ _ _ o _ _,
+      w .write .ensures .1 .0 .0 ∙ task-length _ _ t _,
+      w .write .ensures .1 .0 .1 ∙ origin-length _ _ o _,
+      w .write .ensures .1 .1 .0 ∙ task-after _ _ t _ _ _,
+      w .write .ensures .1 .1 .1 ∙ origin-after _ _ o _ _ _,
+    )
 
 pub write-reduced-spec : {M : Type 1} → statement M
 write-reduced-spec =

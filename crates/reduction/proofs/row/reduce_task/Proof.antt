@@ -1,89 +1,158 @@
+-- Marking, then reduction: a stage that is refused ends the row.
+use Prim.Native.Nat.{ℕ, _≤_, _<_}
+use mathlib.Core.Path.{_≡_, sym, ap, _∙_}
+use native.Mathlib.Omega.{arith}
+use denote.Ref.{now}
+use lib.ListN.{length, getD}
+use Rattle.files.specs.Below.{bit}
+use Rattle.files.specs.Dense.{Arrays, held, arrays}
+use Rattle.files.proofs.Valid.{Valid, task-valid}
+use Rattle.marking.proofs.HeldTask.{actions-held}
+use Rattle.reduction.specs.Reduce.{reducedFile, originsFile}
+use Rattle.reduction.specs.Task.{keptAt, reducedTask, originsAt}
+use Rattle.reduction.proofs.ReduceRow.{kept-bits, marks-room, after-outcome, marks-after, row-first, row-second, row-done, buffer-untouched}
 use borrow.Author.Needs.{needs}
 use Rattle.reduction.proofs.row.reduce_task.Statement.{statement}
 use Rattle.reduction.proofs.row.reduce_task.Tie as tie
-use Rattle.reduction.proofs.row.reduce_task.Reads as reads
-use Rattle.reduction.proofs.row.reduce_task.Lts as lts
-use Rattle.marking.proofs.rounds.mark_task.Reads as mark-task-reads
-use Rattle.reduction.proofs.arrays.write_reduced.Reads as write-reduced-reads
-use Rattle.reduction.proofs.named.kept_actions.Reads as kept-actions-reads
-use Rattle.reduction.proofs.row.plain.Reads as plain-reads
-use Rattle.reduction.proofs.row.refused.Reads as refused-reads
 
--- src/row.rt:63:9
+-- from each call to the one before it
+abbrev to-start : tie.After-mark-task → tie.Start
+to-start c = c .before .before .before .before .before .before .before
+
+abbrev to-mark : tie.After-kept-actions → tie.After-mark-task
+to-mark c = c .before .before .before .before .before .before .before .before .before
+
+abbrev to-kept : tie.After-write-reduced → tie.After-kept-actions
+to-kept c = c .before .before .before .before
+
+abbrev task : tie.Start → Arrays
+task s = arrays (s .args .scope .variables) (s .args .scope .actions) (now (s .args .sizes)) (now (s .args .starts)) (now (s .args .goal)) (now (s .args .costs)) (now (s .args .conditions)) (now (s .args .effects))
+
+valid : (s : tie.Start) → Valid (held (task s))
+valid s = task-valid (held (task s)) (s .pre)
+
+actions-few : (s : tie.Start) → s .args .scope .actions ≤ 512
+actions-few s = omega (arith, valid s .actions-few, actions-held (task s))
+
+-- the array has the marks of the kept actions
+kept-marks : (k : tie.After-kept-actions) → to-mark k .mark-task .result .outcome .number ≡ 0
+    → (a : ℕ) → a < to-start (to-mark k) .args .scope .actions → getD (k .kept-actions .result) a 0 ≡ bit (keptAt (held (task (to-start (to-mark k)))) (to-start (to-mark k) .args .scope .level) a)
+kept-marks k z a l =
+    let m = to-mark k in
+    let s = to-start m in
+    k .kept-actions .ensures a l
+    ∙ kept-bits (task s) (valid s) (s .args .scope .level) (m .mark-task .result .outcome) _ _ z (m .mark-task .ensures .1 .0) a (omega (arith, actions-held (task s)))
+
 mark-task-requires : tie.Need-mark-task-requires
 mark-task-requires c κs = search needs
 
--- src/row.rt:76:9
 refused-requires : tie.Need-refused-requires
 refused-requires c κs = search needs
 
--- src/row.rt:76:9
 same-length : tie.Need-same-length
 same-length c = search needs
 
--- src/row.rt:76:9
 same-length-2 : tie.Need-same-length-2
 same-length-2 c = search needs
 
--- src/row.rt:76:9
 returns : tie.Need-returns
-returns c = ?
+returns c =
+    let m = c .before .before .before .before .before .before .before .before in
+    let s = to-start m in
+    let t = held (task s) in
+    let level = s .args .scope .level in
+    let refused = c .before .if1 .taken in (
+      row-first t level _ _ _ _ _ _ (m .mark-task .ensures .0) _ refused (c .refused .ensures),
+      (
+        marks-after t level 0 _ _ 0 0 _ (m .mark-task .ensures .0) _ _ _ (m .mark-task .ensures .1 .0),
+        (
+          marks-after t level 0 _ _ 0 0 _ (m .mark-task .ensures .0) _ _ _ (m .mark-task .ensures .1 .1),
+          (buffer-untouched t level 0 0 0 0 0 _ _ _ _ (c .refused .ensures) refused, buffer-untouched t level 0 0 0 0 0 _ _ _ _ (c .refused .ensures) refused),
+        ),
+      ),
+    )
 
--- src/row.rt:78:16
 kept-actions-requires : tie.Need-kept-actions-requires
-kept-actions-requires c κs = ?
+kept-actions-requires c κs =
+    let m = c .before .before .before .before .before .before .before .before in
+    let s = to-start m in
+    (actions-few s, marks-room (task s) (valid s) (s .args .scope .level) _ _ _ (c .before .if1 .left) (m .mark-task .ensures .1 .0))
 
--- src/row.rt:80:9
-plain-requires : tie.Need-plain-requires
-plain-requires c κs = search needs
-
--- src/row.rt:79:9
 write-reduced-requires : tie.Need-write-reduced-requires
-write-reduced-requires c κs = ?
+write-reduced-requires c κs = (to-start (to-mark (c .before .before .before)) .pre, omega arith)
 
--- src/row.rt:94:9
 refused-requires-2 : tie.Need-refused-requires-2
 refused-requires-2 c κs = search needs
 
--- src/row.rt:94:9
 same-length-3 : tie.Need-same-length-3
-same-length-3 c = ?
+same-length-3 c = search (needs, to-mark (to-kept (c .before .before .before .before .before .before .before .before)) .mark-task)
 
--- src/row.rt:94:9
 same-length-4 : tie.Need-same-length-4
-same-length-4 c = ?
+same-length-4 c = search (needs, to-mark (to-kept (c .before .before .before .before .before .before .before .before)) .mark-task)
 
--- src/row.rt:94:9
 same-length-5 : tie.Need-same-length-5
 same-length-5 c = search needs
 
--- src/row.rt:94:9
 same-length-6 : tie.Need-same-length-6
 same-length-6 c = search needs
 
--- src/row.rt:94:9
 returns-2 : tie.Need-returns-2
-returns-2 c = ?
+unfolding reducedFile originsFile reducedTask originsAt
+returns-2 c =
+    let w = c .before .before .before .before .before .before .before .before in
+    let k = to-kept w in
+    let m = to-mark k in
+    let s = to-start m in
+    let t = held (task s) in
+    let level = s .args .scope .level in
+    let passes = k .before .before .if1 .left in
+    let refused = c .before .if2 .taken in
+    let done = w .write-reduced .ensures (keptAt t level) (kept-marks k passes) in (
+      row-second t level _ _ _ _ _ _ (m .mark-task .ensures .0) passes _ (done .0) _ refused (c .refused2 .ensures),
+      (
+        marks-after t level 0 _ _ 0 0 _ (m .mark-task .ensures .0) _ _ _ (m .mark-task .ensures .1 .0),
+        (
+          marks-after t level 0 _ _ 0 0 _ (m .mark-task .ensures .0) _ _ _ (m .mark-task .ensures .1 .1),
+          (
+            after-outcome _ _ _ _ _ (c .refused2 .ensures) (done .3),
+            after-outcome _ _ _ _ _ (c .refused2 .ensures) (done .4),
+          ),
+        ),
+      ),
+    )
 
--- src/row.rt:42:1
 same-length-7 : tie.Need-same-length-7
-same-length-7 c = ?
+same-length-7 c = search (needs, to-mark (to-kept (c .before .before .before .before .before .before .before)) .mark-task)
 
--- src/row.rt:42:1
 same-length-8 : tie.Need-same-length-8
-same-length-8 c = search needs
+same-length-8 c = search (needs, to-mark (to-kept (c .before .before .before .before .before .before .before)) .mark-task)
 
--- src/row.rt:42:1
 same-length-9 : tie.Need-same-length-9
 same-length-9 c = search needs
 
--- src/row.rt:42:1
 same-length-10 : tie.Need-same-length-10
 same-length-10 c = search needs
 
--- src/row.rt:42:1
 returns-3 : tie.Need-returns-3
-returns-3 c = ?
+unfolding reducedFile originsFile reducedTask originsAt
+returns-3 c =
+    let w = c .before .before .before .before .before .before .before in
+    let k = to-kept w in
+    let m = to-mark k in
+    let s = to-start m in
+    let t = held (task s) in
+    let level = s .args .scope .level in
+    let passes = k .before .before .if1 .left in
+    let done = w .write-reduced .ensures (keptAt t level) (kept-marks k passes) in (
+      row-done t level _ _ _ _ _ _ (m .mark-task .ensures .0) passes _ (done .0) _ _ (c .if2 .left) (done .1) (done .2),
+      (
+        marks-after t level 0 _ _ 0 0 _ (m .mark-task .ensures .0) _ _ _ (m .mark-task .ensures .1 .0),
+        (
+          marks-after t level 0 _ _ 0 0 _ (m .mark-task .ensures .0) _ _ _ (m .mark-task .ensures .1 .1),
+          (done .3, done .4),
+        ),
+      ),
+    )
 
 pub reduce-task-spec : {M : Type 1} → statement M
 reduce-task-spec =
@@ -95,7 +164,6 @@ reduce-task-spec =
     same-length-2
     returns
     kept-actions-requires
-    plain-requires
     write-reduced-requires
     refused-requires-2
     same-length-3
