@@ -2,11 +2,11 @@
 ghost use Prim.Native.Nat.{_≤_};
 use crate::layout;
 
-const SIGNER: usize = 7;
+pub const SIGNER: usize = 7;
 
 // Writes two numbers of 2 bytes each and answers where the next go; nothing where there is no room.
 // They are a record's head, a pair, or the lower and the upper half of a number of 4 bytes.
-fn put(file: &mut [u8; 2048], at: usize, one: usize, other: usize) -> usize {
+pub fn put(file: &mut [u8; 2048], at: usize, one: usize, other: usize) -> usize {
     if 2044 < at {
         return at;
     }
@@ -15,6 +15,23 @@ fn put(file: &mut [u8; 2048], at: usize, one: usize, other: usize) -> usize {
     file[at + 2] = (other % 256) as u8;
     file[at + 3] = (other / 256 % 256) as u8;
     at + 4
+}
+
+// Writes a number of 2 bytes and answers where the next goes; nothing where there is no room.
+pub fn put_number(file: &mut [u8; 2048], at: usize, number: usize) -> usize {
+    if 2046 < at {
+        return at;
+    }
+    file[at] = (number % 256) as u8;
+    file[at + 1] = (number / 256 % 256) as u8;
+    at + 2
+}
+
+// Writes a sign-off and answers where the file ends.
+pub fn put_sign_off(file: &mut [u8; 2048], before: usize, signer: usize) -> usize {
+    let mut at = put(file, before, 8, 5);
+    at = put(file, at, signer, signer / 65536);
+    put(file, at, before, before / 65536)
 }
 
 // How many pairs a row has.
@@ -86,16 +103,13 @@ fn put_actions(task: &[u8; 416], file: &mut [u8; 2048], from: usize) -> usize {
     at
 }
 
-// Writes the task file and answers its length.
-pub fn task_file(task: &[u8; 416], file: &mut [u8; 2048]) -> usize {
+// Writes the task file under a signer and answers its length.
+pub fn task_file(task: &[u8; 416], signer: usize, file: &mut [u8; 2048]) -> usize {
     let mut at = put(file, 0, 4, 1);
     at = put(file, at, layout::variables(task), layout::actions(task));
     at = put_variables(task, file, at);
     at = put(file, at, 4 * pair_count(task, layout::GOAL), 3);
     at = put_pairs(task, layout::GOAL, file, at);
     at = put_actions(task, file, at);
-    let before = at;
-    at = put(file, before, 8, 5);
-    at = put(file, at, SIGNER, 0);
-    put(file, at, before, 0)
+    put_sign_off(file, at, signer)
 }

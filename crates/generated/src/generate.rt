@@ -3,6 +3,10 @@ ghost use Prim.Native.Nat.{_+_, _≤_};
 use crate::layout;
 use crate::random;
 
+pub const TASKS: usize = 2400;
+
+pub const SEED: u64 = 20240607;
+
 // One of two numbers.
 fn choose(first: bool, one: usize, other: usize) -> usize
     ensures { λ r. ⌜ r ≤ one + other ⌝ }

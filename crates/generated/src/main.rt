@@ -1,32 +1,41 @@
 // Generates small random tasks, and compares what the library marks in each of them at each level
-// with a marking that is written again here. It prints a line for each difference, and a line of
-// totals for each level.
+// with a marking that is written again here, then the reduced and the origin file with a reduction
+// that is written again here. It prints a line for each difference, and lines of totals for each level.
 mod compare;
+mod compare_reduced;
 mod encode;
 mod expected;
 mod generate;
 mod layout;
+mod lengths;
 mod marks;
+mod print;
 mod random;
+mod reduce;
+mod reduced_file;
+mod run_reduced;
 mod totals;
 
-const TASKS: usize = 2400;
-
-const SEED: u64 = 20240607;
+use crate::print::print_difference;
+use crate::print::print_labelled;
 
 fn main() {
     run_level(1);
     run_level(2);
     run_level(3);
     run_level(4);
+    run_reduced::run_level(1);
+    run_reduced::run_level(2);
+    run_reduced::run_level(3);
+    run_reduced::run_level(4);
 }
 
 // The same tasks at every level.
 fn run_level(level: u32) {
-    let mut state = SEED;
+    let mut state = generate::SEED;
     let mut sums = [0usize; 10];
     let mut number: usize = 0;
-    while number < TASKS {
+    while number < generate::TASKS {
         run_task(number, level, &mut state, &mut sums);
         number += 1;
     }
@@ -37,7 +46,7 @@ fn run_level(level: u32) {
 fn run_task(number: usize, level: u32, state: &mut u64, sums: &mut [usize; 10]) {
     let task = generate::task(number, state);
     let mut file = [0u8; 2048];
-    let length = encode::task_file(&task, &mut file);
+    let length = encode::task_file(&task, encode::SIGNER, &mut file);
     let mut actions = expected::lent();
     let mut facts = expected::lent();
     let numbers = expected::mark(&task, level, &mut actions, &mut facts);
@@ -46,7 +55,7 @@ fn run_task(number: usize, level: u32, state: &mut u64, sums: &mut [usize; 10]) 
     totals::add(sums, totals::UNLIKE, unlike as usize);
     let differs = compare::differs(&file, length, level, &actions, &facts, numbers);
     totals::add(sums, totals::DIFFER, differs as usize);
-    print_difference(number, level, differs);
+    print_difference(b" differs at level ", number, level, differs);
 }
 
 // Whether other actions or facts are marked than at the level before.
@@ -61,20 +70,6 @@ fn unlike_before(task: &[u8; 416], level: u32, actions: &[u8; 48], facts: &[u8; 
         return true;
     }
     !marks::same(facts, &facts_before)
-}
-
-fn print_labelled(label: &[u8], number: usize) {
-    io::write_all(1, label);
-    io::print_decimal(1, number as u64);
-}
-
-fn print_difference(number: usize, level: u32, differs: bool) {
-    if !differs {
-        return;
-    }
-    print_labelled(b"task ", number);
-    print_labelled(b" differs at level ", level as usize);
-    io::write_all(1, b"\n");
 }
 
 fn print_totals(level: u32, sums: &[usize; 10]) {

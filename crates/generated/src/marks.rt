@@ -4,7 +4,7 @@
 use crate::layout;
 
 // Threatened: an action of A sets the variable to a value other than its start value.
-fn threatened(task: &[u8; 416], marks: &[u8; 48], variable: usize) -> bool {
+pub fn threatened(task: &[u8; 416], marks: &[u8; 48], variable: usize) -> bool {
     let start = layout::get(task, layout::STARTS, variable);
     let mut action: usize = 0;
     while action < 16 {

@@ -29,7 +29,7 @@ pub fn add(totals: &mut [usize; 10], place: usize, number: usize) {
     if 10 <= place {
         return;
     }
-    if 1000 <= number {
+    if 10000 <= number {
         return;
     }
     let total = totals[place];
