@@ -46,3 +46,33 @@ pub fn print_outcome(o: files::Outcome) {
     print_byte(b' ');
     print_number(o.place);
 }
+
+// Prints the first `count` marks, a digit each.
+pub fn print_marks(marks: &[u8], count: usize) {
+    let mut at: usize = 0;
+    while at < count {
+        print_byte((48 + files::bytes::byte_at(marks, at) % 10) as u8);
+        at += 1;
+    }
+}
+
+// Prints bytes in hexadecimal, two digits each.
+pub fn print_hex(bytes: &[u8]) {
+    let mut at: usize = 0;
+    while at < bytes.len() {
+        let byte = files::bytes::byte_at(bytes, at);
+        print_byte(hex_digit(byte / 16));
+        print_byte(hex_digit(byte));
+        at += 1;
+    }
+}
+
+// The digit of the last four bits.
+fn hex_digit(value: usize) -> u8 {
+    let low = value % 16;
+    if low < 10 {
+        (48 + low) as u8
+    } else {
+        (55 + low) as u8
+    }
+}

@@ -1,12 +1,18 @@
 // What a line calls.
 use crate::hex;
 use crate::lines;
+use crate::reduced;
 
 // t: a task file is checked. o: an origin file is checked. p: a plan file is checked against a
 // task of so many actions as the first byte says. a: a task file is read and written again.
 // c: the plan checker; the first two bytes say how many of the others are the task file.
 // m: marking; the first byte is the level, then two bytes each for the lengths of the buffers for
 // action marks and fact marks, which hold 9s.
+// r: reduction; the first byte is the level, then four bytes for the signer and two bytes each for
+// the lengths of the buffers for action marks, fact marks, the reduced file and the origin file,
+// which hold 9s.
+// s: the condition pairs of an action; the first byte is the side, then two bytes for the action,
+// and two that say how many of the others are the first file.
 pub fn run_line(text: &[u8], from: usize, to: usize, file: &mut [u8], written: &mut [u8; 70000]) {
     let letter = files::bytes::byte_at(text, from);
     if letter == 35 {
@@ -40,6 +46,16 @@ fn run_call(letter: usize, file: &[u8], written: &mut [u8; 70000]) {
         let mut actions = [9u8; 600];
         let mut facts = [9u8; 2100];
         mark_file(file, &mut actions, &mut facts);
+    }
+    if letter == 114 {
+        let mut actions = [9u8; 600];
+        let mut facts = [9u8; 2100];
+        let mut task = [9u8; 1000];
+        let mut origin = [9u8; 1000];
+        reduced::reduce_file(file, &mut actions, &mut facts, &mut task, &mut origin);
+    }
+    if letter == 115 {
+        reduced::show_stretch(file);
     }
 }
 
@@ -91,18 +107,9 @@ fn mark_file(file: &[u8], actions: &mut [u8], facts: &mut [u8]) {
     lines::print_byte(b' ');
     lines::print_number(marked.rounds);
     lines::print_byte(b' ');
-    print_marks(actions, kept);
+    lines::print_marks(actions, kept);
     lines::print_byte(b' ');
-    print_marks(facts, relevant);
-}
-
-// Prints the first `count` marks, a digit each.
-fn print_marks(marks: &[u8], count: usize) {
-    let mut at: usize = 0;
-    while at < count {
-        lines::print_byte((48 + files::bytes::byte_at(marks, at) % 10) as u8);
-        at += 1;
-    }
+    lines::print_marks(facts, relevant);
 }
 
 // Reads a task, and writes it again where it is accepted.
