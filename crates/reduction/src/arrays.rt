@@ -174,16 +174,16 @@ pub fn write_reduced(
     requires { ⌜ (acceptedTask (held (arrays (scope .variables) (scope .actions) (now sizes) (now starts) (now goal) (now costs) (now conditions) (now effects))) ≡ true) × (scope .level ≡ 2) ⌝ }
     ensures { λ r. ⌜ ((A : ℕ → Bool) → ((a : ℕ) → a < scope .actions → getD (now (kept .entry)) a 0 ≡ bit (A a)) → (r .outcome ≡ filesFit (reducedBy (held (arrays (scope .variables) (scope .actions) (now (sizes .entry)) (now (starts .entry)) (now (goal .entry)) (now (costs .entry)) (now (conditions .entry)) (now (effects .entry)))) A) (originBy (held (arrays (scope .variables) (scope .actions) (now (sizes .entry)) (now (starts .entry)) (now (goal .entry)) (now (costs .entry)) (now (conditions .entry)) (now (effects .entry)))) A) signer (length (now (reduced .entry))) (length (now (origin .entry)))) × (r .reduced ≡ length (taskFile (reducedBy (held (arrays (scope .variables) (scope .actions) (now (sizes .entry)) (now (starts .entry)) (now (goal .entry)) (now (costs .entry)) (now (conditions .entry)) (now (effects .entry)))) A) signer)) × (r .origin ≡ length (originFile (originBy (held (arrays (scope .variables) (scope .actions) (now (sizes .entry)) (now (starts .entry)) (now (goal .entry)) (now (costs .entry)) (now (conditions .entry)) (now (effects .entry)))) A) signer)) × (now (reduced .exit) ≡ after (r .outcome) (taskFile (reducedBy (held (arrays (scope .variables) (scope .actions) (now (sizes .entry)) (now (starts .entry)) (now (goal .entry)) (now (costs .entry)) (now (conditions .entry)) (now (effects .entry)))) A) signer) (now (reduced .entry))) × (now (origin .exit) ≡ after (r .outcome) (originFile (originBy (held (arrays (scope .variables) (scope .actions) (now (sizes .entry)) (now (starts .entry)) (now (goal .entry)) (now (costs .entry)) (now (conditions .entry)) (now (effects .entry)))) A) signer) (now (origin .entry)))) ⌝ }
 {
-    let mut a = [0u8; 64];
-    let mut b = [0u8; 64];
-    let mut g = [0u8; 64];
-    let mut m = [0u32; 512];
-    let mut c = [0u8; 32768];
-    let mut e = [0u8; 32768];
-    let mut n = [0u8; 64];
-    let mut s = [0u8; 64];
-    let mut v = [0u8; 2048];
-    let mut o = [0u16; 512];
+    let mut new_sizes = [0u8; 64];
+    let mut new_starts = [0u8; 64];
+    let mut new_goal = [0u8; 64];
+    let mut new_costs = [0u32; 512];
+    let mut new_conditions = [0u8; 32768];
+    let mut new_effects = [0u8; 32768];
+    let mut numbers = [0u8; 64];
+    let mut ranges = [0u8; 64];
+    let mut rows = [0u8; 2048];
+    let mut originals = [0u16; 512];
     let counts = fill(
         scope,
         sizes,
@@ -193,29 +193,29 @@ pub fn write_reduced(
         conditions,
         effects,
         kept,
-        &mut a,
-        &mut b,
-        &mut g,
-        &mut m,
-        &mut c,
-        &mut e,
-        &mut n,
-        &mut s,
-        &mut v,
-        &mut o,
+        &mut new_sizes,
+        &mut new_starts,
+        &mut new_goal,
+        &mut new_costs,
+        &mut new_conditions,
+        &mut new_effects,
+        &mut numbers,
+        &mut ranges,
+        &mut rows,
+        &mut originals,
     );
     write(
         counts,
-        &a,
-        &b,
-        &g,
-        &m,
-        &c,
-        &e,
-        &n,
-        &s,
-        &v,
-        &o,
+        &new_sizes,
+        &new_starts,
+        &new_goal,
+        &new_costs,
+        &new_conditions,
+        &new_effects,
+        &numbers,
+        &ranges,
+        &rows,
+        &originals,
         signer,
         reduced,
         origin,
