@@ -1,3 +1,4 @@
 -- Laws about the crate's definitions.
 pub mod Computes
+pub mod Settled
 pub mod Examples

@@ -2,6 +2,7 @@
 pub mod States
 pub mod Table
 pub mod FirstPlan
+pub mod Least
 pub mod Planner
 pub mod Listing
 pub mod Examples
