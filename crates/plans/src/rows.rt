@@ -53,7 +53,7 @@ pub fn all_hold(row: [u8; 64], state: [u8; 64]) -> bool
 }
 
 // Whether a value meets a condition's entry.
-fn meets(condition: u8, value: u8) -> bool
+pub fn meets(condition: u8, value: u8) -> bool
     ensures { λ r. ⌜ r ≡ meetsEntry condition value ⌝ }
 {
     if condition == 255 {
@@ -76,7 +76,7 @@ pub fn applied(row: [u8; 64], state: [u8; 64]) -> [u8; 64]
 }
 
 // The value after an effect entry.
-fn entry_after(effect: u8, value: u8) -> u8
+pub fn entry_after(effect: u8, value: u8) -> u8
     ensures { λ r. ⌜ r ≡ afterEntry effect value ⌝ }
 {
     if effect == 255 { value } else { effect }

@@ -3,6 +3,7 @@ pub mod States
 pub mod Table
 pub mod FirstPlan
 pub mod Least
+pub mod Columns
 pub mod Planner
 pub mod Listing
 pub mod Examples

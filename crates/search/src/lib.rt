@@ -1,4 +1,9 @@
 // Search over the states of the reduced task, and the planner.
+mod columns;
+mod first_plan;
+mod states;
+mod steps_to;
+mod table;
 
 // An entry of the work table: the least cost to the goal from a state, then the fewest steps at
 // that cost; 2^64 - 1 and 65,535 where the goal cannot be reached.

@@ -1,0 +1,89 @@
+-- The work table as two columns of numbers, and what the steps to a settled state make of it.
+use Prim.Native.Nat.{ℕ, zero, suc, _+_, _*_, _≤_, _<_}
+use mathlib.Core.Path.{_≡_}
+use mathlib.Core.Bool.{Bool, not, cond, _&&_}
+use mathlib.Core.List.{List, []}
+use lib.Dec.{eqb}
+use mathlib.Core.Option.{none}
+use lib.ListN.{length, getD}
+use Rattle.files.specs.Below.{tabulate}
+use Rattle.files.specs.Dense.{rowVariable, rowAction}
+use Rattle.files.specs.Task.{Variable, Action, Task, actionOf}
+use Rattle.plans.specs.State.{applicable, apply}
+use Rattle.plans.specs.Plan.{Total, addStep, atMost}
+use Rattle.search.specs.States.{stateCount, stateNumber, stateAt}
+use Rattle.search.specs.Table.{entry, entryOf, distances}
+use Rattle.search.specs.declared.Entry.{Entry}
+
+-- the entry of a state, and the entries of the first `count` states
+abbrev pub entryIn : List ℕ → List ℕ → ℕ → Entry
+entryIn minutes steps s = entry (getD minutes s 0) (getD steps s 0)
+
+unfoldable pub entriesIn : List ℕ → List ℕ → ℕ → List Entry
+entriesIn minutes steps count = tabulate count (entryIn minutes steps)
+
+-- cost and steps of an entry
+abbrev pub totalIn : Entry → Total
+totalIn e = record { minutes = e .minutes; steps = e .steps }
+
+-- the order on entries as numbers: 2^64 - 1 and 65,535 are above those of every plan
+unfoldable pub lessEntry : Entry → Entry → Bool
+lessEntry x y = not (atMost (totalIn y) (totalIn x))
+
+-- the entry y where x is offered
+unfoldable pub lowered : Entry → Entry → Entry
+lowered x y = cond (lessEntry x y) x y
+
+-- with one step more in front
+unfoldable pub afterStep : Action → Entry → Entry
+afterStep a e = let x = addStep a (totalIn e) in entry (x .minutes) (x .steps)
+
+-- an action leads from state s to state x
+unfoldable pub leadsTo : List Variable → Action → ℕ → ℕ → Bool
+leadsTo variables a s x = applicable a (stateAt variables s) && eqb (stateNumber variables (apply a (stateAt variables s))) x
+
+-- the entry y of state s after the steps of the first `count` actions to state x, whose entry is e
+unfoldable pub offered : List Variable → (ℕ → Action) → ℕ → Entry → ℕ → Entry → ℕ → Entry
+offered variables action x e s y zero = y
+offered variables action x e s y (suc count) =
+    let before = offered variables action x e s y count in
+    cond (leadsTo variables (action count) s x) (lowered (afterStep (action count) e) before) before
+
+-- the variables of arrays, and the count of their states, which no start value changes
+abbrev pub rowVariables : ℕ → List ℕ → List ℕ → List Variable
+rowVariables variables sizes starts = tabulate variables (rowVariable sizes starts)
+
+unfoldable pub rowStates : ℕ → List ℕ → ℕ
+rowStates variables sizes = stateCount (rowVariables variables sizes [])
+
+-- what the search asks of arrays
+pub record Searchable (variables actions : ℕ) (sizes costs conditions effects : List ℕ) : Type 0 where
+  pub variables-few : variables ≤ 64
+  pub actions-few : actions ≤ 512
+  pub size-least : (v : ℕ) → v < variables → 1 ≤ getD sizes v 0
+  pub condition-inside : (a v : ℕ) → a < actions → v < variables → (getD conditions (64 * a + v) 0 ≡ 255 → ⊥) → getD conditions (64 * a + v) 0 < getD sizes v 0
+  pub effect-inside : (a v : ℕ) → a < actions → v < variables → (getD effects (64 * a + v) 0 ≡ 255 → ⊥) → getD effects (64 * a + v) 0 < getD sizes v 0
+  pub cost-most : (a : ℕ) → a < actions → getD costs a 0 ≤ 1000000
+  pub states-few : rowStates variables sizes ≤ 4096
+
+-- what a change of one in the value of variable v adds to the number of a state
+unfoldable pub rowWeight : List ℕ → ℕ → ℕ
+rowWeight sizes zero = 1
+rowWeight sizes (suc v) = rowWeight sizes v * getD sizes v 0
+
+-- entries that are alike
+unfoldable pub sameEntry : Entry → Entry → Bool
+sameEntry x y = not (lessEntry x y) && not (lessEntry y x)
+
+-- the entries of the first `count` states: none, or of few minutes and steps
+pub record Bounded (minutes steps : List ℕ) (count : ℕ) : Type 0 where
+  pub minutes-long : count ≤ length minutes
+  pub steps-long : count ≤ length steps
+  pub low : (s : ℕ) → s < count → getD minutes s 0 < 18446744073709551615 → (getD minutes s 0 < 18446744073000000000) × (getD steps s 0 < 65535)
+
+-- arrays and columns hold a task and its table
+pub record Tabled (t : Task) (variables actions : ℕ) (sizes costs conditions effects minutes steps : List ℕ) : Type 0 where
+  pub starts : List ℕ
+  pub variables-are : t .variables ≡ rowVariables variables sizes starts
+  pub actions-are : (a : ℕ) → a < actions → actionOf t a ≡ rowAction variables costs conditions effects a
+  pub entries-are : (s : ℕ) → s < rowStates variables sizes → entryIn minutes steps s ≡ entryOf (getD (distances t) s none)

@@ -1,0 +1,32 @@
+// The work table as two columns: the order on entries, and an entry lowered to one that is less.
+ghost use mathlib.Core.Path.{_≡_};
+ghost use Prim.Native.Nat.{ℕ, _<_};
+ghost use mathlib.Core.Bool.{cond};
+ghost use lib.Dec.{eqb};
+ghost use lib.ListN.{length};
+ghost use Rattle.search.specs.Table.{entry};
+ghost use Rattle.search.specs.Columns.{entryIn, lessEntry, lowered};
+
+// Whether an entry is less than another.
+pub fn less(minutes: u64, steps: u16, other_minutes: u64, other_steps: u16) -> bool
+    ensures { λ r. ⌜ r ≡ lessEntry (entry minutes steps) (entry other_minutes other_steps) ⌝ }
+{
+    if minutes < other_minutes {
+        return true;
+    }
+    if minutes == other_minutes {
+        return steps < other_steps;
+    }
+    false
+}
+
+// Offers a state an entry.
+pub fn lower(minutes: &mut [u64], steps: &mut [u16], state: usize, cost: u64, count: u16)
+    requires { ⌜ (state < length (now minutes)) × (state < length (now steps)) ⌝ }
+    ensures { λ r. ⌜ ((s : ℕ) → entryIn (now (minutes .exit)) (now (steps .exit)) s ≡ cond (eqb s state) (lowered (entry cost count) (entryIn (now (minutes .entry)) (now (steps .entry)) s)) (entryIn (now (minutes .entry)) (now (steps .entry)) s)) ⌝ }
+{
+    if less(cost, count, minutes[state], steps[state]) {
+        minutes[state] = cost;
+        steps[state] = count;
+    }
+}

@@ -1,0 +1,115 @@
+// States of the task that arrays hold, numbered in mixed radix.
+ghost use mathlib.Core.Path.{_≡_};
+ghost use mathlib.Core.List.{List};
+ghost use Prim.Native.Nat.{ℕ, _+_, _<_, _≤_};
+ghost use lib.ListN.{length, getD};
+ghost use Rattle.files.specs.Dense.{rowPairs};
+ghost use Rattle.files.specs.Task.{Action};
+ghost use Rattle.plans.specs.State.{allHold, apply};
+ghost use Rattle.plans.specs.Tally.{listState};
+ghost use Rattle.search.specs.States.{stateNumber, stateAt};
+ghost use Rattle.search.specs.Columns.{rowVariables, rowStates, rowWeight};
+use files::bytes;
+use plans::rows;
+
+// The count of states, or a number above 4,096 where they are more than that.
+pub fn count(sizes: &[u8; 64], variables: usize) -> usize
+    requires { ⌜ (variables ≤ 64) × ((v : ℕ) → v < variables → 1 ≤ getD (now sizes) v 0) ⌝ }
+    ensures { λ r. ⌜ (r ≤ 4096 → r ≡ rowStates variables (now (sizes .entry))) × (4096 < r → 4096 < rowStates variables (now (sizes .entry))) ⌝ }
+{
+    let mut states: usize = 1;
+    let mut v: usize = 0;
+    while v < variables {
+        states = states * bytes::byte_at(sizes, v);
+        if 4096 < states {
+            return states;
+        }
+        v += 1;
+    }
+    states
+}
+
+// The number of the start state.
+pub fn start_number(sizes: &[u8; 64], starts: &[u8; 64], variables: usize) -> usize
+    requires { ⌜ (variables ≤ 64) × (rowStates variables (now sizes) ≤ 4096) × ((v : ℕ) → v < variables → getD (now starts) v 0 < getD (now sizes) v 0) ⌝ }
+    ensures { λ r. ⌜ r ≡ stateNumber (rowVariables variables (now (sizes .entry)) (now (starts .entry))) (listState (now (starts .entry))) ⌝ }
+{
+    let mut number: usize = 0;
+    let mut v = variables;
+    while 0 < v {
+        v -= 1;
+        number = bytes::byte_at(starts, v) + bytes::byte_at(sizes, v) * number;
+    }
+    number
+}
+
+// The values of the variables in a state; 0 past the last variable.
+pub fn values_of(sizes: &[u8; 64], variables: usize, state: usize) -> [u8; 64]
+    requires { ⌜ (variables ≤ 64) × ((v : ℕ) → v < variables → 1 ≤ getD (now sizes) v 0) ⌝ }
+    ensures { λ r. ⌜ ((starts : List ℕ) → listState r ≡ stateAt (rowVariables variables (now (sizes .entry)) starts) state) ⌝ }
+{
+    let mut values = [0u8; 64];
+    let mut rest = state;
+    let mut v: usize = 0;
+    while v < variables {
+        let size = bytes::byte_at(sizes, v);
+        values[v] = (rest % size) as u8;
+        rest = rest / size;
+        v += 1;
+    }
+    values
+}
+
+// Whether the conditions of the row at `base` hold for values.
+pub fn all_hold(row: &[u8], base: usize, variables: usize, values: &[u8; 64]) -> bool
+    requires { ⌜ (variables ≤ 64) × (base + variables ≤ length (now row)) ⌝ }
+    ensures { λ r. ⌜ r ≡ allHold (rowPairs (now (row .entry)) base 0 variables) (listState (now (values .entry))) ⌝ }
+{
+    let mut v: usize = 0;
+    let mut left = variables;
+    while 0 < left {
+        if !rows::meets(row[base + v], values[v]) {
+            return false;
+        }
+        v += 1;
+        left -= 1;
+    }
+    true
+}
+
+// The number of the state after the effects of the row at `base`.
+pub fn number_after(
+    sizes: &[u8; 64],
+    effects: &[u8],
+    base: usize,
+    variables: usize,
+    values: &[u8; 64],
+) -> usize
+    requires { ⌜ (variables ≤ 64) × (base + variables ≤ length (now effects)) × (rowStates variables (now sizes) ≤ 4096) × ((v : ℕ) → v < variables → getD (now values) v 0 < getD (now sizes) v 0) × ((v : ℕ) → v < variables → (getD (now effects) (base + v) 0 ≡ 255 → ⊥) → getD (now effects) (base + v) 0 < getD (now sizes) v 0) ⌝ }
+    ensures { λ r. ⌜ ((starts : List ℕ) (a : Action) → a .effects ≡ rowPairs (now (effects .entry)) base 0 variables → r ≡ stateNumber (rowVariables variables (now (sizes .entry)) starts) (apply a (listState (now (values .entry))))) × (r < rowStates variables (now (sizes .entry))) ⌝ }
+{
+    let mut number: usize = 0;
+    let mut v = variables;
+    while 0 < v {
+        v -= 1;
+        let value = rows::entry_after(effects[base + v], values[v]);
+        number = value as usize + bytes::byte_at(sizes, v) * number;
+    }
+    number
+}
+
+// What a change of one in the value of each variable adds to the number of a state.
+pub fn weights(sizes: &[u8; 64], variables: usize) -> [usize; 64]
+    requires { ⌜ (variables ≤ 64) × (rowStates variables (now sizes) ≤ 4096) × ((v : ℕ) → v < variables → 1 ≤ getD (now sizes) v 0) ⌝ }
+    ensures { λ r. ⌜ ((v : ℕ) → v < variables → getD r v 0 ≡ rowWeight (now (sizes .entry)) v) ⌝ }
+{
+    let mut weights = [0usize; 64];
+    let mut weight: usize = 1;
+    let mut v: usize = 0;
+    while v < variables {
+        weights[v] = weight;
+        weight = weight * bytes::byte_at(sizes, v);
+        v += 1;
+    }
+    weights
+}

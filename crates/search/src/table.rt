@@ -1,0 +1,123 @@
+// The table of the task that arrays hold: backwards from the goal, the least entry settled first.
+ghost use mathlib.Core.Path.{_≡_};
+ghost use mathlib.Core.Bool.{true};
+ghost use Prim.Native.Nat.{ℕ, _+_, _<_, _≤_};
+ghost use lib.ListN.{length, getD};
+ghost use Rattle.files.specs.Accepted.{acceptedTask};
+ghost use Rattle.files.specs.Dense.{held, arrays};
+ghost use Rattle.search.specs.States.{stateCount};
+ghost use Rattle.search.specs.Table.{tableOf};
+ghost use Rattle.search.specs.FirstPlan.{startNumber};
+ghost use Rattle.search.specs.Columns.{entriesIn};
+use crate::columns;
+use crate::states;
+use crate::steps_to;
+
+// Of the best state so far, or `count`, and state s the better: one that is open and has an entry.
+fn better(
+    minutes: &[u64],
+    steps: &[u16],
+    settled: &[u8],
+    count: usize,
+    best: usize,
+    s: usize,
+) -> usize {
+    if settled[s] != 0 {
+        return best;
+    }
+    if minutes[s] == 18446744073709551615 {
+        return best;
+    }
+    if best == count {
+        return s;
+    }
+    if columns::less(minutes[s], steps[s], minutes[best], steps[best]) {
+        return s;
+    }
+    best
+}
+
+// The open state with the least entry, or `count` where no open state has one.
+fn select(minutes: &[u64], steps: &[u16], settled: &[u8], count: usize) -> usize {
+    let mut best = count;
+    let mut s: usize = 0;
+    while s < count {
+        best = better(minutes, steps, settled, count, best, s);
+        s += 1;
+    }
+    best
+}
+
+// The entry of a state before any step.
+fn store(minutes: &mut [u64], steps: &mut [u16], s: usize, at_goal: bool) {
+    if at_goal {
+        minutes[s] = 0;
+        steps[s] = 0;
+    } else {
+        minutes[s] = 18446744073709551615;
+        steps[s] = 65535;
+    }
+}
+
+// The entries before any step: nothing where the goal holds, none elsewhere.
+fn begin(
+    minutes: &mut [u64],
+    steps: &mut [u16],
+    sizes: &[u8; 64],
+    goal: &[u8; 64],
+    variables: usize,
+    count: usize,
+) {
+    let mut s: usize = 0;
+    while s < count {
+        let values = states::values_of(sizes, variables, s);
+        store(
+            minutes,
+            steps,
+            s,
+            states::all_hold(goal, 0, variables, &values),
+        );
+        s += 1;
+    }
+}
+
+// Fills the columns with the table of the task that arrays hold, and gives the number of its
+// start state.
+pub fn search(
+    minutes: &mut [u64],
+    steps: &mut [u16],
+    count: usize,
+    variables: usize,
+    actions: usize,
+    sizes: &[u8; 64],
+    starts: &[u8; 64],
+    goal: &[u8; 64],
+    costs: &[u32; 512],
+    conditions: &[u8; 32768],
+    effects: &[u8; 32768],
+) -> usize
+    requires { ⌜ (acceptedTask (held (arrays variables actions (now sizes) (now starts) (now goal) (now costs) (now conditions) (now effects))) ≡ true) × (count ≡ stateCount (held (arrays variables actions (now sizes) (now starts) (now goal) (now costs) (now conditions) (now effects)) .variables)) × (count ≤ 4096) × (count ≤ length (now minutes)) × (count ≤ length (now steps)) ⌝ }
+    ensures { λ r. ⌜ (r ≡ startNumber (held (arrays variables actions (now (sizes .entry)) (now (starts .entry)) (now (goal .entry)) (now (costs .entry)) (now (conditions .entry)) (now (effects .entry))))) × (entriesIn (now (minutes .exit)) (now (steps .exit)) count ≡ tableOf (held (arrays variables actions (now (sizes .entry)) (now (starts .entry)) (now (goal .entry)) (now (costs .entry)) (now (conditions .entry)) (now (effects .entry))))) ⌝ }
+{
+    begin(minutes, steps, sizes, goal, variables, count);
+    let weights = states::weights(sizes, variables);
+    let mut settled = [0u8; 4096];
+    let mut s = select(minutes, steps, &settled, count);
+    while s < count {
+        settled[s] = 1;
+        steps_to::settle(
+            minutes,
+            steps,
+            sizes,
+            &weights,
+            costs,
+            conditions,
+            effects,
+            variables,
+            actions,
+            s,
+        );
+        s = select(minutes, steps, &settled, count);
+    }
+    states::start_number(sizes, starts, variables)
+}
