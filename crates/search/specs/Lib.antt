@@ -5,5 +5,6 @@ pub mod FirstPlan
 pub mod Least
 pub mod Columns
 pub mod Planner
+pub mod Found
 pub mod Listing
 pub mod Examples
