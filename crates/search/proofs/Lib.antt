@@ -1,4 +1,5 @@
 -- Laws about the crate's definitions.
 pub mod Computes
 pub mod Settled
+pub mod Radix
 pub mod Examples
