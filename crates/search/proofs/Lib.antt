@@ -2,4 +2,5 @@
 pub mod Computes
 pub mod Settled
 pub mod Radix
+pub mod DistanceLaws
 pub mod Examples

@@ -1,13 +1,12 @@
 -- Laws of state numbers: the two ways between states and numbers are inverse, and the start and each action keep to them.
 use Prim.Native.Nat.{ℕ, zero, suc, _+_, _*_, _/_, _%_, _≤_, _<_}
-use mathlib.Core.Path.{_≡_, refl, sym, ap, ap₂, subst, fun-ext, _∙_}
+use mathlib.Core.Path.{_≡_, refl, sym, ap, subst, fun-ext, _∙_}
 use mathlib.Core.List.{List, [], _∷_}
-use mathlib.Core.Option.{none, some}
 use native.Mathlib.Omega.{arith}
 use native.Mathlib.Nat.{mod-lt, mod-eq-of-lt, mod-add-div, div-eq-of-lt, add-mul-div-left, add-mul-mod-self-left, div-lt-iff-lt-mul, mul-comm, mul-le-mul-left, zero-add, mul-suc, mul-pos}
 use lib.ListN.{length, getD}
-use Rattle.files.specs.Task.{Variable, Action, Task, variable, variableCount, actionOf, valueIn}
-use Rattle.files.proofs.Logic.{split-option, split-le}
+use Rattle.files.specs.Task.{Variable, Action, Task, variable, actionOf, valueIn}
+use Rattle.files.proofs.Logic.{split-option}
 use Rattle.files.proofs.Valid.{ValidAction, Valid, value-valid}
 use Rattle.plans.specs.State.{State, startState, apply}
 use Rattle.plans.proofs.StateLaws.{apply-sets, apply-leaves}
