@@ -3,4 +3,6 @@ pub mod Computes
 pub mod Settled
 pub mod Radix
 pub mod DistanceLaws
+pub mod Distinct
+pub mod Distances
 pub mod Examples
