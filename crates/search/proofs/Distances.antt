@@ -101,11 +101,11 @@ module _ (t : Task) where
       (cut n (nextState t a n) (q .plan) (q .runs) (q .distinct))
 
   -- the rounds: no step, and a first step
-  through-applicable : (row : List Distance) (n a : ℕ) → applicable (actionOf t a) (stateAt (t .variables) n) ≡ true → through t row n a ≡ stepTo (actionOf t a) (getD row (nextState t a n) none)
+  pub through-applicable : (row : List Distance) (n a : ℕ) → applicable (actionOf t a) (stateAt (t .variables) n) ≡ true → through t row n a ≡ stepTo (actionOf t a) (getD row (nextState t a n) none)
   unfolding through
   through-applicable row n a e = rw e
 
-  through-not : (row : List Distance) (n a : ℕ) → applicable (actionOf t a) (stateAt (t .variables) n) ≡ false → through t row n a ≡ none
+  pub through-not : (row : List Distance) (n a : ℕ) → applicable (actionOf t a) (stateAt (t .variables) n) ≡ false → through t row n a ≡ none
   unfolding through
   through-not row n a e = rw e
 

@@ -5,4 +5,5 @@ pub mod Radix
 pub mod DistanceLaws
 pub mod Distinct
 pub mod Distances
+pub mod ReadOff
 pub mod Examples
