@@ -4,7 +4,7 @@ use mathlib.Core.Path.{_≡_, refl, sym, ap, subst, fun-ext, _∙_}
 use mathlib.Core.List.{List, [], _∷_}
 use native.Mathlib.Omega.{arith}
 use native.Mathlib.Nat.{mod-lt, mod-eq-of-lt, mod-add-div, div-eq-of-lt, add-mul-div-left, add-mul-mod-self-left, div-lt-iff-lt-mul, mul-comm, mul-le-mul-left, zero-add, mul-suc, mul-pos}
-use lib.ListN.{length, getD}
+use lib.ListN.{length, getD, List·getD-eq-default}
 use Rattle.files.specs.Task.{Variable, Action, Task, variable, actionOf, valueIn}
 use Rattle.files.proofs.Logic.{split-option}
 use Rattle.files.proofs.Valid.{ValidAction, Valid, value-valid}
@@ -130,12 +130,7 @@ module _ (t : Task) (valid : Valid t) where
 
   start-past : ZeroPast (t .variables) (startState t)
   unfolding startState
-  start-past v l = past-end (t .variables) v l
-    where
-      past-end : (vs : List Variable) (w : ℕ) → length vs ≤ w → getD vs w (variable 0 0) .start ≡ 0
-      past-end [] w h = refl
-      past-end (x ∷ xs) zero h = absurd (omega arith)
-      past-end (x ∷ xs) (suc w) h = past-end xs w (omega arith)
+  start-past v l = ap (λ (x : Variable). x .start) (List·getD-eq-default (t .variables) (variable 0 0) l)
 
   pub start-state : stateAt (t .variables) (startNumber t) ≡ startState t
   unfolding startNumber
