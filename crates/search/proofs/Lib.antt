@@ -8,4 +8,6 @@ pub mod Distinct
 pub mod Distances
 pub mod ReadOff
 pub mod LeastPlans
+pub mod TableEntries
+pub mod FoundLaws
 pub mod Examples

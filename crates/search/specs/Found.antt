@@ -11,8 +11,11 @@ use Rattle.files.specs.Task.{Task}
 use Rattle.plans.specs.Plan.{totalOf}
 use Rattle.search.specs.States.{stateCount}
 use Rattle.search.specs.FirstPlan.{firstPlan}
-use Rattle.search.specs.Planner.{statesFit, planFits}
+use Rattle.search.specs.Planner.{statesFit, planFits, unplanned}
+use Rattle.reduction.specs.declared.Reduced.{Reduced}
+use Rattle.search.specs.declared.Planned.{Planned}
 use Rattle.search.specs.declared.row.Found.{Found}
+use Rattle.search.specs.declared.row.Run.{Run}
 
 unfoldable pub searchOutcome : Task → (List ℕ → List ℕ) → ℕ → ℕ → ℕ → Outcome
 searchOutcome t original signer tableRoom planRoom =
@@ -26,6 +29,10 @@ foundPlan t = Option·getD (firstPlan t) []
 -- how many entries of the table are filled
 unfoldable pub foundStates : Task → ℕ → ℕ
 foundStates t tableRoom = cond (isDone (statesFit t tableRoom)) (stateCount (t .variables)) 0
+
+-- a refusal, with so many entries filled
+abbrev pub notFound : Outcome → ℕ → Found
+notFound o states = record { outcome = o; states = states; plan = 0; cost = record { 0 = 0 }; steps = record { 0 = 0 } }
 
 unfoldable pub foundAnswer : Task → (List ℕ → List ℕ) → ℕ → ℕ → ℕ → Found
 foundAnswer t original signer tableRoom planRoom =
@@ -41,5 +48,23 @@ foundAnswer t original signer tableRoom planRoom =
       steps = record { 0 = total .steps };
     }
     in
-    cond (isDone o) answer
-    (record { outcome = o; states = states; plan = 0; cost = record { 0 = 0 }; steps = record { 0 = 0 } })
+    cond (isDone o) answer (notFound o states)
+
+-- the answers of reduction and of the search together
+unfoldable pub bothTogether : Reduced → Found → Run
+bothTogether first found =
+    let planned : Planned =
+    record {
+      outcome = found .outcome;
+      actions = first .actions;
+      facts = first .facts;
+      reduced = first .reduced;
+      origin = first .origin;
+      table = found .states;
+      plan = found .plan;
+      rounds = first .rounds;
+      cost = found .cost;
+      steps = found .steps;
+    }
+    in
+    record { planned = cond (isDone (found .outcome)) planned (unplanned (found .outcome)); states = found .states }

@@ -16,7 +16,7 @@ ghost use Rattle.reduction.specs.Reduce.{rooms};
 ghost use Rattle.search.specs.Table.{tableOf};
 ghost use Rattle.search.specs.Columns.{entriesIn};
 ghost use Rattle.search.specs.Planner.{planRooms, statesFit, searched, searchStage, planAnswer, unplanned, plannedActionMarks, plannedFactMarks, plannedReduced, plannedOrigin, plannedPlan};
-ghost use Rattle.search.specs.Found.{foundPlan, foundAnswer};
+ghost use Rattle.search.specs.Found.{foundPlan, notFound, foundAnswer, bothTogether};
 use crate::Planned;
 use crate::first_plan;
 use crate::states;
@@ -43,7 +43,7 @@ pub struct Run {
 
 // A refusal with so many entries filled.
 fn not_found(outcome: files::Outcome, states: usize) -> Found
-    ensures { λ r. ⌜ r ≡ record { outcome = outcome; states = states; plan = 0; cost = record { 0 = 0 }; steps = record { 0 = 0 } } ⌝ }
+    ensures { λ r. ⌜ r ≡ notFound outcome states ⌝ }
 {
     Found {
         outcome: outcome,
@@ -199,7 +199,7 @@ fn refused(outcome: files::Outcome) -> Planned
 
 // The answer of the stages together.
 fn together(first: reduction::Reduced, found: Found) -> Run
-    ensures { λ r. ⌜ r ≡ record { planned = cond (isDone (found .outcome)) (record { outcome = found .outcome; actions = first .actions; facts = first .facts; reduced = first .reduced; origin = first .origin; table = found .states; plan = found .plan; rounds = first .rounds; cost = found .cost; steps = found .steps }) (unplanned (found .outcome)); states = found .states } ⌝ }
+    ensures { λ r. ⌜ r ≡ bothTogether first found ⌝ }
 {
     let outcome = found.outcome;
     let states = found.states;

@@ -1,0 +1,117 @@
+-- The search of one task: its answer, its table and its plan buffer, from those of its parts.
+use Prim.Native.Nat.{ℕ, _+_, _*_, _≤_, _<_}
+use mathlib.Core.Path.{_≡_, refl, sym, ap, ap₂, _∙_}
+use mathlib.Core.Bool.{Bool, true, false, cond}
+use mathlib.Core.List.{List, []}
+use mathlib.Core.Option.{Option, none, some, Option·map, Option·getD}
+use native.Mathlib.Omega.{arith}
+use lib.Dec.{leb}
+use lib.ListN.{length}
+use Rattle.files.specs.declared.Outcome.{Outcome}
+use Rattle.files.specs.Outcome.{done, refusal, isDone, guard, andThen, fits, overwrite, after}
+use Rattle.files.specs.PlanFile.{planFile}
+use Rattle.files.specs.Task.{Task}
+use Rattle.files.proofs.Guards.{goes-on, stops, goes-le, stops-le, is-done, is-refused, after-done, after-refused}
+use Rattle.plans.specs.Plan.{Total, totalOf}
+use Rattle.search.specs.declared.Entry.{Entry}
+use Rattle.search.specs.declared.row.Found.{Found}
+use Rattle.search.specs.States.{stateCount}
+use Rattle.search.specs.Table.{tableOf}
+use Rattle.search.specs.FirstPlan.{firstPlan}
+use Rattle.search.specs.Columns.{entriesIn}
+use Rattle.search.specs.Planner.{statesFit, planFits}
+use Rattle.search.specs.Found.{searchOutcome, foundPlan, foundStates, notFound, foundAnswer}
+
+module _ (t : Task) (room : ℕ) where
+  pub states-many : (o : Outcome) → 4096 < stateCount (t .variables) → o ≡ refusal 25 0 → o ≡ statesFit t room
+  unfolding statesFit
+  states-many o h e = stops-le (stateCount (t .variables)) 4096 25 0 _ o _ _ refl refl h e
+
+  pub table-short : (o : Outcome) → stateCount (t .variables) ≤ 4096 → room < stateCount (t .variables) → o ≡ refusal 21 (stateCount (t .variables)) → o ≡ statesFit t room
+  unfolding statesFit fits
+  table-short o h k e = goes-le (stateCount (t .variables)) 4096 25 0 _ o _ _ refl refl h (stops-le (stateCount (t .variables)) room 21 (stateCount (t .variables)) _ o _ _ refl refl k e)
+
+  pub states-fit : stateCount (t .variables) ≤ 4096 → stateCount (t .variables) ≤ room → done ≡ statesFit t room
+  unfolding statesFit fits
+  states-fit h k = goes-le (stateCount (t .variables)) 4096 25 0 _ done _ _ refl refl h (goes-le (stateCount (t .variables)) room 21 (stateCount (t .variables)) _ done _ _ refl refl k refl)
+
+-- the entries of no states
+no-entries : (minutes steps : List ℕ) → entriesIn minutes steps 0 ≡ []
+unfolding entriesIn
+no-entries minutes steps = refl
+
+module _ (t : Task) (original : List ℕ → List ℕ) (signer room planRoom : ℕ) where
+  answer-refused : (r : Found) (o : Outcome) (states : ℕ) → o ≡ searchOutcome t original signer room planRoom → (o .number ≡ 0 → ⊥) → states ≡ foundStates t room
+      → r ≡ notFound o states → r ≡ foundAnswer t original signer room planRoom
+  unfolding foundAnswer
+  answer-refused r o states e d s q = rw (← e, is-refused o d, ← s) q
+
+  -- refused before the search
+  module _ (o : Outcome) (e : o ≡ statesFit t room) (d : o .number ≡ 0 → ⊥) (r : Found) (q : r ≡ notFound o 0) where
+    early-states : 0 ≡ foundStates t room
+    unfolding foundStates
+    early-states = rw (← e, is-refused o d) refl
+
+    pub early-answer : r ≡ foundAnswer t original signer room planRoom
+    unfolding searchOutcome
+    early-answer = answer-refused r o 0 (stops (statesFit t room) _ o e d) d early-states q
+
+    pub early-table : (minutes steps : List ℕ) → entriesIn minutes steps (r .states) ≡ cond (isDone (statesFit t room)) (tableOf t) []
+    early-table minutes steps = rw (← e, is-refused o d) (ap (λ (x : Found). entriesIn minutes steps (x .states)) q ∙ no-entries minutes steps)
+
+    pub early-plan : (new old : List ℕ) → old ≡ after (r .outcome) new old
+    early-plan new old = sym (after-refused (r .outcome) new old (λ z. d (ap (λ (x : Found). x .outcome .number) (sym q) ∙ z)))
+
+  -- after the search
+  module _ (e : done ≡ statesFit t room) where
+    fit : isDone (statesFit t room) ≡ true
+    unfolding isDone
+    fit = ap isDone (sym e)
+
+    states-are : stateCount (t .variables) ≡ foundStates t room
+    unfolding foundStates
+    states-are = rw fit refl
+
+    outcome-is : (o : Outcome) → o ≡ planFits (Option·map original (firstPlan t)) signer planRoom → o ≡ searchOutcome t original signer room planRoom
+    unfolding searchOutcome
+    outcome-is o p = goes-on (statesFit t room) _ o done e refl p
+
+    pub full-table : (minutes steps : List ℕ) (states : ℕ) → states ≡ stateCount (t .variables) → entriesIn minutes steps (stateCount (t .variables)) ≡ tableOf t
+        → entriesIn minutes steps states ≡ cond (isDone (statesFit t room)) (tableOf t) []
+    full-table minutes steps states s w = rw (fit, s) w
+
+    module _ (o : Outcome) (p : o ≡ planFits (Option·map original (firstPlan t)) signer planRoom) where
+      module _ (d : o .number ≡ 0 → ⊥) (r : Found) (states : ℕ) (s : states ≡ stateCount (t .variables)) (q : r ≡ notFound o states) where
+        pub late-answer : r ≡ foundAnswer t original signer room planRoom
+        late-answer = answer-refused r o states (outcome-is o p) d (s ∙ states-are) q
+
+        pub late-plan : (new old : List ℕ) → old ≡ after (r .outcome) new old
+        late-plan new old = sym (after-refused (r .outcome) new old (λ z. d (ap (λ (x : Found). x .outcome .number) (sym q) ∙ z)))
+
+      pub done-answer : (z : o .number ≡ 0) (states plan cost steps : ℕ) → states ≡ stateCount (t .variables) → plan ≡ length (planFile (original (foundPlan t)) signer)
+          → cost ≡ totalOf t (foundPlan t) .minutes → steps ≡ totalOf t (foundPlan t) .steps
+          → record { outcome = o; states = states; plan = plan; cost = record { 0 = cost }; steps = record { 0 = steps } } ≡ foundAnswer t original signer room planRoom
+      unfolding foundAnswer
+      done-answer z states plan cost steps s l m k =
+          rw (← outcome-is o p, is-done o z, ← states-are)
+          (λ i. record { outcome = o; states = s i; plan = l i; cost = record { 0 = m i }; steps = record { 0 = k i } })
+
+-- the plan, where there is one and where there is none
+module _ (t : Task) (original : List ℕ → List ℕ) (signer planRoom : ℕ) where
+  pub no-plan : (o : Outcome) → firstPlan t ≡ none → o ≡ refusal 24 0 → o ≡ planFits (Option·map original (firstPlan t)) signer planRoom
+  unfolding planFits
+  no-plan o e q = rw e q
+
+  module _ (plan : List ℕ) (e : firstPlan t ≡ some plan) where
+    pub plan-is : foundPlan t ≡ plan
+    unfolding foundPlan
+    plan-is = rw e refl
+
+    pub plan-short : (o : Outcome) (needed : ℕ) → needed ≡ length (planFile (original plan) signer) → planRoom < needed → o ≡ refusal 21 needed
+        → o ≡ planFits (Option·map original (firstPlan t)) signer planRoom
+    unfolding planFits fits
+    plan-short o needed l h q = rw (e, ← l) (stops-le needed planRoom 21 needed done o _ _ refl refl h q)
+
+    pub plan-fits : (needed : ℕ) → needed ≡ length (planFile (original plan) signer) → needed ≤ planRoom → done ≡ planFits (Option·map original (firstPlan t)) signer planRoom
+    unfolding planFits fits
+    plan-fits needed l h = rw (e, ← l) (goes-le needed planRoom 21 needed done done _ _ refl refl h refl)
