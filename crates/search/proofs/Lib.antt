@@ -1,5 +1,5 @@
--- Laws about the crate's definitions: state numbers, the order on distances, that the distances and the plan read off
--- them are least over all lists.
+-- Laws about the crate's definitions: state numbers, the order on distances, and that the distances and the plan read
+-- off them are least over all lists.
 pub mod Computes
 pub mod Settled
 pub mod Radix
