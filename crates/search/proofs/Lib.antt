@@ -9,4 +9,5 @@ pub mod Distances
 pub mod ReadOff
 pub mod LeastPlans
 pub mod Settling
+pub mod EntryDistances
 pub mod Examples
