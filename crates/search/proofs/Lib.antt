@@ -10,4 +10,5 @@ pub mod ReadOff
 pub mod LeastPlans
 pub mod Settling
 pub mod EntryDistances
+pub mod HeldStates
 pub mod Examples
