@@ -11,4 +11,6 @@ pub mod LeastPlans
 pub mod Settling
 pub mod EntryDistances
 pub mod HeldStates
+pub mod Picking
+pub mod Searching
 pub mod Examples
