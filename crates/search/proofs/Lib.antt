@@ -10,4 +10,9 @@ pub mod ReadOff
 pub mod LeastPlans
 pub mod TableEntries
 pub mod FoundLaws
+pub mod Settling
+pub mod EntryDistances
+pub mod HeldStates
+pub mod Picking
+pub mod Searching
 pub mod Examples
