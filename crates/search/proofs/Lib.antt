@@ -1,4 +1,11 @@
--- Laws about the crate's definitions.
+-- Laws about the crate's definitions: state numbers, the order on distances, and that the distances and the plan read
+-- off them are least over all lists.
 pub mod Computes
 pub mod Settled
+pub mod Radix
+pub mod DistanceLaws
+pub mod Distinct
+pub mod Distances
+pub mod ReadOff
+pub mod LeastPlans
 pub mod Examples
