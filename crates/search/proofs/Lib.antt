@@ -15,4 +15,5 @@ pub mod EntryDistances
 pub mod HeldStates
 pub mod Picking
 pub mod Searching
+pub mod ColumnLaws
 pub mod Examples
