@@ -6,21 +6,28 @@ use mathlib.Core.List.{List, []}
 use mathlib.Core.Option.{Option, none, some, Option·map, Option·getD}
 use native.Mathlib.Omega.{arith}
 use lib.Dec.{leb}
-use lib.ListN.{length}
+use lib.ListN.{length, getD, length-map}
 use Rattle.files.specs.declared.Outcome.{Outcome}
 use Rattle.files.specs.Outcome.{done, refusal, isDone, guard, andThen, fits, overwrite, after}
+use Rattle.files.specs.OriginFile.{originOf}
 use Rattle.files.specs.PlanFile.{planFile}
 use Rattle.files.specs.Task.{Task}
 use Rattle.files.proofs.Guards.{goes-on, stops, goes-le, stops-le, is-done, is-refused, after-done, after-refused}
 use Rattle.plans.specs.Plan.{Total, totalOf}
+use Rattle.files.proofs.Lengths.{plan-file-length}
+use Rattle.files.proofs.Valid.{Valid}
+use Rattle.reduction.specs.Preserved.{byOriginFile}
 use Rattle.search.specs.declared.Entry.{Entry}
 use Rattle.search.specs.declared.row.Found.{Found}
 use Rattle.search.specs.States.{stateCount}
-use Rattle.search.specs.Table.{tableOf}
-use Rattle.search.specs.FirstPlan.{firstPlan}
+use Rattle.search.specs.Table.{Distance, distances, tableOf}
+use Rattle.search.specs.FirstPlan.{startNumber, firstPlan}
 use Rattle.search.specs.Columns.{entriesIn}
 use Rattle.search.specs.Planner.{statesFit, planFits}
 use Rattle.search.specs.Found.{searchOutcome, foundPlan, foundStates, notFound, foundAnswer}
+use Rattle.search.proofs.Radix.{start-below}
+use Rattle.search.proofs.ReadOff.{steps-length}
+use Rattle.search.proofs.LeastPlans.{stepsRead, first-plan-some, search-least}
 
 module _ (t : Task) (room : ℕ) where
   pub states-many : (o : Outcome) → 4096 < stateCount (t .variables) → o ≡ refusal 25 0 → o ≡ statesFit t room
@@ -96,6 +103,10 @@ module _ (t : Task) (original : List ℕ → List ℕ) (signer room planRoom : �
           rw (← outcome-is o p, is-done o z, ← states-are)
           (λ i. record { outcome = o; states = s i; plan = l i; cost = record { 0 = m i }; steps = record { 0 = k i } })
 
+pub plan-is : (t : Task) (plan : List ℕ) → firstPlan t ≡ some plan → foundPlan t ≡ plan
+unfolding foundPlan
+plan-is t plan e = rw e refl
+
 -- the plan, where there is one and where there is none
 module _ (t : Task) (original : List ℕ → List ℕ) (signer planRoom : ℕ) where
   pub no-plan : (o : Outcome) → firstPlan t ≡ none → o ≡ refusal 24 0 → o ≡ planFits (Option·map original (firstPlan t)) signer planRoom
@@ -103,10 +114,6 @@ module _ (t : Task) (original : List ℕ → List ℕ) (signer planRoom : ℕ) w
   no-plan o e q = rw e q
 
   module _ (plan : List ℕ) (e : firstPlan t ≡ some plan) where
-    pub plan-is : foundPlan t ≡ plan
-    unfolding foundPlan
-    plan-is = rw e refl
-
     pub plan-short : (o : Outcome) (needed : ℕ) → needed ≡ length (planFile (original plan) signer) → planRoom < needed → o ≡ refusal 21 needed
         → o ≡ planFits (Option·map original (firstPlan t)) signer planRoom
     unfolding planFits fits
@@ -115,3 +122,25 @@ module _ (t : Task) (original : List ℕ → List ℕ) (signer planRoom : ℕ) w
     pub plan-fits : (needed : ℕ) → needed ≡ length (planFile (original plan) signer) → needed ≤ planRoom → done ≡ planFits (Option·map original (firstPlan t)) signer planRoom
     unfolding planFits fits
     plan-fits needed l h = rw (e, ← l) (goes-le needed planRoom 21 needed done done _ _ refl refl h refl)
+
+-- the plan where the start state has an entry: its file's length, its cost and steps
+module _ (t : Task) (valid : Valid t) (x : Total) (e : getD (distances t) (startNumber t) none ≡ some x) where
+  pub read-plan : firstPlan t ≡ some (stepsRead t)
+  read-plan = first-plan-some t x e
+
+  pub read-total : totalOf t (foundPlan t) ≡ x
+  read-total =
+      let q : some x ≡ Option·map (totalOf t) (some (stepsRead t)) = sym e ∙ search-least t valid .total ∙ ap (Option·map (totalOf t)) read-plan in
+      ap (totalOf t) (plan-is t (stepsRead t) read-plan) ∙ cc
+
+  pub read-needed : (origin : List ℕ) (signer needed : ℕ) → needed ≡ 16 + 2 * x .steps → needed ≡ length (planFile (byOriginFile origin (stepsRead t)) signer)
+  unfolding byOriginFile
+  read-needed origin signer needed n =
+      let l = steps-length t valid (startNumber t) x (start-below t valid) e in
+      let m = length-map (stepsRead t) (λ k. getD (originOf origin .actions) k 0) in
+      omega (arith, plan-file-length (byOriginFile origin (stepsRead t)) signer)
+
+pub plan-written : (t : Task) (origin : List ℕ) (signer : ℕ) (o : Outcome) (old new : List ℕ) → o .number ≡ 0
+    → new ≡ overwrite old (planFile (byOriginFile origin (Option·getD (firstPlan t) [])) signer) → new ≡ after o (planFile (byOriginFile origin (foundPlan t)) signer) old
+unfolding foundPlan
+plan-written t origin signer o old new z e = e ∙ sym (after-done o _ old z)

@@ -10,6 +10,7 @@ pub mod ReadOff
 pub mod LeastPlans
 pub mod TableEntries
 pub mod FoundLaws
+pub mod RowLaws
 pub mod Settling
 pub mod EntryDistances
 pub mod HeldStates

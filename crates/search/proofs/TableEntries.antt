@@ -15,7 +15,10 @@ use Rattle.plans.specs.Plan.{Total}
 use Rattle.search.specs.declared.Entry.{Entry}
 use Rattle.search.specs.States.{stateCount}
 use Rattle.search.specs.Table.{entry, entryOf, distances, tableOf}
+use Rattle.search.specs.FirstPlan.{startNumber, firstPlan}
 use Rattle.search.specs.Columns.{entryIn, entriesIn}
+use Rattle.search.proofs.Radix.{start-below}
+use Rattle.search.proofs.LeastPlans.{first-plan-none}
 use Rattle.search.proofs.Distances.{distances-length, steps-few, minutes-few}
 
 module _ (t : Task) (minutes steps : List ℕ) (table : entriesIn minutes steps (stateCount (t .variables)) ≡ tableOf t) where
@@ -50,3 +53,29 @@ module _ (t : Task) (minutes steps : List ℕ) (table : entriesIn minutes steps 
       (λ x q.
       let is : entryIn minutes steps s ≡ entryOf (some x) = entry-is s h ∙ ap entryOf q in
       record { total = x; distance = q; minutes-are = ap (λ (y : Entry). y .minutes) is; steps-are = ap (λ (y : Entry). y .steps) is })
+
+  -- the entry of the start state
+  module _ (valid : Valid t) (s : ℕ) (e : s ≡ startNumber t) where
+    below : s < stateCount (t .variables)
+    below = omega (arith, start-below t valid)
+
+    pub start-none : stateCount (t .variables) ≤ 4096 → getD minutes s 0 ≡ 18446744073709551615 → firstPlan t ≡ none
+    start-none few m = first-plan-none t (ap (λ (n : ℕ). getD (distances t) n none) (sym e) ∙ entry-none s below valid few m)
+
+    pub start-some : (getD minutes s 0 ≡ 18446744073709551615 → ⊥) → EntrySome s
+    start-some d = entry-some s below d
+
+    pub start-distance : (x : Total) → getD (distances t) s none ≡ some x → getD (distances t) (startNumber t) none ≡ some x
+    start-distance x q = ap (λ (n : ℕ). getD (distances t) n none) (sym e) ∙ q
+
+    pub start-low : stateCount (t .variables) ≤ 4096 → (getD minutes s 0 ≡ 18446744073709551615 → ⊥) → getD minutes (startNumber t) 0 < 18446744073709551615
+    start-low few d =
+        let x = start-some d in
+        omega (arith, ap (λ (n : ℕ). getD minutes n 0) e, x .minutes-are, steps-few t valid s (x .total) below (x .distance), minutes-few t valid s (x .total) below (x .distance))
+
+    pub start-steps : getD steps s 0 ≡ getD steps (startNumber t) 0
+    start-steps = ap (λ (n : ℕ). getD steps n 0) e
+
+-- the columns up to the count that a function has
+pub at-count : (t : Task) (minutes steps : List ℕ) (n m : ℕ) → n ≡ m → entriesIn minutes steps n ≡ tableOf t → entriesIn minutes steps m ≡ tableOf t
+at-count t minutes steps n m e w = ap (entriesIn minutes steps) (sym e) ∙ w
