@@ -12,5 +12,6 @@ pub mod Settling
 pub mod EntryDistances
 pub mod HeldStates
 pub mod Picking
+pub mod Begun
 pub mod Searching
 pub mod Examples
