@@ -1,30 +1,19 @@
 -- The columns before any step, filled state by state.
 use Prim.Native.Nat.{ℕ, _+_, _≤_, _<_}
-use mathlib.Core.Path.{_≡_, refl, sym, ap, ap₂, _∙_}
+use mathlib.Core.Path.{_≡_, refl, sym, ap, _∙_}
 use mathlib.Core.Bool.{Bool, cond}
 use mathlib.Core.List.{List}
 use native.Mathlib.Omega.{arith}
 use lib.Dec.{eqb}
-use lib.ListN.{length, set}
-use lib.Seq.{getD-set-same, getD-set-other}
-use borrow.Author.Tests.{eqb-true, eqb-false, eq-eqb, ne-eqb}
+use lib.ListN.{length}
+use borrow.Author.Tests.{eq-eqb, ne-eqb}
 use Rattle.files.specs.Dense.{rowPairs}
-use Rattle.files.proofs.Logic.{split, split-le}
+use Rattle.files.proofs.Logic.{split-le}
 use Rattle.plans.specs.State.{allHold}
 use Rattle.plans.specs.Tally.{listState}
 use Rattle.search.specs.States.{stateAt}
-use Rattle.search.specs.Table.{entry}
 use Rattle.search.specs.Columns.{entryIn, rowVariables}
 use Rattle.search.specs.Settling.{firstEntry}
-use Rattle.search.specs.declared.Entry.{Entry}
-
--- columns that are set at one state
-pub set-entry : (minutes steps : List ℕ) (x : ℕ) (e : Entry) → x < length minutes → x < length steps → (s : ℕ)
-    → entryIn (set minutes x (e .minutes)) (set steps x (e .steps)) s ≡ cond (eqb s x) e (entryIn minutes steps s)
-set-entry minutes steps x e a b s =
-    split (eqb s x)
-    (λ q. let same : s ≡ x = eqb-true s x q in rw (q, same) (ap₂ entry (getD-set-same minutes x (e .minutes) 0 a) (getD-set-same steps x (e .steps) 0 b)))
-    (λ q. rw q (ap₂ entry (getD-set-other minutes x s (e .minutes) 0 (eqb-false s x q)) (getD-set-other steps x s (e .steps) 0 (eqb-false s x q))))
 
 -- whether the goal's row holds in a state
 abbrev pub atGoalRow : List ℕ → List ℕ → ℕ → List ℕ → ℕ → Bool

@@ -8,6 +8,7 @@ pub mod Distinct
 pub mod Distances
 pub mod ReadOff
 pub mod LeastPlans
+pub mod ColumnLaws
 pub mod Settling
 pub mod EntryDistances
 pub mod HeldStates
