@@ -10,7 +10,7 @@ pub mod ReadOff
 pub mod LeastPlans
 pub mod ColumnLaws
 pub mod Settling
-pub mod EntryDistances
+pub mod Offering
 pub mod HeldStates
 pub mod Picking
 pub mod Begun

@@ -28,7 +28,7 @@ use Rattle.search.specs.declared.Entry.{Entry}
 use Rattle.search.proofs.DistanceLaws.{Le, le-none}
 use Rattle.search.proofs.Distances.{settled-is, distances-length}
 use Rattle.search.proofs.Settling.{Going, settle, settled, starts}
-use Rattle.search.proofs.EntryDistances.{top, distanceOf, distance-none, distance-some, entry-of-none, entry-of-some, less-some, after-minutes, after-steps, offered-same, offers, offered-relaxed}
+use Rattle.search.proofs.Offering.{top, distanceOf, distance-none, distance-some, entry-of-none, entry-of-some, less-some, after-minutes, after-steps, offered-same, offers, offered-relaxed}
 use Rattle.search.proofs.HeldStates.{held-variables, held-states, held-actions, held-valid}
 
 -- how many states are open

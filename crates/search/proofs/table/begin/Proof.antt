@@ -22,9 +22,10 @@ all-hold-requires : tie.Need-all-hold-requires Inv-loop μ-loop
 all-hold-requires c κs = search needs
 
 store-requires : tie.Need-store-requires Inv-loop μ-loop
-store-requires c κs = let s = c .before .before .before .before .before .before .before .before .before .before in
+store-requires c κs =
+    let s = c .before .before .before .before .before .before .before .before .before .before in
     let inv = c .before .before .before .before .before .before .before .loop .inv in
-    let test = c .before .before .before .before .before .before .loop-test .taken in
+    let below = c .before .before .before .before .before .before .loop-test .taken in
     (omega (arith, inv .minutes-same, s .pre .2), omega (arith, inv .steps-same, s .pre .3))
 
 add-s : tie.Need-add-s Inv-loop μ-loop
@@ -34,7 +35,10 @@ loop-less : tie.Need-loop-less Inv-loop μ-loop
 loop-less c = omega (arith, c .before .before .before .before .before .before .before .before .before .before .before .loop-test .taken)
 
 loop-again : tie.Need-loop-again Inv-loop μ-loop
-loop-again c = begun-next _ _ _ _ _ _ _ _ _ _ _ _ _ (c .before .before .before .before .before .before .before .before .before .before .before .before .loop .inv) (c .before .before .before .before .before .before .before .before .before .before .before .loop-test .taken) (c .before .before .before .before .store .kept .0) (c .before .before .before .before .store .kept .1 .0) (c .before .before .before .before .before .before .before .before .before .before .values-of .ensures) (c .before .before .before .before .before .all-hold .ensures) (c .before .before .before .before .store .ensures)
+loop-again c =
+    let stored = c .before .before .before .before .store in
+    let turn = c .before .before .before .before .before .before .before .before .before .before .before in
+    begun-next _ _ _ _ _ _ _ _ _ _ _ _ _ (turn .before .loop .inv) (turn .loop-test .taken) (stored .kept .0) (stored .kept .1 .0) (c .before .before .before .before .before .before .before .before .before .before .values-of .ensures) (c .before .before .before .before .before .all-hold .ensures) (stored .ensures)
 
 same-length : tie.Need-same-length Inv-loop μ-loop
 same-length c = c .before .loop .inv .minutes-same

@@ -22,7 +22,8 @@ returns-2 : tie.Need-returns-2
 returns-2 c = pick-skip _ _ _ _ _ _ (c .before .before .before .before .before .before .before .pre .0) (λ z w. omega (arith, c .if2 .taken))
 
 returns-3 : tie.Need-returns-3
-returns-3 c = let s = c .before .before .before .before .before .before .before .before in
+returns-3 c =
+    let s = c .before .before .before .before .before .before .before .before in
     let known = c .before .before .shared-slice-known5 .given (s .args .s) in
     pick-new _ _ _ _ _ _ (s .pre .0) (s .pre .1) (c .before .before .before .if1 .left) (omega (arith, c .before .if2 .left, known)) (λ r. absurd (omega (arith, c .if3 .taken)))
 
@@ -54,12 +55,14 @@ less-requires : tie.Need-less-requires
 less-requires c κs = search needs
 
 returns-4 : tie.Need-returns-4
-returns-4 c = let s = c .before .before .before .before .before .before .before .before .before .before .before .before .before .before in
+returns-4 c =
+    let s = c .before .before .before .before .before .before .before .before .before .before .before .before .before .before in
     let known = c .before .before .before .before .before .before .before .before .shared-slice-known5 .given (s .args .s) in
     pick-new _ _ _ _ _ _ (s .pre .0) (s .pre .1) (c .before .before .before .before .before .before .before .before .before .if1 .left) (omega (arith, c .before .before .before .before .before .before .before .if2 .left, known)) (λ r. sym (c .before .less .ensures) ∙ c .if4 .taken)
 
 returns-5 : tie.Need-returns-5
-returns-5 c = let s = c .before .before .before .before .before .before .before .before .before .before .before .before .before .before in
+returns-5 c =
+    let s = c .before .before .before .before .before .before .before .before .before .before .before .before .before .before in
     pick-keep _ _ _ _ _ _ (s .pre .0) (omega (arith, s .pre .0 .range, c .before .before .before .before .before .before .if3 .left)) (sym (c .before .less .ensures) ∙ c .if4 .left)
 
 pub better-spec : {M : Type 1} → statement M

@@ -87,7 +87,8 @@ settle-requires c κs =
     )
 
 slice-aggregate-select-2 : tie.Need-slice-aggregate-select-2 Inv-loop μ-loop
-slice-aggregate-select-2 c = let l = c .before .before .before .before .before .before .before .before .before .before .before .before .loop in sym (length-set (l .settled) (l .s) 1 ∙ l .inv .0 .size)
+slice-aggregate-select-2 c =
+    let l = c .before .before .before .before .before .before .before .before .before .before .before .before .loop in sym (length-set (l .settled) (l .s) 1 ∙ l .inv .0 .size)
 
 select-requires-2 : tie.Need-select-requires-2 Inv-loop μ-loop
 select-requires-2 c κs =

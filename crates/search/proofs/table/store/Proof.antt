@@ -36,7 +36,9 @@ same-length-2 : tie.Need-same-length-2
 same-length-2 c = search needs
 
 returns : tie.Need-returns
-returns c = let s = c .before in rw (c .if1 .taken) (λ r. set-entry (now (s .args .minutes)) (now (s .args .steps)) (s .args .state) 0 0 r (s .pre .0) (s .pre .1))
+returns c =
+    let s = c .before in
+    rw (c .if1 .taken) (λ r. set-entry (now (s .args .minutes)) (now (s .args .steps)) (s .args .state) 0 0 r (s .pre .0) (s .pre .1))
 
 same-length-3 : tie.Need-same-length-3
 same-length-3 c = search needs
@@ -45,7 +47,9 @@ same-length-4 : tie.Need-same-length-4
 same-length-4 c = search needs
 
 returns-2 : tie.Need-returns-2
-returns-2 c = let s = c .before in rw (c .if1 .left) (λ r. set-entry (now (s .args .minutes)) (now (s .args .steps)) (s .args .state) 18446744073709551615 65535 r (s .pre .0) (s .pre .1))
+returns-2 c =
+    let s = c .before in
+    rw (c .if1 .left) (λ r. set-entry (now (s .args .minutes)) (now (s .args .steps)) (s .args .state) 18446744073709551615 65535 r (s .pre .0) (s .pre .1))
 
 pub store-spec : {M : Type 1} → statement M
 store-spec =

@@ -1,4 +1,4 @@
--- Entries as distances: the order on entries is that on distances, and what the steps to a settled state offer.
+-- Entries as distances: the order on entries is that on distances; and what the steps to a settled state offer.
 use Prim.Native.Nat.{ℕ, zero, suc, _+_, _<_}
 use mathlib.Core.Path.{_≡_, refl, sym, ap, subst, _∙_}
 use mathlib.Core.Bool.{true, false, cond}
