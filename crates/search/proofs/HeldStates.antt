@@ -6,8 +6,8 @@ use mathlib.Core.List.{List, [], _∷_}
 use native.Mathlib.Omega.{arith}
 use lib.ListN.{length, getD}
 use borrow.Author.Tests.{ne-eqb}
-use Rattle.files.specs.Below.{tabulateFrom, tabulate}
-use Rattle.files.specs.Task.{Variable, Task, variable, actionCount, actionOf, sizeOf, startOf}
+use Rattle.files.specs.Below.{tabulateFrom}
+use Rattle.files.specs.Task.{Variable, actionCount, actionOf}
 use Rattle.files.specs.Accepted.{acceptedTask}
 use Rattle.files.specs.Dense.{Arrays, rowVariable, rowAction, held}
 use Rattle.files.proofs.Valid.{Valid, task-valid}
@@ -48,10 +48,11 @@ module _ (d : Arrays) where
   held-actions a h = held-action d a (omega (arith, actions-held d))
 
   -- the number of the start state, by the array of the start values
-  pub held-start : stateNumber (rowVariables (d .variables) (d .sizes) (d .starts)) (listState (d .starts)) ≡ startNumber (held d)
+  pub held-start : (number : ℕ) → number ≡ stateNumber (rowVariables (d .variables) (d .sizes) (d .starts)) (listState (d .starts)) → number ≡ startNumber (held d)
   unfolding startNumber startState listState
-  held-start =
-      ap (λ (vs : List Variable). stateNumber vs (listState (d .starts))) (sym held-variables)
+  held-start number e =
+      e
+      ∙ ap (λ (vs : List Variable). stateNumber vs (listState (d .starts))) (sym held-variables)
       ∙ number-same (held d .variables) (listState (d .starts)) (startState (held d)) (λ v l. sym (start-held d v (omega (arith, variables-held d))))
 
   module _ (accepted : acceptedTask (held d) ≡ true) where

@@ -11,10 +11,11 @@ pub mod LeastPlans
 pub mod TableEntries
 pub mod FoundLaws
 pub mod RowLaws
+pub mod ColumnLaws
 pub mod Settling
-pub mod EntryDistances
+pub mod Offering
 pub mod HeldStates
 pub mod Picking
+pub mod Begun
 pub mod Searching
-pub mod ColumnLaws
 pub mod Examples

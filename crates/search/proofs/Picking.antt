@@ -8,7 +8,7 @@ use lib.ListN.{getD}
 use Rattle.files.proofs.Logic.{split-le}
 use Rattle.search.specs.Columns.{entryIn, lessEntry}
 use Rattle.search.specs.Settling.{Picked}
-use Rattle.search.proofs.EntryDistances.{top, lessEntry-self, lessEntry-below}
+use Rattle.search.proofs.Offering.{top, lessEntry-self, lessEntry-below}
 
 module _ (minutes steps settled : List ℕ) (count : ℕ) where
   pub pick-none : Picked minutes steps settled count 0 count

@@ -10,25 +10,25 @@ use lib.Dec.{eqb}
 use lib.ListN.{length, getD, set, length-set, length-map, replicate, length-replicate, getD-replicate}
 use lib.Seq.{getD-set-same, getD-set-other}
 use borrow.Author.Tests.{eqb-true, eq-eqb}
-use Rattle.files.specs.Below.{bit, tabulate}
-use Rattle.files.specs.Task.{Action, Task, actionCount, actionOf}
+use Rattle.files.specs.Below.{bit}
+use Rattle.files.specs.Task.{actionCount, actionOf}
 use Rattle.files.specs.Accepted.{acceptedTask}
 use Rattle.files.specs.Dense.{Arrays, rowPairs, rowAction, held}
 use Rattle.files.proofs.BelowLaws.{map-entry}
-use Rattle.files.proofs.Logic.{clash, split, split-le}
+use Rattle.files.proofs.Logic.{clash, split}
 use Rattle.files.proofs.Tabulate.{tabulate-is}
 use Rattle.plans.specs.State.{allHold}
 use Rattle.plans.specs.Plan.{noSteps}
 use Rattle.marking.proofs.HeldTask.{actions-held, goal-held}
 use Rattle.search.specs.States.{stateCount, stateAt}
 use Rattle.search.specs.Table.{Distance, distances, entry, entryOf, tableOf}
-use Rattle.search.specs.Columns.{entryIn, entriesIn, lessEntry, afterStep, offered, rowVariables, rowStates}
+use Rattle.search.specs.Columns.{entryIn, entriesIn, afterStep, offered, rowVariables, rowStates}
 use Rattle.search.specs.Settling.{firstEntry, Picked}
 use Rattle.search.specs.declared.Entry.{Entry}
 use Rattle.search.proofs.DistanceLaws.{Le, le-none}
 use Rattle.search.proofs.Distances.{settled-is, distances-length}
-use Rattle.search.proofs.Settling.{Going, Relaxed, settle, settled, starts}
-use Rattle.search.proofs.EntryDistances.{top, distanceOf, distance-none, distance-some, entry-of-none, entry-of-some, less-some, after-minutes, after-steps, offered-same, Offers, offers, offered-relaxed}
+use Rattle.search.proofs.Settling.{Going, settle, settled, starts}
+use Rattle.search.proofs.Offering.{top, distanceOf, distance-none, distance-some, entry-of-none, entry-of-some, less-some, after-minutes, after-steps, offered-same, offers, offered-relaxed}
 use Rattle.search.proofs.HeldStates.{held-variables, held-states, held-actions, held-valid}
 
 -- how many states are open

@@ -1,6 +1,6 @@
 // The table of the task that arrays hold: backwards from the goal, the least entry settled first.
 ghost use mathlib.Core.Path.{_≡_};
-ghost use mathlib.Core.Bool.{Bool, cond, true};
+ghost use mathlib.Core.Bool.{cond, true};
 ghost use mathlib.Core.List.{List};
 ghost use Prim.Native.Nat.{ℕ, _+_, _<_, _≤_};
 ghost use lib.Dec.{eqb};

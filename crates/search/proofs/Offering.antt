@@ -1,24 +1,23 @@
--- Entries as distances: the order on entries is that on distances, and what the steps to a settled state offer.
-use Prim.Native.Nat.{ℕ, zero, suc, _+_, _≤_, _<_}
+-- Entries as distances: the order on entries is that on distances; and what the steps to a settled state offer.
+use Prim.Native.Nat.{ℕ, zero, suc, _+_, _<_}
 use mathlib.Core.Path.{_≡_, refl, sym, ap, subst, _∙_}
-use mathlib.Core.Bool.{Bool, true, false, not, cond, _&&_}
+use mathlib.Core.Bool.{true, false, cond}
 use mathlib.Core.List.{List}
 use mathlib.Core.Logic.{_⊎_, inl, inr, ⊎-elim}
 use mathlib.Core.Option.{none, some}
 use native.Mathlib.Omega.{arith}
 use lib.Dec.{eqb}
-use lib.ListN.{getD}
-use borrow.Author.Tests.{eqb-true, eqb-false, eq-eqb, ne-eqb}
+use borrow.Author.Tests.{eqb-true, eq-eqb, ne-eqb}
 use Rattle.files.specs.Task.{Variable, Action, Task, actionCount, actionOf}
 use Rattle.files.proofs.Logic.{clash, split, split-le, and-split, and-join}
 use Rattle.plans.specs.State.{applicable}
-use Rattle.plans.specs.Plan.{Total, noSteps, addStep, atMost}
+use Rattle.plans.specs.Plan.{addStep, atMost}
 use Rattle.plans.proofs.OrderLaws.{atMost-says}
 use Rattle.search.specs.States.{stateCount, stateAt}
 use Rattle.search.specs.Table.{Distance, less, least, stepTo, nextState, entry, entryOf}
-use Rattle.search.specs.Columns.{entryIn, totalIn, lessEntry, lowered, afterStep, leadsTo, offered}
+use Rattle.search.specs.Columns.{totalIn, lessEntry, lowered, afterStep, leadsTo, offered}
 use Rattle.search.specs.declared.Entry.{Entry}
-use Rattle.search.proofs.DistanceLaws.{Le, le-refl, le-trans, less-le, stepTo-some, least-left, least-right, least-is}
+use Rattle.search.proofs.DistanceLaws.{Le, le-refl, le-trans, less-le, stepTo-some, least-left, least-right}
 use Rattle.search.proofs.Settling.{Leads, Relaxed}
 
 -- the minutes of an entry that is none
