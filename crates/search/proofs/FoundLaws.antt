@@ -47,6 +47,23 @@ no-entries : (minutes steps : List ℕ) → entriesIn minutes steps 0 ≡ []
 unfolding entriesIn
 no-entries minutes steps = refl
 
+-- the plan buffer after a refusal
+pub refused-plan : (r : Found) (o : Outcome) (states : ℕ) → r ≡ notFound o states → (o .number ≡ 0 → ⊥) → (new old : List ℕ) → old ≡ after (r .outcome) new old
+refused-plan r o states q d new old = sym (after-refused (r .outcome) new old (λ z. d (ap (λ (x : Found). x .outcome .number) (sym q) ∙ z)))
+
+module _ (t : Task) (room : ℕ) where
+  pub early-table : (o : Outcome) → o ≡ statesFit t room → (o .number ≡ 0 → ⊥) → (r : Found) → r ≡ notFound o 0
+      → (minutes steps : List ℕ) → entriesIn minutes steps (r .states) ≡ cond (isDone (statesFit t room)) (tableOf t) []
+  early-table o e d r q minutes steps = rw (← e, is-refused o d) (ap (λ (x : Found). entriesIn minutes steps (x .states)) q ∙ no-entries minutes steps)
+
+  fit : done ≡ statesFit t room → isDone (statesFit t room) ≡ true
+  unfolding isDone
+  fit e = ap isDone (sym e)
+
+  pub full-table : done ≡ statesFit t room → (minutes steps : List ℕ) (states : ℕ) → states ≡ stateCount (t .variables)
+      → entriesIn minutes steps (stateCount (t .variables)) ≡ tableOf t → entriesIn minutes steps states ≡ cond (isDone (statesFit t room)) (tableOf t) []
+  full-table e minutes steps states s w = rw (fit e, s) w
+
 module _ (t : Task) (original : List ℕ → List ℕ) (signer room planRoom : ℕ) where
   answer-refused : (r : Found) (o : Outcome) (states : ℕ) → o ≡ searchOutcome t original signer room planRoom → (o .number ≡ 0 → ⊥) → states ≡ foundStates t room
       → r ≡ notFound o states → r ≡ foundAnswer t original signer room planRoom
@@ -54,54 +71,32 @@ module _ (t : Task) (original : List ℕ → List ℕ) (signer room planRoom : �
   answer-refused r o states e d s q = rw (← e, is-refused o d, ← s) q
 
   -- refused before the search
-  module _ (o : Outcome) (e : o ≡ statesFit t room) (d : o .number ≡ 0 → ⊥) (r : Found) (q : r ≡ notFound o 0) where
-    early-states : 0 ≡ foundStates t room
-    unfolding foundStates
-    early-states = rw (← e, is-refused o d) refl
-
-    pub early-answer : r ≡ foundAnswer t original signer room planRoom
-    unfolding searchOutcome
-    early-answer = answer-refused r o 0 (stops (statesFit t room) _ o e d) d early-states q
-
-    pub early-table : (minutes steps : List ℕ) → entriesIn minutes steps (r .states) ≡ cond (isDone (statesFit t room)) (tableOf t) []
-    early-table minutes steps = rw (← e, is-refused o d) (ap (λ (x : Found). entriesIn minutes steps (x .states)) q ∙ no-entries minutes steps)
-
-    pub early-plan : (new old : List ℕ) → old ≡ after (r .outcome) new old
-    early-plan new old = sym (after-refused (r .outcome) new old (λ z. d (ap (λ (x : Found). x .outcome .number) (sym q) ∙ z)))
+  pub early-answer : (o : Outcome) → o ≡ statesFit t room → (o .number ≡ 0 → ⊥) → (r : Found) → r ≡ notFound o 0 → r ≡ foundAnswer t original signer room planRoom
+  unfolding searchOutcome foundStates
+  early-answer o e d r q =
+      let none-filled : 0 ≡ foundStates t room = rw (← e, is-refused o d) refl in
+      answer-refused r o 0 (stops (statesFit t room) _ o e d) d none-filled q
 
   -- after the search
-  module _ (e : done ≡ statesFit t room) where
-    fit : isDone (statesFit t room) ≡ true
-    unfolding isDone
-    fit = ap isDone (sym e)
-
+  module _ (e : done ≡ statesFit t room) (o : Outcome) (p : o ≡ planFits (Option·map original (firstPlan t)) signer planRoom) where
     states-are : stateCount (t .variables) ≡ foundStates t room
     unfolding foundStates
-    states-are = rw fit refl
+    states-are = rw (fit t room e) refl
 
-    outcome-is : (o : Outcome) → o ≡ planFits (Option·map original (firstPlan t)) signer planRoom → o ≡ searchOutcome t original signer room planRoom
+    outcome-is : o ≡ searchOutcome t original signer room planRoom
     unfolding searchOutcome
-    outcome-is o p = goes-on (statesFit t room) _ o done e refl p
+    outcome-is = goes-on (statesFit t room) _ o done e refl p
 
-    pub full-table : (minutes steps : List ℕ) (states : ℕ) → states ≡ stateCount (t .variables) → entriesIn minutes steps (stateCount (t .variables)) ≡ tableOf t
-        → entriesIn minutes steps states ≡ cond (isDone (statesFit t room)) (tableOf t) []
-    full-table minutes steps states s w = rw (fit, s) w
+    pub late-answer : (o .number ≡ 0 → ⊥) → (r : Found) (states : ℕ) → states ≡ stateCount (t .variables) → r ≡ notFound o states → r ≡ foundAnswer t original signer room planRoom
+    late-answer d r states s q = answer-refused r o states outcome-is d (s ∙ states-are) q
 
-    module _ (o : Outcome) (p : o ≡ planFits (Option·map original (firstPlan t)) signer planRoom) where
-      module _ (d : o .number ≡ 0 → ⊥) (r : Found) (states : ℕ) (s : states ≡ stateCount (t .variables)) (q : r ≡ notFound o states) where
-        pub late-answer : r ≡ foundAnswer t original signer room planRoom
-        late-answer = answer-refused r o states (outcome-is o p) d (s ∙ states-are) q
-
-        pub late-plan : (new old : List ℕ) → old ≡ after (r .outcome) new old
-        late-plan new old = sym (after-refused (r .outcome) new old (λ z. d (ap (λ (x : Found). x .outcome .number) (sym q) ∙ z)))
-
-      pub done-answer : (z : o .number ≡ 0) (states plan cost steps : ℕ) → states ≡ stateCount (t .variables) → plan ≡ length (planFile (original (foundPlan t)) signer)
-          → cost ≡ totalOf t (foundPlan t) .minutes → steps ≡ totalOf t (foundPlan t) .steps
-          → record { outcome = o; states = states; plan = plan; cost = record { 0 = cost }; steps = record { 0 = steps } } ≡ foundAnswer t original signer room planRoom
-      unfolding foundAnswer
-      done-answer z states plan cost steps s l m k =
-          rw (← outcome-is o p, is-done o z, ← states-are)
-          (λ i. record { outcome = o; states = s i; plan = l i; cost = record { 0 = m i }; steps = record { 0 = k i } })
+    pub done-answer : o .number ≡ 0 → (states plan cost steps : ℕ) → states ≡ stateCount (t .variables) → plan ≡ length (planFile (original (foundPlan t)) signer)
+        → cost ≡ totalOf t (foundPlan t) .minutes → steps ≡ totalOf t (foundPlan t) .steps
+        → record { outcome = o; states = states; plan = plan; cost = record { 0 = cost }; steps = record { 0 = steps } } ≡ foundAnswer t original signer room planRoom
+    unfolding foundAnswer
+    done-answer z states plan cost steps s l m k =
+        rw (← outcome-is, is-done o z, ← states-are)
+        (λ i. record { outcome = o; states = s i; plan = l i; cost = record { 0 = m i }; steps = record { 0 = k i } })
 
 pub plan-is : (t : Task) (plan : List ℕ) → firstPlan t ≡ some plan → foundPlan t ≡ plan
 unfolding foundPlan
@@ -140,7 +135,23 @@ module _ (t : Task) (valid : Valid t) (x : Total) (e : getD (distances t) (start
       let m = length-map (stepsRead t) (λ k. getD (originOf origin .actions) k 0) in
       omega (arith, plan-file-length (byOriginFile origin (stepsRead t)) signer)
 
+  pub read-length : (origin : List ℕ) (signer needed : ℕ) → needed ≡ 16 + 2 * x .steps → needed ≡ length (planFile (byOriginFile origin (foundPlan t)) signer)
+  read-length origin signer needed n =
+      read-needed origin signer needed n ∙ ap (λ (p : List ℕ). length (planFile (byOriginFile origin p) signer)) (sym (plan-is t (stepsRead t) read-plan))
+
 pub plan-written : (t : Task) (origin : List ℕ) (signer : ℕ) (o : Outcome) (old new : List ℕ) → o .number ≡ 0
     → new ≡ overwrite old (planFile (byOriginFile origin (Option·getD (firstPlan t) [])) signer) → new ≡ after o (planFile (byOriginFile origin (foundPlan t)) signer) old
 unfolding foundPlan
 plan-written t origin signer o old new z e = e ∙ sym (after-done o _ old z)
+
+-- the same of the same task
+module _ (h t : Task) (is : h ≡ t) where
+  pub answer-alike : (original : List ℕ → List ℕ) (signer room planRoom : ℕ) (r : Found) → r ≡ foundAnswer h original signer room planRoom → r ≡ foundAnswer t original signer room planRoom
+  answer-alike original signer room planRoom r e = e ∙ ap (λ (x : Task). foundAnswer x original signer room planRoom) is
+
+  pub table-alike : (room : ℕ) (l : List Entry) → l ≡ cond (isDone (statesFit h room)) (tableOf h) [] → l ≡ cond (isDone (statesFit t room)) (tableOf t) []
+  table-alike room l e = e ∙ ap (λ (x : Task). cond (isDone (statesFit x room)) (tableOf x) []) is
+
+  pub plan-alike : (origin : List ℕ) (signer : ℕ) (o : Outcome) (old new : List ℕ) → new ≡ after o (planFile (byOriginFile origin (foundPlan h)) signer) old
+      → new ≡ after o (planFile (byOriginFile origin (foundPlan t)) signer) old
+  plan-alike origin signer o old new e = e ∙ ap (λ (x : Task). after o (planFile (byOriginFile origin (foundPlan x)) signer) old) is

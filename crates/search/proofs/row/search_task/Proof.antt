@@ -1,6 +1,5 @@
 -- The answers in the order of the refusals: too many states, the table's room, no plan, the plan's room, the plan.
 use Prim.Native.Nat.{ℕ, _+_, _*_, _≤_, _<_}
-use mathlib.Core.List.{List}
 use mathlib.Core.Path.{_≡_, sym, ap, _∙_}
 use native.Mathlib.Omega.{arith}
 use denote.Ref.{now}
@@ -9,9 +8,7 @@ use borrow.Author.Needs.{needs}
 use Rattle.files.specs.Dense.{Arrays, held, arrays}
 use Rattle.files.specs.declared.Outcome.{Outcome}
 use Rattle.files.specs.Outcome.{done, refusal}
-use Rattle.files.specs.PlanFile.{planFile}
 use Rattle.plans.specs.Plan.{Total}
-use Rattle.reduction.specs.Preserved.{byOriginFile}
 use Rattle.files.proofs.Valid.{Valid}
 use Rattle.marking.proofs.MarkLaws.{refusal-number}
 use Rattle.search.specs.declared.row.Found.{Found}
@@ -22,7 +19,7 @@ use Rattle.search.proofs.HeldStates.{held-states, held-valid, held-size
 use Rattle.search.proofs.Radix.{start-below}
 use Rattle.search.proofs.TableEntries.{at-count, start-none, start-some, start-distance, start-low, start-steps}
 use Rattle.search.proofs.LeastPlans.{stepsRead}
-use Rattle.search.proofs.FoundLaws.{states-many, table-short, states-fit, early-answer, early-table, early-plan, full-table, late-answer, late-plan, done-answer, no-plan, plan-is, plan-short, plan-fits, read-plan, read-total, read-needed, plan-written}
+use Rattle.search.proofs.FoundLaws.{states-many, table-short, states-fit, early-answer, early-table, full-table, refused-plan, late-answer, done-answer, no-plan, plan-short, plan-fits, read-plan, read-total, read-needed, read-length, plan-written}
 use Rattle.search.proofs.row.search_task.Statement.{statement}
 use Rattle.search.proofs.row.search_task.Tie as tie
 
@@ -78,7 +75,7 @@ returns c =
     let fit = states-many t _ _ many (c .before .refuse .ensures) in
     let refused = refusal-number _ 25 _ (omega arith) (c .before .refuse .ensures) in (
       early-answer t _ _ _ _ _ fit refused _ (c .not-found .ensures),
-      (early-table t _ 0 _ 0 _ fit refused _ (c .not-found .ensures) _ _, early-plan t _ 0 _ 0 _ fit refused _ (c .not-found .ensures) _ _),
+      (early-table t _ _ fit refused _ (c .not-found .ensures) _ _, refused-plan _ _ _ (c .not-found .ensures) refused _ _),
     )
 
 refuse-requires-2 : tie.Need-refuse-requires-2
@@ -97,7 +94,7 @@ returns-2 c =
     let fit = table-short t _ _ few short (c .before .refuse2 .ensures ∙ ap (refusal 21) s) in
     let refused = refusal-number _ 21 _ (omega arith) (c .before .refuse2 .ensures) in (
       early-answer t _ _ _ _ _ fit refused _ (c .not-found2 .ensures),
-      (early-table t _ 0 _ 0 _ fit refused _ (c .not-found2 .ensures) _ _, early-plan t _ 0 _ 0 _ fit refused _ (c .not-found2 .ensures) _ _),
+      (early-table t _ _ fit refused _ (c .not-found2 .ensures) _ _, refused-plan _ _ _ (c .not-found2 .ensures) refused _ _),
     )
 
 search-requires : tie.Need-search-requires
@@ -134,7 +131,7 @@ returns-3 c =
     let p = no-plan t _ _ _ _ none-found (c .before .refuse3 .ensures) in
     let refused = refusal-number _ 24 _ (omega arith) (c .before .refuse3 .ensures) in (
       late-answer t _ _ _ _ (fit k) _ p refused _ _ (states-are k) (c .not-found3 .ensures),
-      (full-table t _ 0 _ 0 (fit k) _ _ _ (ap (λ (x : Found). x .states) (c .not-found3 .ensures) ∙ states-are k) table, late-plan t _ _ _ _ (fit k) _ p refused _ _ (states-are k) (c .not-found3 .ensures) _ _),
+      (full-table t _ (fit k) _ _ _ (ap (λ (x : Found). x .states) (c .not-found3 .ensures) ∙ states-are k) table, refused-plan _ _ _ (c .not-found3 .ensures) refused _ _),
     )
 
 mul-length : tie.Need-mul-length
@@ -174,7 +171,7 @@ returns-4 c =
     let p = plan-short t _ _ _ _ (read-plan t ok _ e) _ _ needed (c .before .before .if4 .taken) (c .before .refuse4 .ensures) in
     let refused = refusal-number _ 21 _ (omega arith) (c .before .refuse4 .ensures) in (
       late-answer t _ _ _ _ (fit k) _ p refused _ _ (states-are k) (c .not-found4 .ensures),
-      (full-table t _ 0 _ 0 (fit k) _ _ _ (ap (λ (x : Found). x .states) (c .not-found4 .ensures) ∙ states-are k) table, late-plan t _ _ _ _ (fit k) _ p refused _ _ (states-are k) (c .not-found4 .ensures) _ _),
+      (full-table t _ (fit k) _ _ _ (ap (λ (x : Found). x .states) (c .not-found4 .ensures) ∙ states-are k) table, refused-plan _ _ _ (c .not-found4 .ensures) refused _ _),
     )
 
 write-plan-requires : tie.Need-write-plan-requires
@@ -220,10 +217,10 @@ returns-5 c =
     let needed = read-needed t ok _ e _ _ _ (n .needed .ensures ∙ ap (λ (m : ℕ). 16 + 2 * m) (x .steps-are)) in
     let p = c .done .ensures ∙ plan-fits t _ _ _ _ (read-plan t ok _ e) _ needed (c .before .before .before .before .before .before .before .if4 .left) in
     let z = ap (λ (o : Outcome). o .number) (c .done .ensures) in
-    let whole = needed ∙ ap (λ (l : List ℕ). length (planFile (byOriginFile _ l) _)) (sym (plan-is t _ (read-plan t ok _ e))) in
+    let whole = read-length t ok _ e _ _ _ (n .needed .ensures ∙ ap (λ (m : ℕ). 16 + 2 * m) (x .steps-are)) in
     let total = read-total t ok _ e in (
       done-answer t _ _ _ _ (fit k) _ p z _ _ _ _ (states-are k) whole (x .minutes-are ∙ ap (λ (y : Total). y .minutes) (sym total)) (x .steps-are ∙ ap (λ (y : Total). y .steps) (sym total)),
-      (full-table t _ 0 _ 0 (fit k) _ _ _ (states-are k) table, plan-written t _ _ _ _ _ z (c .before .before .before .write-plan .ensures)),
+      (full-table t _ (fit k) _ _ _ (states-are k) table, plan-written t _ _ _ _ _ z (c .before .before .before .write-plan .ensures)),
     )
 
 pub search-task-spec : {M : Type 1} → statement M
