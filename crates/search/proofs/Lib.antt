@@ -8,4 +8,7 @@ pub mod Distinct
 pub mod Distances
 pub mod ReadOff
 pub mod LeastPlans
+pub mod Hand
+pub mod Entries
+pub mod Filling
 pub mod Examples
