@@ -18,4 +18,7 @@ pub mod HeldStates
 pub mod Picking
 pub mod Begun
 pub mod Searching
+pub mod Hand
+pub mod Entries
+pub mod Filling
 pub mod Examples

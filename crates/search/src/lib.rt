@@ -57,7 +57,7 @@ pub fn plan(
 {
     let mut minutes = [0u64; 4096];
     let mut steps = [0u16; 4096];
-    let room = work_table::room(table);
+    let room = table.len();
     let run = row::plan_columns(
         task,
         signer,
