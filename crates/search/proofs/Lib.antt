@@ -8,4 +8,5 @@ pub mod Distinct
 pub mod Distances
 pub mod ReadOff
 pub mod LeastPlans
+pub mod ColumnLaws
 pub mod Examples

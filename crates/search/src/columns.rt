@@ -7,15 +7,15 @@ ghost use lib.ListN.{length};
 ghost use Rattle.search.specs.Table.{entry};
 ghost use Rattle.search.specs.Columns.{entryIn, lessEntry, lowered};
 
-// Whether an entry is less than another.
-pub fn less(minutes: u64, steps: u16, other_minutes: u64, other_steps: u16) -> bool
-    ensures { λ r. ⌜ r ≡ lessEntry (entry minutes steps) (entry other_minutes other_steps) ⌝ }
+// Whether an entry, of a cost and a count of steps, is less than another.
+pub fn less(cost: u64, count: u16, minutes: u64, steps: u16) -> bool
+    ensures { λ r. ⌜ r ≡ lessEntry (entry cost count) (entry minutes steps) ⌝ }
 {
-    if minutes < other_minutes {
+    if cost < minutes {
         return true;
     }
-    if minutes == other_minutes {
-        return steps < other_steps;
+    if cost == minutes {
+        return count < steps;
     }
     false
 }
