@@ -8,5 +8,6 @@ pub mod Distinct
 pub mod Distances
 pub mod ReadOff
 pub mod LeastPlans
+pub mod EntryDistances
 pub mod ColumnLaws
 pub mod Examples
