@@ -79,3 +79,13 @@ far-not-same a m k n j d e p far q near =
     let here : some (addStep a x) ≡ some (q .total) = sym (stepTo-some a x) ∙ sym (ap (stepTo a) w) ∙ z ∙ q .is in
     let totals : addStep a x ≡ q .total = cc in
     omega (arith, ap (λ (y : Total). y .minutes) totals, addStep-minutes a x, entry-total m k d x p w .0, q .minutes)))
+
+-- the test by way of the order
+module _ (x y : Entry) (b : Bool) (is : b ≡ lessEntry x y) where
+  pub less-not-same : b ≡ true → false ≡ sameEntry x y
+  unfolding sameEntry
+  less-not-same e = rw (← is, e)
+
+  pub not-less-same : (c : Bool) → b ≡ false → c ≡ lessEntry y x → not c ≡ sameEntry x y
+  unfolding sameEntry
+  not-less-same c e f = rw (← is, e, ← f)

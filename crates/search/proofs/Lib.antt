@@ -9,5 +9,6 @@ pub mod Distances
 pub mod ReadOff
 pub mod LeastPlans
 pub mod EntryDistances
+pub mod FirstPlanLaws
 pub mod ColumnLaws
 pub mod Examples
