@@ -9,4 +9,7 @@ pub mod Distances
 pub mod ReadOff
 pub mod LeastPlans
 pub mod ColumnLaws
+pub mod RowNumbers
+pub mod RowSteps
+pub mod StateLoops
 pub mod Examples
