@@ -11,4 +11,7 @@ pub mod LeastPlans
 pub mod EntryDistances
 pub mod FirstPlanLaws
 pub mod ColumnLaws
+pub mod RowNumbers
+pub mod RowSteps
+pub mod StateLoops
 pub mod Examples
