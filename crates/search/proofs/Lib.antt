@@ -14,4 +14,10 @@ pub mod ColumnLaws
 pub mod RowNumbers
 pub mod RowSteps
 pub mod StateLoops
+pub mod Settling
+pub mod Offering
+pub mod HeldStates
+pub mod Picking
+pub mod Begun
+pub mod Searching
 pub mod Examples
