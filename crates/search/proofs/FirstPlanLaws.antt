@@ -3,46 +3,31 @@ use Prim.Native.Nat.{ℕ, suc, _+_, _*_, _-_, _≤_, _<_}
 use mathlib.Core.Path.{_≡_, refl, sym, ap, subst, _∙_}
 use mathlib.Core.Bool.{Bool, true, false}
 use mathlib.Core.List.{List, []}
-use mathlib.Core.Option.{none, some}
+use mathlib.Core.Option.{none}
 use native.Mathlib.Omega.{arith}
-use lib.ListN.{length, getD}
-use Rattle.files.specs.Below.{tabulate}
-use Rattle.files.specs.Dense.{rowPairs, rowVariable, rowAction}
-use Rattle.files.specs.Task.{Variable, Action, Task, variable, actionCount, actionOf}
-use Rattle.files.proofs.Countdown.{one-more, none-left}
-use Rattle.files.proofs.Tabulate.{tabulateFrom-length, tabulate-entry}
+use lib.ListN.{getD}
+use Rattle.files.specs.Dense.{rowPairs, rowAction}
+use Rattle.files.specs.Task.{Variable, Action, Task, actionOf}
+use Rattle.files.proofs.Countdown.{none-left}
 use Rattle.plans.specs.State.{State, allHold, applicable, apply}
 use Rattle.plans.specs.Tally.{listState}
-use Rattle.search.specs.States.{stateCount, stateNumber, stateAt}
+use Rattle.search.specs.States.{stateNumber, stateAt}
 use Rattle.search.specs.Table.{Distance, entry, same, stepTo, nextState, through, distances}
 use Rattle.search.specs.FirstPlan.{firstAction}
 use Rattle.search.specs.Columns.{rowVariables, rowStates, sameEntry, Tabled}
-use Rattle.search.proofs.Radix.{Sizes, state-in}
+use Rattle.search.proofs.Radix.{state-in}
+use Rattle.search.proofs.RowNumbers.{RowSizes, row-sizes, inside-row}
 use Rattle.search.proofs.DistanceLaws.{some-none}
 use Rattle.search.proofs.Distances.{through-applicable, through-not}
 use Rattle.search.proofs.EntryDistances.{IsSome, entry-some, same-some, step-some, not-same, far-not-same}
 
--- variables of arrays, by their entries
-module _ (variables : ℕ) (sizes starts : List ℕ) where
-  pub row-variables-length : length (rowVariables variables sizes starts) ≡ variables
-  row-variables-length = tabulateFrom-length (rowVariable sizes starts) 0 variables
-
-  pub row-size : (v : ℕ) → v < variables → getD (rowVariables variables sizes starts) v (variable 0 0) .size ≡ getD sizes v 0
-  unfolding rowVariable
-  row-size v h = ap (λ (x : Variable). x .size) (tabulate-entry (rowVariable sizes starts) variables v (variable 0 0) h)
-
-  pub row-sizes : ((v : ℕ) → v < variables → 1 ≤ getD sizes v 0) → Sizes (rowVariables variables sizes starts)
-  row-sizes least v h =
-      let l : v < variables = omega (arith, row-variables-length) in
-      omega (arith, row-size v l, least v l)
-
 -- the values of a state are in the domains
-pub values-inside : (variables : ℕ) (sizes values : List ℕ) (s : ℕ) → ((v : ℕ) → v < variables → 1 ≤ getD sizes v 0)
+pub values-inside : (variables : ℕ) (sizes values : List ℕ) (s : ℕ) → RowSizes variables sizes
     → ((starts : List ℕ) → listState values ≡ stateAt (rowVariables variables sizes starts) s) → (v : ℕ) → v < variables → getD values v 0 < getD sizes v 0
 unfolding listState
 values-inside variables sizes values s least state v h =
     let here : getD values v 0 ≡ stateAt (rowVariables variables sizes []) s v = ap (λ (f : State). f v) (state []) in
-    omega (arith, here, row-size variables sizes [] v h, state-in (rowVariables variables sizes []) s (row-sizes variables sizes [] least) v (omega (arith, row-variables-length variables sizes [])))
+    omega (arith, here, inside-row sizes [] variables (stateAt (rowVariables variables sizes []) s) (state-in (rowVariables variables sizes []) s (row-sizes sizes [] variables least)) v h)
 
 -- state s by way of action a
 module _ (variables actions : ℕ) (sizes costs conditions effects minutes steps : List ℕ) (values : List ℕ) (s a : ℕ) (known : a < actions)
@@ -109,6 +94,9 @@ module _ (variables actions : ℕ) (sizes costs conditions effects minutes steps
           (next-some h) here-some
 
 -- the first action, as a loop that counts up wants it
+pub first-begin : (t : Task) (row : List Distance) (n actions : ℕ) → firstAction t row n 0 (actions - 0) ≡ firstAction t row n 0 actions
+first-begin t row n actions = ap (firstAction t row n 0) (omega arith)
+
 module _ (t : Task) (row : List Distance) (n a actions whole : ℕ) (rest : firstAction t row n a (actions - a) ≡ whole) where
   pub first-none : actions ≤ a → a ≡ whole
   unfolding firstAction

@@ -8,8 +8,6 @@ pub mod Distinct
 pub mod Distances
 pub mod ReadOff
 pub mod LeastPlans
-pub mod EntryDistances
-pub mod FirstPlanLaws
 pub mod ColumnLaws
 pub mod RowNumbers
 pub mod RowSteps
@@ -20,4 +18,6 @@ pub mod HeldStates
 pub mod Picking
 pub mod Begun
 pub mod Searching
+pub mod EntryDistances
+pub mod FirstPlanLaws
 pub mod Examples
