@@ -1,18 +1,17 @@
 -- Laws of entries in columns: when one is less than another, and an entry offered to a state.
 use Prim.Native.Nat.{ℕ, _≤_, _<_}
 use mathlib.Core.Path.{_≡_, refl, sym, ap, ap₂, _∙_}
-use mathlib.Core.Bool.{Bool, true, false, not, cond}
+use mathlib.Core.Bool.{Bool, true, false, cond}
 use mathlib.Core.List.{List}
 use native.Mathlib.Omega.{arith}
 use lib.Dec.{eqb, ltb}
-use lib.ListN.{length, getD, set}
+use lib.ListN.{length, set}
 use lib.Seq.{getD-set-same, getD-set-other}
 use borrow.Author.Tests.{lt-ltb, le-ltb, le-leb, lt-leb, eq-eqb, ne-eqb, eqb-true, eqb-false}
 use Rattle.files.proofs.Logic.{split, split-le}
 use Rattle.plans.specs.Plan.{atMost}
 use Rattle.search.specs.Table.{entry}
 use Rattle.search.specs.Columns.{entryIn, lessEntry, lowered}
-use Rattle.search.specs.declared.Entry.{Entry}
 
 -- by minutes, then by steps
 module _ (m k n j : ℕ) where

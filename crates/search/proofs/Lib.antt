@@ -12,6 +12,9 @@ pub mod TableEntries
 pub mod FoundLaws
 pub mod RowLaws
 pub mod ColumnLaws
+pub mod RowNumbers
+pub mod RowSteps
+pub mod StateLoops
 pub mod Settling
 pub mod Offering
 pub mod HeldStates
@@ -21,4 +24,6 @@ pub mod Searching
 pub mod Hand
 pub mod Entries
 pub mod Filling
+pub mod EntryDistances
+pub mod FirstPlanLaws
 pub mod Examples
