@@ -1,7 +1,8 @@
 // Search over the states of the reduced task, and the planner.
-// The call open to callers is plan.
+// The call open to callers is plan; the module own_table serves the programs.
 mod columns;
 mod first_plan;
+pub mod own_table;
 mod row;
 mod states;
 mod steps_to;
