@@ -18,10 +18,14 @@ pub fn print_steps(plan: &[u8]) {
     let count = files::plan::steps(plan);
     let mut i: usize = 0;
     while i < count {
-        print_labelled(b"step ", files::plan::step(plan, i) as u64);
-        io::write_all(1, b"\n");
+        print_step(files::plan::step(plan, i));
         i += 1;
     }
+}
+
+fn print_step(action: usize) {
+    print_labelled(b"step ", action as u64);
+    io::write_all(1, b"\n");
 }
 
 pub fn print_total(cost: plans::Minutes, steps: plans::Steps) {
