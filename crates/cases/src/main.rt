@@ -3,6 +3,7 @@
 // bytes in hexadecimal follow, of which XX*N stands for N times XX.
 mod hex;
 mod lines;
+mod planner;
 mod reduced;
 mod run;
 

@@ -1,6 +1,7 @@
 // What a line calls.
 use crate::hex;
 use crate::lines;
+use crate::planner;
 use crate::reduced;
 
 // t: a task file is checked. o: an origin file is checked. p: a plan file is checked against a
@@ -13,6 +14,9 @@ use crate::reduced;
 // which hold 9s.
 // s: the condition pairs of an action; the first byte is the side, then two bytes for the action,
 // and two that say how many of the others are the first file.
+// P: the planner; the first four bytes are the signer, then two bytes each for the lengths of the
+// buffers for action marks, fact marks, the reduced file, the origin file and the plan file, which
+// hold 9s.
 pub fn run_line(text: &[u8], from: usize, to: usize, file: &mut [u8], written: &mut [u8; 70000]) {
     let letter = files::bytes::byte_at(text, from);
     if letter == 35 {
@@ -56,6 +60,9 @@ fn run_call(letter: usize, file: &[u8], written: &mut [u8; 70000]) {
     }
     if letter == 115 {
         reduced::show_stretch(file);
+    }
+    if letter == 80 {
+        planner::plan_file(file);
     }
 }
 
