@@ -1,17 +1,14 @@
 -- Entries against distances: 2^64 - 1 is none, and a step in front of an entry is one in front of its distance.
-use Prim.Native.Nat.{ℕ, _+_, _≤_, _<_}
+use Prim.Native.Nat.{ℕ, _+_, _<_}
 use mathlib.Core.Path.{_≡_, refl, sym, ap, ap₂, _∙_}
 use mathlib.Core.Bool.{Bool, true, false, not}
-use mathlib.Core.List.{List}
 use mathlib.Core.Option.{none, some}
 use native.Mathlib.Omega.{arith}
-use lib.ListN.{getD}
 use Rattle.files.specs.Task.{Action}
-use Rattle.files.proofs.Logic.{clash, split-option}
-use Rattle.plans.specs.Plan.{Total, addStep, atMost}
-use Rattle.plans.proofs.OrderLaws.{atMost-says}
+use Rattle.files.proofs.Logic.{split-option}
+use Rattle.plans.specs.Plan.{Total, addStep}
 use Rattle.search.specs.Table.{Distance, less, same, stepTo, entry, entryOf}
-use Rattle.search.specs.Columns.{entryIn, lessEntry, sameEntry}
+use Rattle.search.specs.Columns.{lessEntry, sameEntry}
 use Rattle.search.specs.declared.Entry.{Entry}
 use Rattle.search.proofs.DistanceLaws.{some-none, same-is, stepTo-none, stepTo-some, addStep-minutes}
 

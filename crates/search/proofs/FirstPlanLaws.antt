@@ -29,43 +29,51 @@ values-inside variables sizes values s least state v h =
     let here : getD values v 0 ≡ stateAt (rowVariables variables sizes []) s v = ap (λ (f : State). f v) (state []) in
     omega (arith, here, inside-row sizes [] variables (stateAt (rowVariables variables sizes []) s) (state-in (rowVariables variables sizes []) s (row-sizes sizes [] variables least)) v h)
 
--- state s by way of action a
+-- state s and action a
 module _ (variables actions : ℕ) (sizes costs conditions effects minutes steps : List ℕ) (values : List ℕ) (s a : ℕ) (known : a < actions)
-    (state : (starts : List ℕ) → listState values ≡ stateAt (rowVariables variables sizes starts) s) (inside : s < rowStates variables sizes)
-    (near : getD minutes s 0 < 18446744073709551615) (t : Task) (tabled : Tabled t variables actions sizes costs conditions effects minutes steps) where
+    (state : (starts : List ℕ) → listState values ≡ stateAt (rowVariables variables sizes starts) s)
+    (t : Task) (tabled : Tabled t variables actions sizes costs conditions effects minutes steps) where
   here-state : stateAt (t .variables) s ≡ listState values
   here-state = ap (λ (vs : List Variable). stateAt vs s) (tabled .variables-are) ∙ sym (state (tabled .starts))
 
-  here-some : IsSome (getD minutes s 0) (getD steps s 0) (getD (distances t) s none)
-  here-some = entry-some (getD minutes s 0) (getD steps s 0) (getD (distances t) s none) (tabled .entries-are s inside) near
+  applies-is : applicable (actionOf t a) (stateAt (t .variables) s) ≡ allHold (rowPairs conditions (64 * a) 0 variables) (listState values)
+  unfolding applicable rowAction
+  applies-is =
+      ap (λ (x : Action). applicable x (stateAt (t .variables) s)) (tabled .actions-are a known)
+      ∙ ap (applicable (rowAction variables costs conditions effects a)) here-state
 
-  module _ (b : Bool) (is : b ≡ allHold (rowPairs conditions (64 * a) 0 variables) (listState values)) where
-    applies-is : applicable (actionOf t a) (stateAt (t .variables) s) ≡ b
-    unfolding applicable rowAction
-    applies-is =
-        ap (λ (x : Action). applicable x (stateAt (t .variables) s)) (tabled .actions-are a known)
-        ∙ ap (applicable (rowAction variables costs conditions effects a)) here-state
-        ∙ sym is
+  pub next-is : (next : ℕ)
+      → ((starts : List ℕ) (x : Action) → x .effects ≡ rowPairs effects (64 * a) 0 variables → next ≡ stateNumber (rowVariables variables sizes starts) (apply x (listState values)))
+      → nextState t a s ≡ next
+  unfolding nextState rowAction
+  next-is next found =
+      ap (λ (f : State). stateNumber (t .variables) (apply (actionOf t a) f)) here-state
+      ∙ ap (λ (vs : List Variable). stateNumber vs (apply (actionOf t a) (listState values))) (tabled .variables-are)
+      ∙ sym (found (tabled .starts) (actionOf t a) (ap (λ (x : Action). x .effects) (tabled .actions-are a known)))
+
+  price-is : actionOf t a .cost ≡ getD costs a 0
+  unfolding rowAction
+  price-is = ap (λ (x : Action). x .cost) (tabled .actions-are a known)
+
+  -- whether the state has its entry by way of the action
+  module _ (inside : s < rowStates variables sizes) (near : getD minutes s 0 < 18446744073709551615)
+      (b : Bool) (is : b ≡ allHold (rowPairs conditions (64 * a) 0 variables) (listState values)) where
+    here-some : IsSome (getD minutes s 0) (getD steps s 0) (getD (distances t) s none)
+    here-some = entry-some (getD minutes s 0) (getD steps s 0) (getD (distances t) s none) (tabled .entries-are s inside) near
 
     -- it is not applicable
     pub leads-not : b ≡ false → false ≡ same (through t (distances t) s a) (getD (distances t) s none)
     leads-not e =
         not-same (through t (distances t) s a) (getD (distances t) s none)
-        (λ z. some-none (here-some .total) (sym (here-some .is) ∙ sym z ∙ through-not t (distances t) s a (applies-is ∙ e)))
+        (λ z. some-none (here-some .total) (sym (here-some .is) ∙ sym z ∙ through-not t (distances t) s a (applies-is ∙ sym is ∙ e)))
 
-    module _ (e : b ≡ true) (next : ℕ) (found : (starts : List ℕ) (x : Action) → x .effects ≡ rowPairs effects (64 * a) 0 variables → next ≡ stateNumber (rowVariables variables sizes starts) (apply x (listState values)))
+    module _ (e : b ≡ true) (next : ℕ)
+        (found : (starts : List ℕ) (x : Action) → x .effects ≡ rowPairs effects (64 * a) 0 variables → next ≡ stateNumber (rowVariables variables sizes starts) (apply x (listState values)))
         (below : next < rowStates variables sizes) where
-      pub next-is : nextState t a s ≡ next
-      unfolding nextState rowAction
-      next-is =
-          ap (λ (f : State). stateNumber (t .variables) (apply (actionOf t a) f)) here-state
-          ∙ ap (λ (vs : List Variable). stateNumber vs (apply (actionOf t a) (listState values))) (tabled .variables-are)
-          ∙ sym (found (tabled .starts) (actionOf t a) (ap (λ (x : Action). x .effects) (tabled .actions-are a known)))
-
       by-way : through t (distances t) s a ≡ stepTo (actionOf t a) (getD (distances t) next none)
       by-way =
-          through-applicable t (distances t) s a (applies-is ∙ e)
-          ∙ ap (λ (n : ℕ). stepTo (actionOf t a) (getD (distances t) n none)) next-is
+          through-applicable t (distances t) s a (applies-is ∙ sym is ∙ e)
+          ∙ ap (λ (n : ℕ). stepTo (actionOf t a) (getD (distances t) n none)) (next-is next found)
 
       -- it leads to where the goal is not reached
       pub leads-far : getD minutes next 0 ≡ 18446744073709551615 → false ≡ same (through t (distances t) s a) (getD (distances t) s none)
@@ -73,10 +81,6 @@ module _ (variables actions : ℕ) (sizes costs conditions effects minutes steps
           far-not-same (actionOf t a) (getD minutes next 0) (getD steps next 0) (getD minutes s 0) (getD steps s 0) (getD (distances t) next none) (getD (distances t) s none)
           (tabled .entries-are next below) far here-some near
           ∙ ap (λ (d : Distance). same d (getD (distances t) s none)) (sym by-way)
-
-      price-is : actionOf t a .cost ≡ getD costs a 0
-      unfolding rowAction
-      price-is = ap (λ (x : Action). x .cost) (tabled .actions-are a known)
 
       next-some : getD minutes next 0 < 18446744073709551615 → IsSome (getD costs a 0 + getD minutes next 0) (getD steps next 0 + 1) (through t (distances t) s a)
       next-some h =

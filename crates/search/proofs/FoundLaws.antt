@@ -43,7 +43,7 @@ module _ (t : Task) (room : ℕ) where
   states-fit h k = goes-le (stateCount (t .variables)) 4096 25 0 _ done _ _ refl refl h (goes-le (stateCount (t .variables)) room 21 (stateCount (t .variables)) _ done _ _ refl refl k refl)
 
 -- the entries of no states
-no-entries : (minutes steps : List ℕ) → entriesIn minutes steps 0 ≡ []
+pub no-entries : (minutes steps : List ℕ) → entriesIn minutes steps 0 ≡ []
 unfolding entriesIn
 no-entries minutes steps = refl
 

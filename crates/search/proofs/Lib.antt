@@ -26,4 +26,5 @@ pub mod Entries
 pub mod Filling
 pub mod EntryDistances
 pub mod FirstPlanLaws
+pub mod PlanWriting
 pub mod Examples

@@ -1,12 +1,11 @@
 -- The state has its entry by way of the action where the entry of the next state with the step in front is the same.
+use Prim.Native.Nat.{_<_}
 use mathlib.Core.Path.{_≡_}
-use Prim.Native.Nat.{ℕ, _*_, _≤_, _<_}
 use denote.Ref.{now}
 use native.Mathlib.Omega.{arith}
 use lib.ListN.{getD}
 use borrow.Author.Needs.{needs}
 use borrow.Author.Tests.{not-true, not-false}
-use Rattle.search.specs.Columns.{rowStates}
 use Rattle.search.proofs.FirstPlanLaws.{values-inside, leads-not, leads-far, leads-near}
 use Rattle.search.proofs.first_plan.leads_on.Statement.{statement}
 use Rattle.search.proofs.first_plan.leads_on.Tie as tie
@@ -27,7 +26,7 @@ returns : tie.Need-returns
 returns c =
     let start = c .before .before .before .before .before in
     let pre = start .pre in
-    λ t tabled. leads-not _ _ _ _ _ _ _ _ _ _ _ (pre .2) (pre .5) (pre .3) (pre .4) t tabled _ (c .before .all-hold .ensures) (not-true _ (c .if1 .taken))
+    λ t tabled. leads-not _ _ _ _ _ _ _ _ _ _ _ (pre .2) (pre .5) t tabled (pre .3) (pre .4) _ (c .before .all-hold .ensures) (not-true _ (c .if1 .taken))
 
 number-after-requires : tie.Need-number-after-requires
 number-after-requires c κs =
@@ -60,7 +59,7 @@ returns-2 c =
     let found = c .before .before in
     let pre = to-start found .pre in
     λ t tabled.
-    leads-far _ _ _ _ _ _ _ _ _ _ _ (pre .2) (pre .5) (pre .3) (pre .4) t tabled _ (found .before .before .before .all-hold .ensures) (not-false _ (found .before .before .if1 .left)) _
+    leads-far _ _ _ _ _ _ _ _ _ _ _ (pre .2) (pre .5) t tabled (pre .3) (pre .4) _ (found .before .before .before .all-hold .ensures) (not-false _ (found .before .before .if1 .left)) _
     (found .number-after .ensures .0) (found .number-after .ensures .1) (c .if2 .taken)
 
 mul-price : tie.Need-mul-price
@@ -107,7 +106,7 @@ returns-3 c =
     let found = to-next price in
     let pre = to-start found .pre in
     λ t tabled.
-    leads-near _ _ _ _ _ _ _ _ _ _ _ (pre .2) (pre .5) (pre .3) (pre .4) t tabled _ (found .before .before .before .all-hold .ensures) (not-false _ (found .before .before .if1 .left)) _
+    leads-near _ _ _ _ _ _ _ _ _ _ _ (pre .2) (pre .5) t tabled (pre .3) (pre .4) _ (found .before .before .before .all-hold .ensures) (not-false _ (found .before .before .if1 .left)) _
     (found .number-after .ensures .0) (found .number-after .ensures .1) (omega (arith, few found (price .before .if2 .left) .0)) _ (c .same .ensures)
 
 pub leads-on-spec : {M : Type 1} → statement M
