@@ -1,54 +1,29 @@
 // The planner, with a table of its own.
 use crate::lines;
 
-// Lends buffers that hold 9s.
+// Lends buffers of the lengths that the case names, which hold 9s.
 pub fn plan_file(file: &[u8]) {
     let mut actions = [9u8; 600];
     let mut facts = [9u8; 2100];
     let mut reduced = [9u8; 1000];
     let mut origin = [9u8; 1000];
     let mut plan = [9u8; 1000];
-    plan_cut(
+    plan_into(
         file,
-        &mut actions,
-        &mut facts,
-        &mut reduced,
-        &mut origin,
-        &mut plan,
+        part(&mut actions, files::bytes::u16_at(file, 4)),
+        part(&mut facts, files::bytes::u16_at(file, 6)),
+        part(&mut reduced, files::bytes::u16_at(file, 8)),
+        part(&mut origin, files::bytes::u16_at(file, 10)),
+        part(&mut plan, files::bytes::u16_at(file, 12)),
     );
 }
 
-// Cuts the buffers to the lengths that the case names, and plans its task.
-fn plan_cut(
-    file: &[u8],
-    actions: &mut [u8],
-    facts: &mut [u8],
-    reduced: &mut [u8],
-    origin: &mut [u8],
-    plan: &mut [u8],
-) {
-    if file.len() < 14 {
-        return;
+// The first `length` elements of a buffer, or all where it has fewer.
+fn part(buffer: &mut [u8], length: usize) -> &mut [u8] {
+    if buffer.len() < length {
+        return buffer;
     }
-    let marks = files::bytes::u16_at(file, 4);
-    let relevant = files::bytes::u16_at(file, 6);
-    let long = files::bytes::u16_at(file, 8);
-    let numbers = files::bytes::u16_at(file, 10);
-    let found = files::bytes::u16_at(file, 12);
-    if actions.len() < marks || facts.len() < relevant {
-        return;
-    }
-    if reduced.len() < long || origin.len() < numbers || plan.len() < found {
-        return;
-    }
-    plan_into(
-        file,
-        &mut actions[..marks],
-        &mut facts[..relevant],
-        &mut reduced[..long],
-        &mut origin[..numbers],
-        &mut plan[..found],
-    );
+    &mut buffer[..length]
 }
 
 // Plans a task, and prints the answer and the five buffers.
