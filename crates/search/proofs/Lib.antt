@@ -27,4 +27,5 @@ pub mod Filling
 pub mod EntryDistances
 pub mod FirstPlanLaws
 pub mod PlanWriting
+pub mod Listed
 pub mod Examples
