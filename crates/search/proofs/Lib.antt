@@ -28,4 +28,5 @@ pub mod EntryDistances
 pub mod FirstPlanLaws
 pub mod PlanWriting
 pub mod Listed
+pub mod Demand1
 pub mod Examples
