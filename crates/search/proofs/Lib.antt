@@ -27,4 +27,6 @@ pub mod Filling
 pub mod EntryDistances
 pub mod FirstPlanLaws
 pub mod PlanWriting
+pub mod Listed
+pub mod Demand1
 pub mod Examples

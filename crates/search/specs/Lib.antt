@@ -7,5 +7,6 @@ pub mod Columns
 pub mod Settling
 pub mod Planner
 pub mod Found
+pub mod Demands
 pub mod Listing
 pub mod Examples
