@@ -38,13 +38,17 @@ pub fn print_minutes(n: u64) {
     io::print_decimal(1, n);
 }
 
+// Prints a number behind another.
+pub fn print_next(n: usize) {
+    print_byte(b' ');
+    print_number(n);
+}
+
 // Prints an outcome: number, file, place.
 pub fn print_outcome(o: files::Outcome) {
     print_number(o.number as usize);
-    print_byte(b' ');
-    print_number(o.file as usize);
-    print_byte(b' ');
-    print_number(o.place);
+    print_next(o.file as usize);
+    print_next(o.place);
 }
 
 // Prints the first `count` marks, a digit each.

@@ -67,20 +67,14 @@ fn print_answer(answer: search::Planned) {
     let cost = answer.cost;
     let steps = answer.steps;
     lines::print_outcome(outcome);
-    print_next(answer.actions);
-    print_next(answer.facts);
-    print_next(answer.reduced);
-    print_next(answer.origin);
-    print_next(answer.table);
-    print_next(answer.plan);
-    print_next(answer.rounds);
+    lines::print_next(answer.actions);
+    lines::print_next(answer.facts);
+    lines::print_next(answer.reduced);
+    lines::print_next(answer.origin);
+    lines::print_next(answer.table);
+    lines::print_next(answer.plan);
+    lines::print_next(answer.rounds);
     lines::print_byte(b' ');
     lines::print_minutes(cost.0);
-    print_next(steps.0 as usize);
-}
-
-// Prints a number behind another.
-fn print_next(number: usize) {
-    lines::print_byte(b' ');
-    lines::print_number(number);
+    lines::print_next(steps.0 as usize);
 }

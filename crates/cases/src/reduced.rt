@@ -66,16 +66,11 @@ fn reduce_into(
 fn print_answer(answer: reduction::Reduced) {
     let outcome = answer.outcome;
     lines::print_outcome(outcome);
-    lines::print_byte(b' ');
-    lines::print_number(answer.actions);
-    lines::print_byte(b' ');
-    lines::print_number(answer.facts);
-    lines::print_byte(b' ');
-    lines::print_number(answer.reduced);
-    lines::print_byte(b' ');
-    lines::print_number(answer.origin);
-    lines::print_byte(b' ');
-    lines::print_number(answer.rounds);
+    lines::print_next(answer.actions);
+    lines::print_next(answer.facts);
+    lines::print_next(answer.reduced);
+    lines::print_next(answer.origin);
+    lines::print_next(answer.rounds);
 }
 
 // Prints the outcome of the call for condition pairs, and the pairs.
