@@ -42,7 +42,7 @@ more rest n e = widen (eqb n 1) (eqb n 2) (eqb n 3) (eqb n 4) (eqb n 5) (eqb n 6
     widen a b c d f g h r e = one a _ _ (one b _ _ (one c _ _ (one d _ _ (one f _ _ (one g _ _ (one h _ _ (λ z. clash z refl))))))) e
 
 -- a buffer after a stage
-after-yes : {A : Type 0} (o : Outcome) (new old : List A) → isDone o ≡ true → after o new old ≡ overwrite old new
+pub after-yes : {A : Type 0} (o : Outcome) (new old : List A) → isDone o ≡ true → after o new old ≡ overwrite old new
 unfolding after
 after-yes o new old e = rw e refl
 
@@ -59,7 +59,7 @@ unfolding andThen
 both-no a b e = rw e refl
 
 -- an outcome of a list that is done is `done` itself
-listed-itself : (numbers : List ℕ) (o : Outcome) → listed numbers o ≡ true → isDone o ≡ true → o ≡ done
+pub listed-itself : (numbers : List ℕ) (o : Outcome) → listed numbers o ≡ true → isDone o ≡ true → o ≡ done
 unfolding listed isDone
 listed-itself numbers o w e =
     let q : eqb (o .file) 0 && eqb (o .place) 0 ≡ true = sym (ap (λ (b : Bool). cond b (eqb (o .file) 0 && eqb (o .place) 0) (anyOf (eqb (o .number)) numbers && leb (o .file) 1)) e) ∙ w in
@@ -75,7 +75,7 @@ module _ (task : List ℕ) (level : ℕ) (actions facts : List ℕ) where
   abbrev o : Outcome
   o = markOutcome task level (length actions) (length facts)
 
-  mark-listed : listed markRefusals o ≡ true
+  pub mark-listed : listed markRefusals o ≡ true
   unfolding markOutcome
   mark-listed =
       listed-both markRefusals _ _ (task-listed markRefusals (more (8 ∷ 21 ∷ [])) task)
@@ -89,7 +89,7 @@ module _ (task : List ℕ) (level : ℕ) (actions facts : List ℕ) where
   unfolding mark markAnswer
   mark-refused e = rw e refl
 
-  mark-done : isDone o ≡ true
+  pub mark-done : isDone o ≡ true
       → mark task level (length actions) (length facts)
       ≡ record { outcome = done; actions = actionCount (taskOf task); facts = factCount (taskOf task); rounds = marking (taskOf task) level .rounds }
   unfolding mark markAnswer
@@ -195,7 +195,7 @@ module _ (task : List ℕ) (level signer : ℕ) (b : Buffers) where
             (λ e. let w = row-early e in inl ((e, row-outcome ∙ w .0), w .1));
       }
 
-level-four : validLevel 4 ≡ true
+pub level-four : validLevel 4 ≡ true
 unfolding validLevel
 level-four = refl
 
@@ -232,7 +232,7 @@ module _ (task : List ℕ) (signer : ℕ) (b : Lent) where
   unfolding planStage searchStage
   whole-listed = listed-both planRefusals _ _ (listed-both planRefusals _ _ (files-listed .2) states-listed) (found-listed (planFound task))
 
-  whole-outcome : planAnswer task signer (lentRooms b) .outcome ≡ whole
+  pub whole-outcome : planAnswer task signer (lentRooms b) .outcome ≡ whole
   unfolding planAnswer
   whole-outcome = split (isDone whole) (λ e. rw e refl) (λ e. rw e refl)
 

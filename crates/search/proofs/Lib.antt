@@ -29,4 +29,6 @@ pub mod FirstPlanLaws
 pub mod PlanWriting
 pub mod Listed
 pub mod Demand1
+pub mod Demand2
+pub mod Demand3
 pub mod Examples
