@@ -12,4 +12,7 @@ pub mod ColumnLaws
 pub mod RowNumbers
 pub mod RowSteps
 pub mod StateLoops
+pub mod OneChange
+pub mod Predecessors
+pub mod Offering
 pub mod Examples
