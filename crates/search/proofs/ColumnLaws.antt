@@ -31,7 +31,7 @@ module _ (m k n j : ℕ) where
   less-none l d = let h : n < m = omega arith in rw (lt-ltb n m h) refl
 
 -- an entry of a pair of columns that are set at one state
-set-entry : (minutes steps : List ℕ) (x m k s : ℕ) → x < length minutes → x < length steps
+pub set-entry : (minutes steps : List ℕ) (x m k s : ℕ) → x < length minutes → x < length steps
     → entryIn (set minutes x m) (set steps x k) s ≡ cond (eqb s x) (entry m k) (entryIn minutes steps s)
 set-entry minutes steps x m k s a b =
     split (eqb s x)

@@ -4,9 +4,11 @@ use Rattle.search.specs.Table.{less, least, same, stepTo, atGoal, nextSt
 use Rattle.search.specs.FirstPlan.{firstAction, stepsFrom, startNumber, firstPlan}
 use Rattle.search.specs.Least.{startedAt}
 use Rattle.search.specs.Columns.{entriesIn, lessEntry, lowered, afterStep, leadsTo, offered, rowStates, rowWeight, rowState, canHave, canReach, differsOnly, sameEntry}
-use Rattle.search.specs.Planner.{searched, searchedStates, planFound, searchStage, planFits, planStage, planMade, plan, plannedActionMarks, plannedFactMarks, plannedReduced, plannedOrigin, plannedTable, plannedPlan}
+use Rattle.search.specs.Planner.{searched, searchedStates, planFound, statesFit, searchStage, planFits, planStage, planMade, planAnswer, plannedActionMarks, plannedFactMarks, plannedReduced, plannedOrigin, plannedTable, plannedPlan}
+use Rattle.search.specs.Found.{searchOutcome, foundPlan, foundStates, foundAnswer, bothTogether}
+use Rattle.search.specs.Demands.{listed}
 use Rattle.search.specs.Listing.{ascii, digits, decimal, line, stepLines, ample, planLines, listing}
 
 unfoldable pub computes : Unit {0}
-unfolding stateCount stateNumber stateAt less least same stepTo atGoal nextState through leastBelow distancesIn distances entryOf tableOf firstAction stepsFrom startNumber firstPlan startedAt entriesIn lessEntry lowered afterStep leadsTo offered rowStates rowWeight rowState canHave canReach differsOnly sameEntry searched searchedStates planFound searchStage planFits planStage planMade plan plannedActionMarks plannedFactMarks plannedReduced plannedOrigin plannedTable plannedPlan ascii digits decimal line stepLines ample planLines listing
+unfolding stateCount stateNumber stateAt less least same stepTo atGoal nextState through leastBelow distancesIn distances entryOf tableOf firstAction stepsFrom startNumber firstPlan startedAt entriesIn lessEntry lowered afterStep leadsTo offered rowStates rowWeight rowState canHave canReach differsOnly sameEntry searched searchedStates planFound statesFit searchStage planFits planStage planMade planAnswer plannedActionMarks plannedFactMarks plannedReduced plannedOrigin plannedTable plannedPlan searchOutcome foundPlan foundStates foundAnswer bothTogether listed ascii digits decimal line stepLines ample planLines listing
 computes = tt

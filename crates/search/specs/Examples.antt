@@ -15,7 +15,7 @@ use Rattle.plans.specs.declared.Checked.{Checked}
 use Rattle.plans.specs.Check.{checkPlan}
 use Rattle.marking.specs.Mark.{mark, markedActions}
 use Rattle.reduction.specs.Reduce.{reducedBuffer}
-use Rattle.search.specs.Planner.{plan, plannedPlan}
+use Rattle.search.specs.Planner.{planAnswer, plannedPlan}
 use Rattle.search.specs.Listing.{ascii, ample, listing}
 use Rattle.search.specs.declared.Planned.{Planned}
 
@@ -117,10 +117,10 @@ cases =
     -- plan 2: 23 at 1
     ∷ case (checkNumbers (checkPlan fileE (planFile (2 ∷ []) 7))) (23 ∷ 0 ∷ 1 ∷ 0 ∷ 0 ∷ [])
     -- without actions 0 and 1: 24
-    ∷ case (planNumbers (plan fileWithoutLine 7 ample)) (24 ∷ 0 ∷ 0 ∷ 0 ∷ 0 ∷ [])
+    ∷ case (planNumbers (planAnswer fileWithoutLine 7 ample)) (24 ∷ 0 ∷ 0 ∷ 0 ∷ 0 ∷ [])
     -- goal lamp=1 alone: level 3 keeps nothing, the plan is empty
     ∷ case (keptNumbers fileLampAlone 3) (0 ∷ 0 ∷ 0 ∷ 1 ∷ 0 ∷ 0 ∷ 0 ∷ 0 ∷ 0 ∷ 0 ∷ 0 ∷ [])
-    ∷ case (planNumbers (plan fileLampAlone 7 ample)) (0 ∷ 0 ∷ 0 ∷ 0 ∷ 0 ∷ [])
+    ∷ case (planNumbers (planAnswer fileLampAlone 7 ample)) (0 ∷ 0 ∷ 0 ∷ 0 ∷ 0 ∷ [])
     ∷ case (plannedPlan fileLampAlone 7 ample []) (planFile [] 7)
     -- E reduced at level 4; elements past the result are untouched
     ∷ case (reducedBuffer fileE 4 7 (ample .reduction) (used 82)) (reducedE ++ used 2)

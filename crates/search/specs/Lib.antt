@@ -4,6 +4,9 @@ pub mod Table
 pub mod FirstPlan
 pub mod Least
 pub mod Columns
+pub mod Settling
 pub mod Planner
+pub mod Found
+pub mod Demands
 pub mod Listing
 pub mod Examples

@@ -10,7 +10,7 @@ use Rattle.files.specs.Outcome.{isDone}
 use Rattle.files.specs.Records.{signerOf}
 use Rattle.files.specs.Task.{variableCount, actionCount}
 use Rattle.files.specs.TaskFile.{taskOf}
-use Rattle.search.specs.Planner.{PlanRooms, searched, planMade, plan}
+use Rattle.search.specs.Planner.{PlanRooms, searched, planMade, planAnswer}
 use Rattle.search.specs.declared.Planned.{Planned}
 
 -- the bytes of an ASCII text
@@ -57,6 +57,6 @@ planLines task p =
 -- planned under the file's signer; after a refusal just one line
 unfoldable pub listing : List ℕ → List ℕ
 listing task =
-    let p = plan task (signerOf task) ample in
+    let p = planAnswer task (signerOf task) ample in
     let lines = planLines task p in
     cond (isDone (p .outcome)) lines (line "refused " (p .outcome .number) " at " (p .outcome .place))

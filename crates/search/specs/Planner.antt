@@ -41,13 +41,21 @@ pub record PlanRooms : Type 0 where
   pub table : ℕ
   pub plan : ℕ
 
--- the stages up to search: at most 4,096 states, and the room for the table
+abbrev pub planRooms : Rooms → ℕ → ℕ → PlanRooms
+planRooms reduction table plan = record { reduction = reduction; table = table; plan = plan }
+
+-- at most 4,096 states, and the room for the table
+unfoldable pub statesFit : Task → ℕ → Outcome
+statesFit t room =
+    guard (leb (stateCount (t .variables)) 4096) 25 0
+    (fits (stateCount (t .variables)) room
+    done)
+
+-- the stages up to search
 unfoldable pub searchStage : List ℕ → ℕ → PlanRooms → Outcome
 searchStage task signer room =
     andThen (reduceStage task planLevel signer (room .reduction))
-    (guard (leb (searchedStates task) 4096) 25 0
-    (fits (searchedStates task) (room .table)
-    done))
+    (statesFit (searched task) (room .table))
 
 -- no plan exists, or it fits the plan buffer
 unfoldable pub planFits : Option (List ℕ) → ℕ → ℕ → Outcome
@@ -64,9 +72,25 @@ planStage task signer room =
 unfoldable pub planMade : List ℕ → List ℕ
 planMade task = Option·getD (planFound task) []
 
--- an outcome with lengths, rounds, cost and steps, which are 0 beside a refusal
-unfoldable pub plan : List ℕ → ℕ → PlanRooms → Planned
-plan task signer room =
+-- beside a refusal there are no lengths, rounds, cost and steps
+abbrev pub unplanned : Outcome → Planned
+unplanned o =
+    record {
+      outcome = o;
+      actions = 0;
+      facts = 0;
+      reduced = 0;
+      origin = 0;
+      table = 0;
+      plan = 0;
+      rounds = 0;
+      cost = record { 0 = 0 };
+      steps = record { 0 = 0 };
+    }
+
+-- an outcome with lengths, rounds, cost and steps
+unfoldable pub planAnswer : List ℕ → ℕ → PlanRooms → Planned
+planAnswer task signer room =
     let o = planStage task signer room in
     let t = taskOf task in
     let total = totalOf t (planMade task) in
@@ -84,19 +108,7 @@ plan task signer room =
       steps = record { 0 = total .steps };
     }
     in
-    cond (isDone o) answer
-    (record {
-      outcome = o;
-      actions = 0;
-      facts = 0;
-      reduced = 0;
-      origin = 0;
-      table = 0;
-      plan = 0;
-      rounds = 0;
-      cost = record { 0 = 0 };
-      steps = record { 0 = 0 };
-    })
+    cond (isDone o) answer (unplanned o)
 
 -- each buffer after the call: a finished stage's holds its result, a later one is untouched; 24 leaves the table filled
 unfoldable pub plannedActionMarks : List ℕ → ℕ → PlanRooms → List ℕ → List ℕ

@@ -24,13 +24,13 @@ use plans::OriginalAction;
 use plans::ReducedAction;
 
 // Whether two entries are alike.
-fn same(minutes: u64, steps: u16, other_minutes: u64, other_steps: u16) -> bool
-    ensures { λ r. ⌜ r ≡ sameEntry (entry minutes steps) (entry other_minutes other_steps) ⌝ }
+fn same(minutes: u64, steps: u16, cost: u64, count: u16) -> bool
+    ensures { λ r. ⌜ r ≡ sameEntry (entry minutes steps) (entry cost count) ⌝ }
 {
-    if columns::less(minutes, steps, other_minutes, other_steps) {
+    if columns::less(minutes, steps, cost, count) {
         return false;
     }
-    !columns::less(other_minutes, other_steps, minutes, steps)
+    !columns::less(cost, count, minutes, steps)
 }
 
 // Whether state s has its entry by way of action `a` first.

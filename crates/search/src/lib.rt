@@ -1,9 +1,18 @@
 // Search over the states of the reduced task, and the planner.
+// The call open to callers is plan; the module own_table serves the programs.
 mod columns;
 mod first_plan;
+pub mod own_table;
+mod row;
 mod states;
 mod steps_to;
 mod table;
+mod work_table;
+
+ghost use mathlib.Core.Path.{_≡_};
+ghost use lib.ListN.{length};
+ghost use Rattle.reduction.specs.Reduce.{rooms};
+ghost use Rattle.search.specs.Planner.{planRooms, planAnswer, plannedActionMarks, plannedFactMarks, plannedReduced, plannedOrigin, plannedTable, plannedPlan};
 
 // An entry of the work table: the least cost to the goal from a state, then the fewest steps at
 // that cost; 2^64 - 1 and 65,535 where the goal cannot be reached.
@@ -25,4 +34,44 @@ pub struct Planned {
     pub rounds: usize,
     pub cost: plans::Minutes,
     pub steps: plans::Steps,
+}
+
+// Plans the task of a task file: marks it at level 4, reduces it, searches its states, and writes
+// the first of its cheapest plans of fewest steps by original numbers, under a signer.
+pub fn plan(
+    task: &[u8],
+    signer: u32,
+    actions: &mut [u8],
+    facts: &mut [u8],
+    reduced: &mut [u8],
+    origin: &mut [u8],
+    table: &mut [Entry],
+    plan: &mut [u8],
+) -> Planned
+    ensures answer { λ r. ⌜ r ≡ planAnswer (now (task .entry)) signer (planRooms (rooms (length (now (actions .entry))) (length (now (facts .entry))) (length (now (reduced .entry))) (length (now (origin .entry)))) (length (now (table .entry))) (length (now (plan .entry)))) ⌝ }
+    ensures actions { λ r. ⌜ now (actions .exit) ≡ plannedActionMarks (now (task .entry)) signer (planRooms (rooms (length (now (actions .entry))) (length (now (facts .entry))) (length (now (reduced .entry))) (length (now (origin .entry)))) (length (now (table .entry))) (length (now (plan .entry)))) (now (actions .entry)) ⌝ }
+    ensures facts { λ r. ⌜ now (facts .exit) ≡ plannedFactMarks (now (task .entry)) signer (planRooms (rooms (length (now (actions .entry))) (length (now (facts .entry))) (length (now (reduced .entry))) (length (now (origin .entry)))) (length (now (table .entry))) (length (now (plan .entry)))) (now (facts .entry)) ⌝ }
+    ensures reduced { λ r. ⌜ now (reduced .exit) ≡ plannedReduced (now (task .entry)) signer (planRooms (rooms (length (now (actions .entry))) (length (now (facts .entry))) (length (now (reduced .entry))) (length (now (origin .entry)))) (length (now (table .entry))) (length (now (plan .entry)))) (now (reduced .entry)) ⌝ }
+    ensures origin { λ r. ⌜ now (origin .exit) ≡ plannedOrigin (now (task .entry)) signer (planRooms (rooms (length (now (actions .entry))) (length (now (facts .entry))) (length (now (reduced .entry))) (length (now (origin .entry)))) (length (now (table .entry))) (length (now (plan .entry)))) (now (origin .entry)) ⌝ }
+    ensures table { λ r. ⌜ now (table .exit) ≡ plannedTable (now (task .entry)) signer (planRooms (rooms (length (now (actions .entry))) (length (now (facts .entry))) (length (now (reduced .entry))) (length (now (origin .entry)))) (length (now (table .entry))) (length (now (plan .entry)))) (now (table .entry)) ⌝ }
+    ensures plan { λ r. ⌜ now (plan .exit) ≡ plannedPlan (now (task .entry)) signer (planRooms (rooms (length (now (actions .entry))) (length (now (facts .entry))) (length (now (reduced .entry))) (length (now (origin .entry)))) (length (now (table .entry))) (length (now (plan .entry)))) (now (plan .entry)) ⌝ }
+{
+    let mut minutes = [0u64; 4096];
+    let mut steps = [0u16; 4096];
+    let room = table.len();
+    let run = row::plan_columns(
+        task,
+        signer,
+        actions,
+        facts,
+        reduced,
+        origin,
+        &mut minutes,
+        &mut steps,
+        room,
+        plan,
+    );
+    let states = run.states;
+    work_table::fill(table, &minutes, &steps, states);
+    run.planned
 }

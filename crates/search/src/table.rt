@@ -1,14 +1,18 @@
 // The table of the task that arrays hold: backwards from the goal, the least entry settled first.
 ghost use mathlib.Core.Path.{_≡_};
-ghost use mathlib.Core.Bool.{true};
+ghost use mathlib.Core.Bool.{cond, true};
+ghost use mathlib.Core.List.{List};
 ghost use Prim.Native.Nat.{ℕ, _+_, _<_, _≤_};
+ghost use lib.Dec.{eqb};
 ghost use lib.ListN.{length, getD};
 ghost use Rattle.files.specs.Accepted.{acceptedTask};
-ghost use Rattle.files.specs.Dense.{held, arrays};
-ghost use Rattle.search.specs.States.{stateCount};
+ghost use Rattle.files.specs.Dense.{rowPairs, held, arrays};
+ghost use Rattle.plans.specs.State.{allHold};
+ghost use Rattle.search.specs.States.{stateCount, stateAt};
 ghost use Rattle.search.specs.Table.{tableOf};
 ghost use Rattle.search.specs.FirstPlan.{startNumber};
-ghost use Rattle.search.specs.Columns.{entriesIn};
+ghost use Rattle.search.specs.Columns.{entryIn, entriesIn, rowVariables};
+ghost use Rattle.search.specs.Settling.{firstEntry, Picked};
 use crate::columns;
 use crate::states;
 use crate::steps_to;
@@ -21,7 +25,10 @@ fn better(
     count: usize,
     best: usize,
     s: usize,
-) -> usize {
+) -> usize
+    requires { ⌜ Picked (now minutes) (now steps) (now settled) count s best × (s < count) × (count ≤ length (now minutes)) × (count ≤ length (now steps)) × (count ≤ length (now settled)) ⌝ }
+    ensures { λ r. ⌜ Picked (now (minutes .entry)) (now (steps .entry)) (now (settled .entry)) count (s + 1) r ⌝ }
+{
     if settled[s] != 0 {
         return best;
     }
@@ -38,7 +45,10 @@ fn better(
 }
 
 // The open state with the least entry, or `count` where no open state has one.
-fn select(minutes: &[u64], steps: &[u16], settled: &[u8], count: usize) -> usize {
+fn select(minutes: &[u64], steps: &[u16], settled: &[u8], count: usize) -> usize
+    requires { ⌜ (count ≤ length (now minutes)) × (count ≤ length (now steps)) × (count ≤ length (now settled)) ⌝ }
+    ensures { λ r. ⌜ Picked (now (minutes .entry)) (now (steps .entry)) (now (settled .entry)) count count r ⌝ }
+{
     let mut best = count;
     let mut s: usize = 0;
     while s < count {
@@ -49,13 +59,16 @@ fn select(minutes: &[u64], steps: &[u16], settled: &[u8], count: usize) -> usize
 }
 
 // The entry of a state before any step.
-fn store(minutes: &mut [u64], steps: &mut [u16], s: usize, at_goal: bool) {
-    if at_goal {
-        minutes[s] = 0;
-        steps[s] = 0;
+fn store(minutes: &mut [u64], steps: &mut [u16], state: usize, reached: bool)
+    requires { ⌜ (state < length (now minutes)) × (state < length (now steps)) ⌝ }
+    ensures { λ r. ⌜ ((s : ℕ) → entryIn (now (minutes .exit)) (now (steps .exit)) s ≡ cond (eqb s state) (firstEntry reached) (entryIn (now (minutes .entry)) (now (steps .entry)) s)) ⌝ }
+{
+    if reached {
+        minutes[state] = 0;
+        steps[state] = 0;
     } else {
-        minutes[s] = 18446744073709551615;
-        steps[s] = 65535;
+        minutes[state] = 18446744073709551615;
+        steps[state] = 65535;
     }
 }
 
@@ -67,7 +80,10 @@ fn begin(
     goal: &[u8; 64],
     variables: usize,
     count: usize,
-) {
+)
+    requires { ⌜ (variables ≤ 64) × ((v : ℕ) → v < variables → 1 ≤ getD (now sizes) v 0) × (count ≤ length (now minutes)) × (count ≤ length (now steps)) ⌝ }
+    ensures { λ r. ⌜ ((starts : List ℕ) (s : ℕ) → s < count → entryIn (now (minutes .exit)) (now (steps .exit)) s ≡ firstEntry (allHold (rowPairs (now (goal .entry)) 0 0 variables) (stateAt (rowVariables variables (now (sizes .entry)) starts) s))) ⌝ }
+{
     let mut s: usize = 0;
     while s < count {
         let values = states::values_of(sizes, variables, s);

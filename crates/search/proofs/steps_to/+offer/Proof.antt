@@ -6,7 +6,7 @@ use denote.Ref.{now}
 use borrow.Author.Needs.{needs}
 use Rattle.search.specs.Table.{entry}
 use Rattle.search.proofs.StateLoops.{product-most}
-use Rattle.search.proofs.Offering.{Walk, Turns, found, walk, weight-few, taken-least, next-below, next-set, turns-begin, turns-next, turns-end, offer-last}
+use Rattle.search.proofs.OfferLoops.{Walk, Turns, found, walk, weight-few, taken-least, next-below, next-set, turns-begin, turns-next, turns-end, offer-last}
 use Prim.Native.Nat.{ℕ, _-_, _<_}
 use borrow.Fn.Kinds.{In}
 use borrow.Fn.PlainCycle.{Measures, is, falls, and}

@@ -1,0 +1,81 @@
+-- What the search asks of arrays holds where the task that they hold is accepted and has few states.
+use Prim.Native.Nat.{ℕ, zero, suc, _+_, _*_, _≤_, _<_}
+use mathlib.Core.Path.{_≡_, refl, sym, ap, _∙_}
+use mathlib.Core.Bool.{true}
+use mathlib.Core.List.{List, [], _∷_}
+use native.Mathlib.Omega.{arith}
+use lib.ListN.{length, getD}
+use borrow.Author.Tests.{ne-eqb}
+use Rattle.files.specs.Below.{tabulateFrom}
+use Rattle.files.specs.Task.{Variable, actionCount, actionOf}
+use Rattle.files.specs.Accepted.{acceptedTask}
+use Rattle.files.specs.Dense.{Arrays, rowVariable, rowAction, held}
+use Rattle.files.proofs.Valid.{Valid, task-valid}
+use Rattle.plans.specs.State.{State, startState}
+use Rattle.plans.specs.Tally.{listState}
+use Rattle.plans.proofs.WalkLaws.{held-action}
+use Rattle.marking.proofs.HeldTask.{variables-held, actions-held, size-held, start-held, cost-held, condition-valid, effect-valid}
+use Rattle.search.specs.States.{stateCount, stateNumber}
+use Rattle.search.specs.FirstPlan.{startNumber}
+use Rattle.search.specs.Columns.{rowVariables, rowStates, Searchable}
+
+-- no start value changes the count of states
+states-from : (sizes starts others : List ℕ) (v count : ℕ) → stateCount (tabulateFrom v count (rowVariable sizes starts)) ≡ stateCount (tabulateFrom v count (rowVariable sizes others))
+unfolding stateCount rowVariable
+states-from sizes starts others v zero = refl
+states-from sizes starts others v (suc count) = ap (λ (n : ℕ). getD sizes v 0 * n) (states-from sizes starts others (v + 1) count)
+
+pub row-states : (variables : ℕ) (sizes starts : List ℕ) → stateCount (rowVariables variables sizes starts) ≡ rowStates variables sizes
+unfolding rowStates
+row-states variables sizes starts = states-from sizes starts [] 0 variables
+
+-- a state's number is by the values of the variables
+pub number-same : (vs : List Variable) (s r : State) → ((v : ℕ) → v < length vs → s v ≡ r v) → stateNumber vs s ≡ stateNumber vs r
+unfolding stateNumber
+number-same [] s r h = refl
+number-same (x ∷ xs) s r h =
+    rw (h 0 (omega arith), number-same xs (λ v. s (suc v)) (λ v. r (suc v)) (λ v l. h (suc v) (omega arith))) refl
+
+module _ (d : Arrays) where
+  pub held-variables : held d .variables ≡ rowVariables (d .variables) (d .sizes) (d .starts)
+  unfolding held
+  held-variables = refl
+
+  pub held-states : stateCount (held d .variables) ≡ rowStates (d .variables) (d .sizes)
+  held-states = ap stateCount held-variables ∙ row-states (d .variables) (d .sizes) (d .starts)
+
+  pub held-actions : (a : ℕ) → a < actionCount (held d) → actionOf (held d) a ≡ rowAction (d .variables) (d .costs) (d .conditions) (d .effects) a
+  held-actions a h = held-action d a (omega (arith, actions-held d))
+
+  -- the number of the start state, by the array of the start values
+  pub held-start : (number : ℕ) → number ≡ stateNumber (rowVariables (d .variables) (d .sizes) (d .starts)) (listState (d .starts)) → number ≡ startNumber (held d)
+  unfolding startNumber startState listState
+  held-start number e =
+      e
+      ∙ ap (λ (vs : List Variable). stateNumber vs (listState (d .starts))) (sym held-variables)
+      ∙ number-same (held d .variables) (listState (d .starts)) (startState (held d)) (λ v l. sym (start-held d v (omega (arith, variables-held d))))
+
+  module _ (accepted : acceptedTask (held d) ≡ true) where
+    pub held-valid : Valid (held d)
+    held-valid = task-valid (held d) accepted
+
+    pub held-sizes : (v : ℕ) → v < d .variables → 1 ≤ getD (d .sizes) v 0
+    held-sizes v h = omega (arith, held-valid .size-least v (omega (arith, variables-held d)), size-held d v h)
+
+    pub held-starts : (v : ℕ) → v < d .variables → getD (d .starts) v 0 < getD (d .sizes) v 0
+    held-starts v h = omega (arith, held-valid .start v (omega (arith, variables-held d)), size-held d v h, start-held d v h)
+
+    pub held-few : d .variables ≤ 64
+    held-few = omega (arith, held-valid .variables-few, variables-held d)
+
+    pub searchable : stateCount (held d .variables) ≤ 4096 → Searchable (d .variables) (d .actions) (d .sizes) (d .costs) (d .conditions) (d .effects)
+    searchable few =
+        record {
+          variables-few = held-few;
+          actions-few = omega (arith, held-valid .actions-few, actions-held d);
+          size-least = held-sizes;
+          condition-inside = λ a v h l n. omega (arith, condition-valid d held-valid a v h l (ne-eqb (getD (d .conditions) (64 * a + v) 0) 255 n), size-held d v l);
+          effect-inside = λ a v h l n. omega (arith, effect-valid d held-valid a v h l (ne-eqb (getD (d .effects) (64 * a + v) 0) 255 n), size-held d v l);
+          cost-most = λ a h. omega (arith, held-valid .action a .cost, cost-held d a h);
+          states-few = omega (arith, held-states);
+        }

@@ -1,0 +1,176 @@
+-- Each round settles the open state with the least entry; the states that are open grow fewer.
+use Prim.Native.Nat.{ℕ, _≤_}
+use mathlib.Core.Path.{_≡_, refl, sym, _∙_}
+use native.Mathlib.Omega.{arith}
+use denote.Ref.{now}
+use lib.ListN.{length, length-replicate, length-set}
+use Rattle.files.specs.Dense.{Arrays, arrays}
+use Rattle.search.specs.Columns.{rowStates, Searchable}
+use Rattle.search.proofs.HeldStates.{held-states, held-start, held-sizes, held-starts, held-few, searchable}
+use Rattle.search.proofs.Searching.{openCount, Searching, begin, falls, low-minutes, low-steps, next, end}
+use Rattle.search.proofs.table.search.Statement.{statement}
+use Rattle.search.proofs.table.search.Tie as tie
+
+abbrev Inv-loop : tie.InvT-loop
+Inv-loop minutes₀ steps₀ count variables actions sizes starts goal costs conditions effects weights settled₀ s₀ minutes steps settled s =
+    Searching (arrays variables actions sizes starts goal costs conditions effects) count minutes steps settled s
+    × (length minutes ≡ length minutes₀) × (length steps ≡ length steps₀)
+
+abbrev μ-loop : tie.MeasureT-loop
+μ-loop minutes₀ steps₀ count variables actions sizes starts goal costs conditions effects weights settled₀ s₀ minutes steps settled s = openCount settled
+
+abbrev Started : Type 0
+Started = tie.Start Inv-loop μ-loop
+
+abbrev task : Started → Arrays
+task s =
+    arrays
+    (s .args .variables)
+    (s .args .actions)
+    (now (s .args .sizes))
+    (now (s .args .starts))
+    (now (s .args .goal))
+    (now (s .args .costs))
+    (now (s .args .conditions))
+    (now (s .args .effects))
+
+states-are : (s : Started) → s .args .count ≡ rowStates (s .args .variables) (now (s .args .sizes))
+states-are s = s .pre .1 ∙ held-states (task s)
+
+few-states : (s : Started) → rowStates (s .args .variables) (now (s .args .sizes)) ≤ 4096
+few-states s = omega (arith, states-are s, s .pre .2)
+
+searched : (s : Started) → Searchable (s .args .variables) (s .args .actions) (now (s .args .sizes)) (now (s .args .costs)) (now (s .args .conditions)) (now (s .args .effects))
+searched s = searchable (task s) (s .pre .0) (omega (arith, s .pre .1, s .pre .2))
+
+abbrev to-start : tie.After-begin Inv-loop μ-loop → Started
+to-start c = c .before .before .before .before .before
+
+abbrev to-begin : tie.After-weights Inv-loop μ-loop → tie.After-begin Inv-loop μ-loop
+to-begin c = c .before .before .before .before .before
+
+abbrev to-weights : tie.After-select Inv-loop μ-loop → tie.After-weights Inv-loop μ-loop
+to-weights c = c .before .before .before .before
+
+abbrev to-round : tie.After-settle Inv-loop μ-loop → tie.In-loop Inv-loop μ-loop
+to-round c = c .before .before .before .before
+
+abbrev round-start : tie.In-loop Inv-loop μ-loop → Started
+round-start c = to-start (to-begin (to-weights (c .before .before)))
+
+begin-requires : tie.Need-begin-requires Inv-loop μ-loop
+begin-requires c κs =
+    let s = c .before .before .before .before in
+    (held-few (task s) (s .pre .0), held-sizes (task s) (s .pre .0), s .pre .3, s .pre .4)
+
+weights-requires : tie.Need-weights-requires Inv-loop μ-loop
+weights-requires c κs =
+    let s = to-start (c .before .before .before .before) in
+    (held-few (task s) (s .pre .0), few-states s, held-sizes (task s) (s .pre .0))
+
+slice-aggregate-select : tie.Need-slice-aggregate-select Inv-loop μ-loop
+slice-aggregate-select c = refl
+
+select-requires : tie.Need-select-requires Inv-loop μ-loop
+select-requires c κs =
+    let b = to-begin (c .before .before .before) in
+    let s = to-start b in
+    let k = b .begin .kept in
+    (omega (arith, k .0, s .pre .3), omega (arith, k .1 .0, s .pre .4), omega (arith, length-replicate {A = ℕ} 4096 0, s .pre .2))
+
+loop-holds : tie.Need-loop-holds Inv-loop μ-loop
+loop-holds c =
+    let b = to-begin (to-weights c) in
+    let s = to-start b in
+    let k = b .begin .kept in (
+      begin (task s) _ _ _ (s .pre .0) (s .pre .1) (s .pre .2) (b .begin .ensures (now (s .args .starts))) (omega (arith, k .0, s .pre .3)) (omega (arith, k .1 .0, s .pre .4)) _ (c .select .ensures),
+      refl,
+      refl,
+    )
+
+array-write-settled : tie.Need-array-write-settled Inv-loop μ-loop
+array-write-settled c = omega (arith, c .loop-test .taken, c .before .loop .inv .0 .few)
+
+settle-requires : tie.Need-settle-requires Inv-loop μ-loop
+settle-requires c κs =
+    let r = c .before .before .before in
+    let s = round-start r in
+    let w = r .before .loop .inv .0 in
+    let h = r .loop-test .taken in
+    let is = states-are s in (
+      searched s,
+      omega (arith, w .minutes-long),
+      omega (arith, w .steps-long),
+      to-weights (r .before .before) .weights .ensures,
+      omega arith,
+      low-minutes (task s) _ _ _ _ _ w h,
+      low-steps (task s) _ _ _ _ _ w h,
+    )
+
+slice-aggregate-select-2 : tie.Need-slice-aggregate-select-2 Inv-loop μ-loop
+slice-aggregate-select-2 c =
+    let l = to-round (c .before .before .before .before .before .before .before) .before .loop in
+    sym (length-set (l .settled) (l .s) 1 ∙ l .inv .0 .size)
+
+select-requires-2 : tie.Need-select-requires-2 Inv-loop μ-loop
+select-requires-2 c κs =
+    let a = c .before .before .before .before .before .before .before in
+    let l = to-round a .before .loop in
+    let w = l .inv .0 in
+    let k = a .settle .kept in
+    (omega (arith, k .0, w .minutes-long), omega (arith, k .1 .0, w .steps-long), omega (arith, length-set (l .settled) (l .s) 1, w .size, w .few))
+
+loop-less : tie.Need-loop-less Inv-loop μ-loop
+loop-less c =
+    let r = to-round (c .before .before .before .before .before .before .before .before) in
+    omega (arith, falls (task (round-start r)) _ _ _ _ _ (r .before .loop .inv .0) (r .loop-test .taken))
+
+loop-again : tie.Need-loop-again Inv-loop μ-loop
+loop-again c =
+    let a = c .before .before .before .before .before .before .before .before in
+    let r = to-round a in
+    let s = round-start r in
+    let i = r .before .loop .inv in
+    let k = a .settle .kept in (
+      next (task s) _ _ _ _ _ (i .0) (r .loop-test .taken) _ _ (a .settle .ensures (now (s .args .starts))) (omega (arith, k .0, i .0 .minutes-long)) (omega (arith, k .1 .0, i .0 .steps-long)) _ (c .select2 .ensures),
+      k .0 ∙ i .1,
+      k .1 .0 ∙ i .2,
+    )
+
+start-number-requires : tie.Need-start-number-requires Inv-loop μ-loop
+start-number-requires c κs =
+    let s = to-start (to-begin (to-weights (c .before .before))) in
+    (held-few (task s) (s .pre .0), few-states s, held-starts (task s) (s .pre .0))
+
+same-length : tie.Need-same-length Inv-loop μ-loop
+same-length c = c .before .before .loop .inv .1 ∙ to-begin (to-weights (c .before .before .before)) .begin .kept .0
+
+same-length-2 : tie.Need-same-length-2 Inv-loop μ-loop
+same-length-2 c = c .before .before .loop .inv .2 ∙ to-begin (to-weights (c .before .before .before)) .begin .kept .1 .0
+
+returns : tie.Need-returns Inv-loop μ-loop
+returns c =
+    let s = to-start (to-begin (to-weights (c .before .before .before))) in
+    (held-start (task s) _ (c .start-number .ensures), end (task s) _ _ _ _ _ (c .before .before .loop .inv .0) (c .before .loop-test .left))
+
+pub search-spec : {M : Type 1} → statement M
+search-spec =
+    tie.close
+    (tie.spec
+    Inv-loop
+    μ-loop
+    begin-requires
+    weights-requires
+    slice-aggregate-select
+    select-requires
+    loop-holds
+    array-write-settled
+    settle-requires
+    slice-aggregate-select-2
+    select-requires-2
+    loop-less
+    loop-again
+    start-number-requires
+    same-length
+    same-length-2
+    returns)

@@ -1,0 +1,273 @@
+// The planner's row, with the work table as two columns.
+ghost use mathlib.Core.Path.{_≡_};
+ghost use mathlib.Core.Bool.{true, cond};
+ghost use mathlib.Core.List.{[]};
+ghost use Prim.Native.Nat.{_≤_};
+ghost use lib.ListN.{length};
+ghost use Rattle.files.specs.Accepted.{acceptedTask};
+ghost use Rattle.files.specs.Dense.{held, arrays};
+ghost use Rattle.files.specs.OriginFile.{originOf};
+ghost use Rattle.files.specs.Outcome.{done, isDone, after};
+ghost use Rattle.files.specs.PlanFile.{planFile};
+ghost use Rattle.files.specs.Task.{actionCount};
+ghost use Rattle.files.specs.TaskFile.{checkTask, taskOf};
+ghost use Rattle.reduction.specs.Preserved.{byOriginFile};
+ghost use Rattle.reduction.specs.Reduce.{rooms};
+ghost use Rattle.search.specs.Table.{tableOf};
+ghost use Rattle.search.specs.Columns.{entriesIn};
+ghost use Rattle.search.specs.Planner.{planRooms, statesFit, searched, searchStage, planAnswer, unplanned, plannedActionMarks, plannedFactMarks, plannedReduced, plannedOrigin, plannedPlan};
+ghost use Rattle.search.specs.Found.{foundPlan, notFound, foundAnswer, bothTogether};
+use crate::Planned;
+use crate::first_plan;
+use crate::states;
+use crate::table;
+use files::outcomes;
+use plans::Minutes;
+use plans::Steps;
+
+// What the search of a task comes to: the entries filled, also beside 24 and the plan buffer's 21,
+// and the plan file's length, cost and steps, 0 beside a refusal.
+pub struct Found {
+    pub outcome: files::Outcome,
+    pub states: usize,
+    pub plan: usize,
+    pub cost: Minutes,
+    pub steps: Steps,
+}
+
+// The planner's answer, and how many entries of the table are filled.
+pub struct Run {
+    pub planned: Planned,
+    pub states: usize,
+}
+
+// A refusal with so many entries filled.
+fn not_found(outcome: files::Outcome, states: usize) -> Found
+    ensures { λ r. ⌜ r ≡ notFound outcome states ⌝ }
+{
+    Found {
+        outcome: outcome,
+        states: states,
+        plan: 0,
+        cost: Minutes(0),
+        steps: Steps(0),
+    }
+}
+
+// Searches the task that arrays hold, and writes its plan by the numbers in the origin file.
+fn search_task(
+    minutes: &mut [u64],
+    steps: &mut [u16],
+    room: usize,
+    plan: &mut [u8],
+    signer: u32,
+    origin: &[u8],
+    variables: usize,
+    actions: usize,
+    sizes: &[u8; 64],
+    starts: &[u8; 64],
+    goal: &[u8; 64],
+    costs: &[u32; 512],
+    conditions: &[u8; 32768],
+    effects: &[u8; 32768],
+) -> Found
+    requires { ⌜ (acceptedTask (held (arrays variables actions (now sizes) (now starts) (now goal) (now costs) (now conditions) (now effects))) ≡ true) × (4096 ≤ length (now minutes)) × (4096 ≤ length (now steps)) × (actions ≤ length (originOf (now origin) .actions)) ⌝ }
+    ensures answer { λ r. ⌜ r ≡ foundAnswer (held (arrays variables actions (now (sizes .entry)) (now (starts .entry)) (now (goal .entry)) (now (costs .entry)) (now (conditions .entry)) (now (effects .entry)))) (byOriginFile (now (origin .entry))) signer room (length (now (plan .entry))) ⌝ }
+    ensures table { λ r. ⌜ entriesIn (now (minutes .exit)) (now (steps .exit)) (r .states) ≡ cond (isDone (statesFit (held (arrays variables actions (now (sizes .entry)) (now (starts .entry)) (now (goal .entry)) (now (costs .entry)) (now (conditions .entry)) (now (effects .entry)))) room)) (tableOf (held (arrays variables actions (now (sizes .entry)) (now (starts .entry)) (now (goal .entry)) (now (costs .entry)) (now (conditions .entry)) (now (effects .entry))))) [] ⌝ }
+    ensures plan { λ r. ⌜ now (plan .exit) ≡ after (r .outcome) (planFile (byOriginFile (now (origin .entry)) (foundPlan (held (arrays variables actions (now (sizes .entry)) (now (starts .entry)) (now (goal .entry)) (now (costs .entry)) (now (conditions .entry)) (now (effects .entry)))))) signer) (now (plan .entry)) ⌝ }
+{
+    let count = states::count(sizes, variables);
+    if 4096 < count {
+        return not_found(outcomes::refuse(25, 0), 0);
+    }
+    if room < count {
+        return not_found(outcomes::refuse(21, count), 0);
+    }
+    let start = table::search(
+        minutes,
+        steps,
+        count,
+        variables,
+        actions,
+        sizes,
+        starts,
+        goal,
+        costs,
+        conditions,
+        effects,
+    );
+    let cost = minutes[start];
+    if cost == 18446744073709551615 {
+        return not_found(outcomes::refuse(24, 0), count);
+    }
+    let length = steps[start];
+    let needed = files::plan::needed(length as usize);
+    if plan.len() < needed {
+        return not_found(outcomes::refuse(21, needed), count);
+    }
+    first_plan::write_plan(
+        plan,
+        signer,
+        origin,
+        minutes,
+        steps,
+        variables,
+        actions,
+        sizes,
+        starts,
+        goal,
+        costs,
+        conditions,
+        effects,
+    );
+    Found {
+        outcome: outcomes::done(),
+        states: count,
+        plan: needed,
+        cost: Minutes(cost),
+        steps: Steps(length),
+    }
+}
+
+// Searches the task of an accepted file.
+fn search_file(
+    minutes: &mut [u64],
+    steps: &mut [u16],
+    room: usize,
+    plan: &mut [u8],
+    signer: u32,
+    origin: &[u8],
+    reduced: &[u8],
+) -> Found
+    requires { ⌜ (checkTask (now reduced) ≡ done) × (4096 ≤ length (now minutes)) × (4096 ≤ length (now steps)) × (actionCount (taskOf (now reduced)) ≤ length (originOf (now origin) .actions)) ⌝ }
+    ensures answer { λ r. ⌜ r ≡ foundAnswer (taskOf (now (reduced .entry))) (byOriginFile (now (origin .entry))) signer room (length (now (plan .entry))) ⌝ }
+    ensures table { λ r. ⌜ entriesIn (now (minutes .exit)) (now (steps .exit)) (r .states) ≡ cond (isDone (statesFit (taskOf (now (reduced .entry))) room)) (tableOf (taskOf (now (reduced .entry)))) [] ⌝ }
+    ensures plan { λ r. ⌜ now (plan .exit) ≡ after (r .outcome) (planFile (byOriginFile (now (origin .entry)) (foundPlan (taskOf (now (reduced .entry))))) signer) (now (plan .entry)) ⌝ }
+{
+    let mut sizes = [0u8; 64];
+    let mut starts = [0u8; 64];
+    let mut goal = [0u8; 64];
+    let mut costs = [0u32; 512];
+    let mut conditions = [0u8; 32768];
+    let mut effects = [0u8; 32768];
+    files::decode::read_task(
+        reduced,
+        &mut sizes,
+        &mut starts,
+        &mut goal,
+        &mut costs,
+        &mut conditions,
+        &mut effects,
+    );
+    let variables = files::task::variables_in(reduced);
+    let actions = files::task::actions_in(reduced);
+    search_task(
+        minutes,
+        steps,
+        room,
+        plan,
+        signer,
+        origin,
+        variables,
+        actions,
+        &sizes,
+        &starts,
+        &goal,
+        &costs,
+        &conditions,
+        &effects,
+    )
+}
+
+// Beside a refusal there are no lengths, rounds, cost and steps.
+fn refused(outcome: files::Outcome) -> Planned
+    ensures { λ r. ⌜ r ≡ unplanned outcome ⌝ }
+{
+    Planned {
+        outcome: outcome,
+        actions: 0,
+        facts: 0,
+        reduced: 0,
+        origin: 0,
+        table: 0,
+        plan: 0,
+        rounds: 0,
+        cost: Minutes(0),
+        steps: Steps(0),
+    }
+}
+
+// The answer of the stages together.
+fn together(first: reduction::Reduced, found: Found) -> Run
+    ensures { λ r. ⌜ r ≡ bothTogether first found ⌝ }
+{
+    let outcome = found.outcome;
+    let states = found.states;
+    if outcome.number != 0 {
+        return Run {
+            planned: refused(outcome),
+            states: states,
+        };
+    }
+    let cost = found.cost;
+    let steps = found.steps;
+    Run {
+        planned: Planned {
+            outcome: outcome,
+            actions: first.actions,
+            facts: first.facts,
+            reduced: first.reduced,
+            origin: first.origin,
+            table: states,
+            plan: found.plan,
+            rounds: first.rounds,
+            cost: cost,
+            steps: steps,
+        },
+        states: states,
+    }
+}
+
+// The whole row, for a table of `room` entries.
+pub fn plan_columns(
+    task: &[u8],
+    signer: u32,
+    actions: &mut [u8],
+    facts: &mut [u8],
+    reduced: &mut [u8],
+    origin: &mut [u8],
+    minutes: &mut [u64],
+    steps: &mut [u16],
+    room: usize,
+    plan: &mut [u8],
+) -> Run
+    requires { ⌜ (4096 ≤ length (now minutes)) × (4096 ≤ length (now steps)) ⌝ }
+    ensures answer { λ r. ⌜ r .planned ≡ planAnswer (now (task .entry)) signer (planRooms (rooms (length (now (actions .entry))) (length (now (facts .entry))) (length (now (reduced .entry))) (length (now (origin .entry)))) room (length (now (plan .entry)))) ⌝ }
+    ensures actions { λ r. ⌜ now (actions .exit) ≡ plannedActionMarks (now (task .entry)) signer (planRooms (rooms (length (now (actions .entry))) (length (now (facts .entry))) (length (now (reduced .entry))) (length (now (origin .entry)))) room (length (now (plan .entry)))) (now (actions .entry)) ⌝ }
+    ensures facts { λ r. ⌜ now (facts .exit) ≡ plannedFactMarks (now (task .entry)) signer (planRooms (rooms (length (now (actions .entry))) (length (now (facts .entry))) (length (now (reduced .entry))) (length (now (origin .entry)))) room (length (now (plan .entry)))) (now (facts .entry)) ⌝ }
+    ensures reduced { λ r. ⌜ now (reduced .exit) ≡ plannedReduced (now (task .entry)) signer (planRooms (rooms (length (now (actions .entry))) (length (now (facts .entry))) (length (now (reduced .entry))) (length (now (origin .entry)))) room (length (now (plan .entry)))) (now (reduced .entry)) ⌝ }
+    ensures origin { λ r. ⌜ now (origin .exit) ≡ plannedOrigin (now (task .entry)) signer (planRooms (rooms (length (now (actions .entry))) (length (now (facts .entry))) (length (now (reduced .entry))) (length (now (origin .entry)))) room (length (now (plan .entry)))) (now (origin .entry)) ⌝ }
+    ensures plan { λ r. ⌜ now (plan .exit) ≡ plannedPlan (now (task .entry)) signer (planRooms (rooms (length (now (actions .entry))) (length (now (facts .entry))) (length (now (reduced .entry))) (length (now (origin .entry)))) room (length (now (plan .entry)))) (now (plan .entry)) ⌝ }
+    ensures table { λ r. ⌜ (entriesIn (now (minutes .exit)) (now (steps .exit)) (r .states) ≡ cond (isDone (searchStage (now (task .entry)) signer (planRooms (rooms (length (now (actions .entry))) (length (now (facts .entry))) (length (now (reduced .entry))) (length (now (origin .entry)))) room (length (now (plan .entry)))))) (tableOf (searched (now (task .entry)))) []) × (r .states ≤ room) × (r .states ≤ 4096) ⌝ }
+{
+    let first = reduction::reduce(task, 4, signer, actions, facts, reduced, origin);
+    let outcome = first.outcome;
+    if outcome.number != 0 {
+        return Run {
+            planned: refused(outcome),
+            states: 0,
+        };
+    }
+    let written = first.reduced;
+    let named = first.origin;
+    let found = search_file(
+        minutes,
+        steps,
+        room,
+        plan,
+        signer,
+        &origin[0..named],
+        &reduced[0..written],
+    );
+    together(first, found)
+}
