@@ -15,6 +15,9 @@ pub mod ColumnLaws
 pub mod RowNumbers
 pub mod RowSteps
 pub mod StateLoops
+pub mod OneChange
+pub mod Predecessors
+pub mod OfferLoops
 pub mod Settling
 pub mod Offering
 pub mod HeldStates

@@ -3,14 +3,15 @@ use Prim.Native.Nat.{ℕ, zero, suc, _+_, _*_, _≤_, _<_}
 use mathlib.Core.Path.{_≡_}
 use mathlib.Core.Bool.{Bool, not, cond, _&&_}
 use mathlib.Core.List.{List, []}
-use lib.Dec.{eqb}
+use lib.Dec.{eqb, leb}
 use mathlib.Core.Option.{none}
 use lib.ListN.{length, getD}
-use Rattle.files.specs.Below.{tabulate}
+use Rattle.files.specs.Below.{tabulate, allBelow}
 use Rattle.files.specs.Dense.{rowVariable, rowAction}
 use Rattle.files.specs.Task.{Variable, Action, Task, actionOf}
-use Rattle.plans.specs.State.{applicable, apply}
+use Rattle.plans.specs.State.{State, applicable, apply}
 use Rattle.plans.specs.Plan.{Total, addStep, atMost}
+use Rattle.plans.specs.Tally.{meetsEntry}
 use Rattle.search.specs.States.{stateCount, stateNumber, stateAt}
 use Rattle.search.specs.Table.{entry, entryOf, distances}
 use Rattle.search.specs.declared.Entry.{Entry}
@@ -70,6 +71,39 @@ pub record Searchable (variables actions : ℕ) (sizes costs conditions effects 
 unfoldable pub rowWeight : List ℕ → ℕ → ℕ
 rowWeight sizes zero = 1
 rowWeight sizes (suc v) = rowWeight sizes v * getD sizes v 0
+
+-- the state of a number, which no start value changes
+unfoldable pub rowState : ℕ → List ℕ → ℕ → State
+rowState variables sizes n = stateAt (rowVariables variables sizes []) n
+
+-- a variable can have a value after a step: the effect's, or one that the condition asks where there is no effect
+unfoldable pub canHave : ℕ → ℕ → ℕ → Bool
+canHave condition effect value = cond (eqb effect 255) (meetsEntry condition value) (eqb effect value)
+
+-- the step at `base` can lead to state s
+unfoldable pub canReach : List ℕ → List ℕ → ℕ → ℕ → State → Bool
+canReach conditions effects base variables s =
+    allBelow variables (λ v. canHave (getD conditions (base + v) 0) (getD effects (base + v) 0) (s v))
+
+-- state r is state s except in the variables from `from` on that the effects set, where the conditions hold in r
+unfoldable pub differsOnly : List ℕ → List ℕ → ℕ → ℕ → ℕ → State → State → Bool
+differsOnly conditions effects base variables from s r =
+    allBelow variables
+    (λ v.
+    cond
+    (leb from v && not (eqb (getD effects (base + v) 0) 255))
+    (meetsEntry (getD conditions (base + v) 0) (r v))
+    (eqb (r v) (s v)))
+
+-- what the walk over the states before a step at `base` asks of arrays
+pub record StepRow (variables base : ℕ) (sizes weights conditions effects : List ℕ) : Type 0 where
+  pub variables-few : variables ≤ 64
+  pub row-inside : base + 64 ≤ 32768
+  pub size-least : (v : ℕ) → v < variables → 1 ≤ getD sizes v 0
+  pub condition-inside : (v : ℕ) → v < variables → (getD conditions (base + v) 0 ≡ 255 → ⊥) → getD conditions (base + v) 0 < getD sizes v 0
+  pub effect-inside : (v : ℕ) → v < variables → (getD effects (base + v) 0 ≡ 255 → ⊥) → getD effects (base + v) 0 < getD sizes v 0
+  pub states-few : rowStates variables sizes ≤ 4096
+  pub weight : (v : ℕ) → v < variables → getD weights v 0 ≡ rowWeight sizes v
 
 -- entries that are alike
 unfoldable pub sameEntry : Entry → Entry → Bool

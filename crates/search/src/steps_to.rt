@@ -1,15 +1,15 @@
 // The steps to a settled state: each state from which an action leads to it is offered its entry
 // with a step more.
 ghost use mathlib.Core.Path.{_≡_};
-ghost use mathlib.Core.Bool.{Bool, cond, true};
+ghost use mathlib.Core.Bool.{cond, _&&_};
 ghost use mathlib.Core.List.{List};
 ghost use Prim.Native.Nat.{ℕ, _+_, _*_, _<_, _≤_};
+ghost use lib.Dec.{leb, ltb};
 ghost use lib.ListN.{length, getD};
 ghost use Rattle.files.specs.Dense.{rowAction};
-ghost use Rattle.plans.specs.Tally.{listState};
-ghost use Rattle.search.specs.States.{stateAt};
+ghost use Rattle.plans.specs.Tally.{listState, meetsEntry};
 ghost use Rattle.search.specs.Table.{entry};
-ghost use Rattle.search.specs.Columns.{entryIn, afterStep, lowered, leadsTo, offered, rowVariables, rowStates, rowWeight, Searchable};
+ghost use Rattle.search.specs.Columns.{entryIn, lowered, leadsTo, offered, rowVariables, rowStates, rowWeight, rowState, canHave, canReach, differsOnly, StepRow, Searchable};
 use crate::columns;
 use crate::states;
 use files::bytes;
@@ -21,7 +21,10 @@ pub struct Span {
 }
 
 // Before an effect on a variable of `size` values: the value that the condition asks, or any.
-fn earlier(condition: usize, size: usize) -> Span {
+fn earlier(condition: usize, size: usize) -> Span
+    requires { ⌜ (condition < 256) × ((condition ≡ 255 → ⊥) → condition < size) ⌝ }
+    ensures { λ r. ⌜ (r .low ≤ r .high) × (r .high ≤ size) × ((value : ℕ) → value < size → meetsEntry condition value ≡ leb (r .low) value && ltb value (r .high)) ⌝ }
+{
     if condition == 255 {
         return Span { low: 0, high: size };
     }
@@ -32,7 +35,9 @@ fn earlier(condition: usize, size: usize) -> Span {
 }
 
 // Whether a variable can have a value after a step.
-fn can_have(condition: usize, effect: usize, value: usize) -> bool {
+fn can_have(condition: usize, effect: usize, value: usize) -> bool
+    ensures { λ r. ⌜ r ≡ canHave condition effect value ⌝ }
+{
     if effect != 255 {
         return effect == value;
     }
@@ -49,7 +54,10 @@ fn reaches(
     base: usize,
     variables: usize,
     values: &[u8; 64],
-) -> bool {
+) -> bool
+    requires { ⌜ (variables ≤ 64) × (base + 64 ≤ 32768) ⌝ }
+    ensures { λ r. ⌜ r ≡ canReach (now (conditions .entry)) (now (effects .entry)) base variables (listState (now (values .entry))) ⌝ }
+{
     let mut v: usize = 0;
     while v < variables {
         let condition = bytes::byte_at(conditions, base + v);
@@ -63,7 +71,10 @@ fn reaches(
 }
 
 // The first variable from `from` on that the effects at `base` set.
-fn next_effect(effects: &[u8; 32768], base: usize, from: usize, variables: usize) -> usize {
+fn next_effect(effects: &[u8; 32768], base: usize, from: usize, variables: usize) -> usize
+    requires { ⌜ (from ≤ variables) × (variables ≤ 64) × (base + 64 ≤ 32768) ⌝ }
+    ensures { λ r. ⌜ (from ≤ r) × (r ≤ variables) × ((v : ℕ) → from ≤ v → v < r → getD (now (effects .entry)) (base + v) 0 ≡ 255) × (r < variables → getD (now (effects .entry)) (base + r) 0 ≡ 255 → ⊥) ⌝ }
+{
     let mut v = from;
     while v < variables {
         if bytes::byte_at(effects, base + v) != 255 {
@@ -89,7 +100,10 @@ fn offer(
     number: usize,
     cost: u64,
     count: u16,
-) {
+)
+    requires { ⌜ StepRow variables base (now sizes) (now weights) (now conditions) (now effects) × (rowStates variables (now sizes) ≤ length (now minutes)) × (rowStates variables (now sizes) ≤ length (now steps)) × (from ≤ variables) × (number < rowStates variables (now sizes)) × ((v : ℕ) → from ≤ v → v < variables → (getD (now effects) (base + v) 0 ≡ 255 → ⊥) → rowState variables (now sizes) number v ≡ getD (now effects) (base + v) 0) ⌝ }
+    ensures { λ r. ⌜ ((s : ℕ) → s < rowStates variables (now (sizes .entry)) → entryIn (now (minutes .exit)) (now (steps .exit)) s ≡ cond (differsOnly (now (conditions .entry)) (now (effects .entry)) base variables from (rowState variables (now (sizes .entry)) number) (rowState variables (now (sizes .entry)) s)) (lowered (entry cost count) (entryIn (now (minutes .entry)) (now (steps .entry)) s)) (entryIn (now (minutes .entry)) (now (steps .entry)) s)) ⌝ }
+{
     let v = next_effect(effects, base, from, variables);
     if v < variables {
         let weight = weights[v];
@@ -136,7 +150,10 @@ fn offer_action(
     a: usize,
     cost: u64,
     count: u16,
-) {
+)
+    requires { ⌜ StepRow variables (64 * a) (now sizes) (now weights) (now conditions) (now effects) × (rowStates variables (now sizes) ≤ length (now minutes)) × (rowStates variables (now sizes) ≤ length (now steps)) × (x < rowStates variables (now sizes)) × (listState (now values) ≡ rowState variables (now sizes) x) ⌝ }
+    ensures { λ r. ⌜ ((starts costs : List ℕ) (s : ℕ) → s < rowStates variables (now (sizes .entry)) → entryIn (now (minutes .exit)) (now (steps .exit)) s ≡ cond (leadsTo (rowVariables variables (now (sizes .entry)) starts) (rowAction variables costs (now (conditions .entry)) (now (effects .entry)) a) s x) (lowered (entry cost count) (entryIn (now (minutes .entry)) (now (steps .entry)) s)) (entryIn (now (minutes .entry)) (now (steps .entry)) s)) ⌝ }
+{
     let base = 64 * a;
     if reaches(conditions, effects, base, variables, values) {
         offer(

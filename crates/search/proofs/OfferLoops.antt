@@ -1,0 +1,442 @@
+-- The loops that offer an entry to the states before a step: over the values that a variable may have had, and over the
+-- actions.
+use Prim.Native.Nat.{ℕ, _+_, _-_, _*_, _≤_, _<_}
+use mathlib.Core.Path.{_≡_, refl, sym, ap, ap₂, subst, _∙_}
+use mathlib.Core.Bool.{Bool, true, false, cond, _&&_}
+use mathlib.Core.List.{List, []}
+use native.Mathlib.Omega.{arith}
+use native.Mathlib.Numerals.{add-one}
+use lib.Dec.{eqb, leb, ltb}
+use lib.ListN.{length, getD}
+use borrow.Author.Tests.{eqb-true, eqb-false, eq-eqb, le-leb, lt-leb, lt-ltb, le-ltb}
+use Rattle.files.specs.Dense.{rowAction}
+use Rattle.files.proofs.Logic.{clash, split, split-le, and-split, and-join}
+use Rattle.plans.specs.Plan.{addStep}
+use Rattle.plans.specs.State.{State}
+use Rattle.plans.specs.Tally.{meetsEntry}
+use Rattle.marking.proofs.Truth.{same-truth}
+use Rattle.search.specs.States.{stateAt}
+use Rattle.search.specs.Table.{entry}
+use Rattle.search.specs.Columns.{entryIn, lowered, afterStep, leadsTo, offered, rowVariables, rowStates, rowWeight, rowState, canReach, differsOnly, StepRow, Searchable}
+use Rattle.search.specs.declared.Entry.{Entry}
+use Rattle.search.proofs.RowNumbers.{weight-most}
+use Rattle.search.proofs.OneChange.{changed, changed-here, changed-other, state-inside, same-number, value-least, change-below, change-state}
+use Rattle.search.proofs.Predecessors.{Spanned, only-early, only-left, only-effect, differs-only, reached-set, leads-is}
+
+-- columns after an entry was offered to the states that pass a test
+abbrev pub Offered : (ℕ → Bool) → ℕ → Entry → List ℕ → List ℕ → List ℕ → List ℕ → Type 0
+Offered f count e minutes₀ steps₀ minutes steps =
+    (s : ℕ) → s < count → entryIn minutes steps s ≡ cond (f s) (lowered e (entryIn minutes₀ steps₀ s)) (entryIn minutes₀ steps₀ s)
+
+module _ (count : ℕ) (e : Entry) where
+  pub offered-alike : (f g : ℕ → Bool) (minutes₀ steps₀ minutes steps : List ℕ) → ((s : ℕ) → s < count → f s ≡ g s)
+      → Offered f count e minutes₀ steps₀ minutes steps → Offered g count e minutes₀ steps₀ minutes steps
+  offered-alike f g minutes₀ steps₀ minutes steps h o s l = o s l ∙ ap (λ (b : Bool). cond b (lowered e (entryIn minutes₀ steps₀ s)) (entryIn minutes₀ steps₀ s)) (h s l)
+
+  pub offered-none : (f : ℕ → Bool) (minutes steps : List ℕ) → ((s : ℕ) → s < count → f s ≡ false) → Offered f count e minutes steps minutes steps
+  offered-none f minutes steps h s l = sym (ap (λ (b : Bool). cond b (lowered e (entryIn minutes steps s)) (entryIn minutes steps s)) (h s l))
+
+  -- a second offer to states that the first left out
+  pub offered-more : (f g k : ℕ → Bool) (minutes₀ steps₀ minutes steps minutes′ steps′ : List ℕ)
+      → ((s : ℕ) → s < count → g s ≡ true → (f s ≡ false) × (k s ≡ true)) → ((s : ℕ) → s < count → g s ≡ false → k s ≡ f s)
+      → Offered f count e minutes₀ steps₀ minutes steps → Offered g count e minutes steps minutes′ steps′ → Offered k count e minutes₀ steps₀ minutes′ steps′
+  offered-more f g k minutes₀ steps₀ minutes steps minutes′ steps′ newly rest o p s l =
+      let old : Entry = entryIn minutes₀ steps₀ s in
+      split (g s)
+      (λ b.
+      let first : entryIn minutes steps s ≡ old = o s l ∙ ap (λ (t : Bool). cond t (lowered e old) old) (newly s l b .0) in
+      p s l
+      ∙ ap (λ (t : Bool). cond t (lowered e (entryIn minutes steps s)) (entryIn minutes steps s)) b
+      ∙ ap (lowered e) first
+      ∙ sym (ap (λ (t : Bool). cond t (lowered e old) old) (newly s l b .1)))
+      (λ b.
+      p s l
+      ∙ ap (λ (t : Bool). cond t (lowered e (entryIn minutes steps s)) (entryIn minutes steps s)) b
+      ∙ o s l
+      ∙ sym (ap (λ (t : Bool). cond t (lowered e old) old) (rest s l b)))
+
+module _ (sizes weights conditions effects : List ℕ) (base n from number : ℕ) where
+  -- what holds where the entry is offered
+  abbrev pub EffectsSet : Type 0
+  EffectsSet = (v : ℕ) → from ≤ v → v < n → (getD effects (base + v) 0 ≡ 255 → ⊥) → rowState n sizes number v ≡ getD effects (base + v) 0
+
+  abbrev pub NoneBetween : ℕ → Type 0
+  NoneBetween v = (u : ℕ) → from ≤ u → u < v → getD effects (base + u) 0 ≡ 255
+
+  -- variable v is the first from `from` on that the effects set
+  pub record Found (v : ℕ) : Type 0 where
+    pub row : StepRow n base sizes weights conditions effects
+    pub below : number < rowStates n sizes
+    pub set : EffectsSet
+    pub first : from ≤ v
+    pub last : v < n
+    pub between : NoneBetween v
+    pub there : getD effects (base + v) 0 ≡ 255 → ⊥
+
+  module _ (v weight effect : ℕ) (f : Found v) (weight-is : weight ≡ getD weights v 0) where
+    weight-value : weight ≡ rowWeight sizes v
+    weight-value = weight-is ∙ f .row .weight v (f .last)
+
+    pub weight-few : weight ≤ 4096
+    weight-few = omega (arith, weight-value, weight-most sizes v n (f .row .size-least) (omega (arith, f .last)), f .row .states-few)
+
+    module _ (effect-is : effect ≡ getD effects (base + v) 0) where
+      taken : weight * effect ≡ rowWeight sizes v * rowState n sizes number v
+      taken = ap₂ _*_ weight-value (effect-is ∙ sym (f .set v (f .first) (f .last) (f .there)))
+
+      pub taken-least : weight * effect ≤ number
+      taken-least = omega (arith, taken, value-least sizes n (f .row .size-least) number v (f .below) (f .last))
+
+  -- and it had a value of a span
+  pub record Walk (v weight rest low high : ℕ) : Type 0 where
+    pub found : Found v
+    pub weight-is : weight ≡ getD weights v 0
+    pub rest-is : rest ≡ number - weight * getD effects (base + v) 0
+    pub span : Spanned (getD conditions (base + v) 0) (getD sizes v 0) low high
+
+  pub found : (v : ℕ) → StepRow n base sizes weights conditions effects → number < rowStates n sizes → EffectsSet → from ≤ v → NoneBetween v → (v < n → getD effects (base + v) 0 ≡ 255 → ⊥) → v < n → Found v
+  found v row below set first between there last = record { row = row; below = below; set = set; first = first; last = last; between = between; there = there last }
+
+  pub walk : (v weight effect condition size low high : ℕ) → Found v → weight ≡ getD weights v 0 → effect ≡ getD effects (base + v) 0 → condition ≡ getD conditions (base + v) 0 → size ≡ getD sizes v 0
+      → Spanned condition size low high → Walk v weight (number - weight * effect) low high
+  walk v weight effect condition size low high f e g h k span =
+      record {
+        found = f;
+        weight-is = e;
+        rest-is = ap (λ (x : ℕ). number - weight * x) g;
+        span = subst (λ (x : ℕ). Spanned (getD conditions (base + v) 0) x low high) k (subst (λ (x : ℕ). Spanned x size low high) h span);
+      }
+
+  -- the test of the states that differ only from `from` on
+  abbrev pub before : ℕ → Bool
+  before s = differsOnly conditions effects base n from (rowState n sizes number) (rowState n sizes s)
+
+  -- with a value z of variable v
+  pub withValue : ℕ → ℕ → ℕ → Bool
+  withValue v z s = differsOnly conditions effects base n (v + 1) (changed (rowState n sizes number) v z) (rowState n sizes s)
+
+  -- and with any of the values from low on, below z
+  pub upTo : ℕ → ℕ → ℕ → ℕ → Bool
+  upTo v low z s = (leb low (rowState n sizes s v) && ltb (rowState n sizes s v) z) && withValue v (rowState n sizes s v) s
+
+  -- the loop over the values
+  pub record Turns (v low high : ℕ) (e : Entry) (minutes₀ steps₀ minutes steps : List ℕ) (z : ℕ) : Type 0 where
+    pub minutes-long : rowStates n sizes ≤ length minutes₀
+    pub steps-long : rowStates n sizes ≤ length steps₀
+    pub minutes-same : length minutes ≡ length minutes₀
+    pub steps-same : length steps ≡ length steps₀
+    pub least : low ≤ z
+    pub most : z ≤ high
+    pub entries : Offered (upTo v low z) (rowStates n sizes) e minutes₀ steps₀ minutes steps
+
+  module _ (v weight rest low high : ℕ) (w : Walk v weight rest low high) where
+    f : Found v
+    f = w .found
+
+    module _ (z : ℕ) (inside : z < high) where
+      value-inside : z < getD sizes v 0
+      value-inside = omega (arith, w .span .1)
+
+      next-is : rest + weight * z ≡ number - rowWeight sizes v * rowState n sizes number v + rowWeight sizes v * z
+      next-is =
+          ap (λ (k : ℕ). k + weight * z) (w .rest-is)
+          ∙ ap₂ (λ (a b : ℕ). number - a + b * z) (taken v weight (getD effects (base + v) 0) f (w .weight-is) refl) (weight-value v weight 0 f (w .weight-is))
+
+      pub next-below : rest + weight * z < rowStates n sizes
+      next-below = omega (arith, next-is, change-below sizes n (f .row .size-least) number v z (f .below) (f .last) value-inside)
+
+      next-state : rowState n sizes (rest + weight * z) ≡ changed (rowState n sizes number) v z
+      next-state = ap (rowState n sizes) next-is ∙ change-state sizes n (f .row .size-least) number v z (f .below) (f .last) value-inside
+
+      pub next-set : (u : ℕ) → v + 1 ≤ u → u < n → (getD effects (base + u) 0 ≡ 255 → ⊥) → rowState n sizes (rest + weight * z) u ≡ getD effects (base + u) 0
+      next-set u a b d =
+          ap (λ (s : State). s u) next-state
+          ∙ changed-other (rowState n sizes number) v z u (λ q. omega arith)
+          ∙ f .set u (omega (arith, f .first)) b d
+
+      next-test : (s : ℕ) → differsOnly conditions effects base n (v + 1) (rowState n sizes (rest + weight * z)) (rowState n sizes s) ≡ withValue v z s
+      unfolding withValue
+      next-test s = ap (λ (q : State). differsOnly conditions effects base n (v + 1) q (rowState n sizes s)) next-state
+
+    -- no value yet
+    upTo-begin : (s : ℕ) → upTo v low low s ≡ false
+    unfolding upTo
+    upTo-begin s =
+        let y = rowState n sizes s v in
+        split-le low y
+        (λ l. ap (λ (t : Bool). (leb low y && t) && withValue v y s) (le-ltb y low l) ∙ and-false (leb low y) (withValue v y s))
+        (λ l. ap (λ (t : Bool). (t && ltb y low) && withValue v y s) (lt-leb low y l))
+      where
+        and-false : (a b : Bool) → (a && false) && b ≡ false
+        and-false true b = refl
+        and-false false b = refl
+
+    -- one value more
+    value-one : (z s : ℕ) → withValue v z s ≡ true → rowState n sizes s v ≡ z
+    unfolding withValue
+    value-one z s e =
+        only-early conditions effects base n (v + 1) (changed (rowState n sizes number) v z) (rowState n sizes s) e v (f .last) (omega arith)
+        ∙ changed-here (rowState n sizes number) v z
+
+    upTo-here : (z s : ℕ) → low ≤ z → withValue v z s ≡ true → (upTo v low z s ≡ false) × (upTo v low (z + 1) s ≡ true)
+    unfolding upTo
+    upTo-here z s l e =
+        let y = rowState n sizes s v in
+        let is : y ≡ z = value-one z s e in
+        let own : withValue v y s ≡ true = ap (λ (k : ℕ). withValue v k s) is ∙ e in (
+          split (upTo v low z s) (λ t. clash (and-split (leb low y) (ltb y z) (and-split (leb low y && ltb y z) (withValue v y s) t .0) .1) (le-ltb y z (omega arith))) (λ t. t),
+          and-join (and-join (le-leb low y (omega arith)) (lt-ltb y (z + 1) (omega arith))) own,
+        )
+
+    upTo-past : (z s : ℕ) → withValue v z s ≡ false → upTo v low (z + 1) s ≡ upTo v low z s
+    unfolding upTo
+    upTo-past z s e =
+        let y = rowState n sizes s v in
+        split (eqb y z)
+        (λ q.
+        let own : withValue v y s ≡ false = ap (λ (k : ℕ). withValue v k s) (eqb-true y z q) ∙ e in
+        ap (λ (t : Bool). (leb low y && ltb y (z + 1)) && t) own
+        ∙ and-none (leb low y && ltb y (z + 1))
+        ∙ sym (and-none (leb low y && ltb y z))
+        ∙ sym (ap (λ (t : Bool). (leb low y && ltb y z) && t) own))
+        (λ q.
+        let other : y ≡ z → ⊥ = eqb-false y z q in
+        ap (λ (t : Bool). (leb low y && t) && withValue v y s)
+        (split-le z y
+        (λ l. le-ltb y (z + 1) (omega (arith, other)) ∙ sym (le-ltb y z l))
+        (λ l. lt-ltb y (z + 1) (omega arith) ∙ sym (lt-ltb y z l))))
+      where
+        and-none : (b : Bool) → b && false ≡ false
+        and-none true = refl
+        and-none false = refl
+
+    -- all values
+    upTo-end : (s : ℕ) → upTo v low high s ≡ before s
+    unfolding upTo withValue
+    upTo-end s =
+        let g : State = rowState n sizes number in
+        let r : State = rowState n sizes s in
+        let y = r v in
+        let within : y < getD sizes v 0 = state-inside sizes n (f .row .size-least) s v (f .last) in
+        let h : State = changed g v y in
+        same-truth (upTo v low high s) (before s)
+        (λ e.
+        let both = and-split (leb low y && ltb y high) (withValue v y s) e in
+        let met : meetsEntry (getD conditions (base + v) 0) y ≡ true = w .span .2 y within ∙ both .0 in
+        let plain : (u : ℕ) → (u ≡ v → ⊥) → r u ≡ h u → r u ≡ g u = λ u d q. q ∙ changed-other g v y u d in
+        differs-only conditions effects base n from g r
+        (λ u l k. plain u (λ q. omega (arith, f .first)) (only-early conditions effects base n (v + 1) h r (both .1) u l (omega (arith, f .first))))
+        (λ u l d. plain u (λ q. f .there (subst (λ (i : ℕ). getD effects (base + i) 0 ≡ 255) q d)) (only-left conditions effects base n (v + 1) h r (both .1) u l d))
+        (λ u l k d.
+        split-le (v + 1) u
+        (λ a. only-effect conditions effects base n (v + 1) h r (both .1) u l a d)
+        (λ a.
+        split-le v u
+        (λ b. let is : v ≡ u = omega arith in subst (λ (i : ℕ). meetsEntry (getD conditions (base + i) 0) (r i) ≡ true) is met)
+        (λ b. absurd (d (f .between u k b))))))
+        (λ e.
+        let met : meetsEntry (getD conditions (base + v) 0) y ≡ true = only-effect conditions effects base n from g r e v (f .last) (f .first) (f .there) in
+        let plain : (u : ℕ) → u < n → r u ≡ g u → r u ≡ h u =
+        λ u l q.
+        split (eqb u v)
+        (λ k. let is : u ≡ v = eqb-true u v k in rw is (sym (changed-here g v y)))
+        (λ k. q ∙ sym (changed-other g v y u (eqb-false u v k))) in
+        and-join
+        (sym (w .span .2 y within) ∙ met)
+        (differs-only conditions effects base n (v + 1) h r
+        (λ u l k.
+        split-le v u
+        (λ a. let is : u ≡ v = omega arith in rw is (sym (changed-here g v y)))
+        (λ a.
+        split-le from u
+        (λ b. plain u l (only-left conditions effects base n from g r e u l (f .between u b a)))
+        (λ b. plain u l (only-early conditions effects base n from g r e u l b))))
+        (λ u l d. plain u l (only-left conditions effects base n from g r e u l d))
+        (λ u l k d. only-effect conditions effects base n from g r e u l (omega (arith, f .first)) d)))
+
+    module _ (e : Entry) (minutes₀ steps₀ : List ℕ) where
+      pub turns-begin : rowStates n sizes ≤ length minutes₀ → rowStates n sizes ≤ length steps₀ → Turns v low high e minutes₀ steps₀ minutes₀ steps₀ low
+      turns-begin a b =
+          record {
+            minutes-long = a;
+            steps-long = b;
+            minutes-same = refl;
+            steps-same = refl;
+            least = omega arith;
+            most = w .span .0;
+            entries = offered-none (rowStates n sizes) e (upTo v low low) minutes₀ steps₀ (λ s l. upTo-begin s);
+          }
+
+      pub turns-next : (minutes steps minutes′ steps′ : List ℕ) (z : ℕ) → Turns v low high e minutes₀ steps₀ minutes steps z → z < high
+          → length minutes′ ≡ length minutes → length steps′ ≡ length steps
+          → Offered (λ s. differsOnly conditions effects base n (v + 1) (rowState n sizes (rest + weight * z)) (rowState n sizes s)) (rowStates n sizes) e minutes steps minutes′ steps′
+          → Turns v low high e minutes₀ steps₀ minutes′ steps′ (z + 1)
+      turns-next minutes steps minutes′ steps′ z t h a b o =
+          record {
+            minutes-long = t .minutes-long;
+            steps-long = t .steps-long;
+            minutes-same = a ∙ t .minutes-same;
+            steps-same = b ∙ t .steps-same;
+            least = omega (arith, t .least);
+            most = omega arith;
+            entries =
+                offered-more (rowStates n sizes) e (upTo v low z) (withValue v z) (upTo v low (z + 1)) minutes₀ steps₀ minutes steps minutes′ steps′
+                (λ s l q. upTo-here z s (t .least) q)
+                (λ s l q. upTo-past z s q)
+                (t .entries)
+                (λ s l. o s l ∙ ap (λ (q : Bool). cond q (lowered e (entryIn minutes steps s)) (entryIn minutes steps s)) (next-test z h s));
+          }
+
+      pub turns-end : (minutes steps : List ℕ) (z : ℕ) → Turns v low high e minutes₀ steps₀ minutes steps z → high ≤ z → Offered before (rowStates n sizes) e minutes₀ steps₀ minutes steps
+      turns-end minutes steps z t h =
+          let is : z ≡ high = omega (arith, t .most) in
+          offered-alike (rowStates n sizes) e (upTo v low z) before minutes₀ steps₀ minutes steps (λ s l. ap (λ (k : ℕ). upTo v low k s) is ∙ upTo-end s) (t .entries)
+
+  -- no variable is left that the effects set
+  module _ (v : ℕ) (row : StepRow n base sizes weights conditions effects) (below : number < rowStates n sizes) (between : NoneBetween v) (past : n ≤ v) where
+    last-test : (s : ℕ) → s < rowStates n sizes → eqb s number ≡ before s
+    last-test s l =
+        let g : State = rowState n sizes number in
+        let r : State = rowState n sizes s in
+        same-truth (eqb s number) (before s)
+        (λ e.
+        let is : s ≡ number = eqb-true s number e in
+        let alike : (u : ℕ) → r u ≡ g u = λ u. ap (λ (k : ℕ). rowState n sizes k u) is in
+        differs-only conditions effects base n from g r (λ u a b. alike u) (λ u a b. alike u) (λ u a b d. absurd (d (between u b (omega arith)))))
+        (λ e.
+        eq-eqb s number
+        (same-number sizes n (row .size-least) s number l below
+        (λ u a.
+        split-le from u
+        (λ b. only-left conditions effects base n from g r e u a (between u b (omega arith)))
+        (λ b. only-early conditions effects base n from g r e u a b))))
+
+    pub offer-last : (e : Entry) (minutes₀ steps₀ minutes steps : List ℕ)
+        → ((s : ℕ) → entryIn minutes steps s ≡ cond (eqb s number) (lowered e (entryIn minutes₀ steps₀ s)) (entryIn minutes₀ steps₀ s))
+        → Offered before (rowStates n sizes) e minutes₀ steps₀ minutes steps
+    offer-last e minutes₀ steps₀ minutes steps o =
+        offered-alike (rowStates n sizes) e (λ s. eqb s number) before minutes₀ steps₀ minutes steps last-test (λ s l. o s)
+
+-- a step that can reach values that are a state's can reach the state
+pub reached-is : (conditions effects : List ℕ) (base n : ℕ) (values s : State) (reached : Bool) → reached ≡ canReach conditions effects base n values → values ≡ s → reached ≡ canReach conditions effects base n s
+reached-is conditions effects base n values s reached e is = e ∙ ap (canReach conditions effects base n) is
+
+-- the effects of a step that can reach state x
+pub reached-effects : (sizes conditions effects : List ℕ) (base n x : ℕ) (reached : Bool) → reached ≡ canReach conditions effects base n (rowState n sizes x) → reached ≡ true
+    → (v : ℕ) → 0 ≤ v → v < n → (getD effects (base + v) 0 ≡ 255 → ⊥) → rowState n sizes x v ≡ getD effects (base + v) 0
+reached-effects sizes conditions effects base n x reached is t v a h d = sym (reached-set conditions effects base (rowState n sizes x) n v (sym is ∙ t) h d)
+
+-- an action offers an entry to the states from which it leads to state x
+module _ (sizes weights conditions effects : List ℕ) (n a x : ℕ) (row : StepRow n (64 * a) sizes weights conditions effects) (below : x < rowStates n sizes) (starts costs : List ℕ) where
+  leads : ℕ → Bool
+  leads s = leadsTo (rowVariables n sizes starts) (rowAction n costs conditions effects a) s x
+
+  leads-test : (s : ℕ) → leads s ≡ canReach conditions effects (64 * a) n (rowState n sizes x) && differsOnly conditions effects (64 * a) n 0 (rowState n sizes x) (rowState n sizes s)
+  unfolding leads rowAction
+  leads-test s = leads-is sizes conditions effects n (64 * a) (row .size-least) (row .effect-inside) (rowAction n costs conditions effects a) refl refl starts s x below
+
+  module _ (e : Entry) (minutes₀ steps₀ : List ℕ) (reached : Bool) (is : reached ≡ canReach conditions effects (64 * a) n (rowState n sizes x)) where
+    pub action-offers : (minutes steps : List ℕ) → reached ≡ true
+        → Offered (λ s. differsOnly conditions effects (64 * a) n 0 (rowState n sizes x) (rowState n sizes s)) (rowStates n sizes) e minutes₀ steps₀ minutes steps
+        → Offered (λ s. leadsTo (rowVariables n sizes starts) (rowAction n costs conditions effects a) s x) (rowStates n sizes) e minutes₀ steps₀ minutes steps
+    unfolding leads
+    action-offers minutes steps t =
+        offered-alike (rowStates n sizes) e (λ s. differsOnly conditions effects (64 * a) n 0 (rowState n sizes x) (rowState n sizes s)) leads minutes₀ steps₀ minutes steps
+        (λ s l. sym (leads-test s ∙ ap (λ (b : Bool). b && differsOnly conditions effects (64 * a) n 0 (rowState n sizes x) (rowState n sizes s)) (sym is ∙ t)))
+
+    pub action-offers-none : reached ≡ false
+        → Offered (λ s. leadsTo (rowVariables n sizes starts) (rowAction n costs conditions effects a) s x) (rowStates n sizes) e minutes₀ steps₀ minutes₀ steps₀
+    unfolding leads
+    action-offers-none t =
+        offered-none (rowStates n sizes) e leads minutes₀ steps₀
+        (λ s l. leads-test s ∙ ap (λ (b : Bool). b && differsOnly conditions effects (64 * a) n 0 (rowState n sizes x) (rowState n sizes s)) (sym is ∙ t))
+
+-- the loop over the actions
+module _ (sizes weights costs conditions effects : List ℕ) (n actions x : ℕ) (minutes₀ steps₀ : List ℕ) where
+  abbrev pub offeredBy : List ℕ → ℕ → ℕ → Entry
+  offeredBy starts s a = offered (rowVariables n sizes starts) (rowAction n costs conditions effects) x (entryIn minutes₀ steps₀ x) s (entryIn minutes₀ steps₀ s) a
+
+  pub record Actions (cost count : ℕ) (minutes steps : List ℕ) (a : ℕ) : Type 0 where
+    pub asked : Searchable n actions sizes costs conditions effects
+    pub weights-are : (v : ℕ) → v < n → getD weights v 0 ≡ rowWeight sizes v
+    pub below : x < rowStates n sizes
+    pub cost-is : cost ≡ getD minutes₀ x 0
+    pub cost-few : cost < 18446744073000000000
+    pub count-is : count ≡ getD steps₀ x 0 + 1
+    pub minutes-long : rowStates n sizes ≤ length minutes₀
+    pub steps-long : rowStates n sizes ≤ length steps₀
+    pub minutes-same : length minutes ≡ length minutes₀
+    pub steps-same : length steps ≡ length steps₀
+    pub within : a ≤ actions
+    pub entries : (starts : List ℕ) (s : ℕ) → s < rowStates n sizes → entryIn minutes steps s ≡ offeredBy starts s a
+
+  pub actions-begin : (cost count : ℕ) → Searchable n actions sizes costs conditions effects → rowStates n sizes ≤ length minutes₀ → rowStates n sizes ≤ length steps₀
+      → ((v : ℕ) → v < n → getD weights v 0 ≡ rowWeight sizes v) → x < rowStates n sizes → cost ≡ getD minutes₀ x 0 → cost < 18446744073000000000 → count ≡ getD steps₀ x 0 + 1
+      → Actions cost count minutes₀ steps₀ 0
+  unfolding offered
+  actions-begin cost count asked a b ws h c few k =
+      record {
+        asked = asked;
+        weights-are = ws;
+        below = h;
+        cost-is = c;
+        cost-few = few;
+        count-is = k;
+        minutes-long = a;
+        steps-long = b;
+        minutes-same = refl;
+        steps-same = refl;
+        within = omega arith;
+        entries = λ starts s l. refl;
+      }
+
+  module _ (cost count : ℕ) (minutes steps : List ℕ) (a : ℕ) (t : Actions cost count minutes steps a) where
+    pub action-row : a < actions → StepRow n (64 * a) sizes weights conditions effects
+    action-row h =
+        record {
+          variables-few = t .asked .variables-few;
+          row-inside = omega (arith, t .asked .actions-few);
+          size-least = t .asked .size-least;
+          condition-inside = λ v l d. t .asked .condition-inside a v h l d;
+          effect-inside = λ v l d. t .asked .effect-inside a v h l d;
+          states-few = t .asked .states-few;
+          weight = t .weights-are;
+        }
+
+    pub price-few : a < actions → getD costs a 0 ≤ 1000000
+    price-few h = t .asked .cost-most a h
+
+    pub state-values : (values : State) → ((starts : List ℕ) → values ≡ stateAt (rowVariables n sizes starts) x) → values ≡ rowState n sizes x
+    unfolding rowState
+    state-values values h = h []
+
+    step-entry : (price : ℕ) → price ≡ getD costs a 0 → entry (cost + price) count ≡ afterStep (rowAction n costs conditions effects a) (entryIn minutes₀ steps₀ x)
+    unfolding afterStep addStep rowAction
+    step-entry price e = ap₂ entry (let sum : cost + price ≡ getD costs a 0 + getD minutes₀ x 0 = omega (arith, t .cost-is) in sum) (t .count-is)
+
+    pub actions-next : (price : ℕ) (minutes′ steps′ : List ℕ) → a < actions → price ≡ getD costs a 0 → length minutes′ ≡ length minutes → length steps′ ≡ length steps
+        → ((starts costs′ : List ℕ) → Offered (λ s. leadsTo (rowVariables n sizes starts) (rowAction n costs′ conditions effects a) s x) (rowStates n sizes) (entry (cost + price) count) minutes steps minutes′ steps′)
+        → Actions cost count minutes′ steps′ (a + 1)
+    unfolding offered
+    actions-next price minutes′ steps′ h p lm lk o =
+        record {
+          asked = t .asked;
+          weights-are = t .weights-are;
+          below = t .below;
+          cost-is = t .cost-is;
+          cost-few = t .cost-few;
+          count-is = t .count-is;
+          minutes-long = t .minutes-long;
+          steps-long = t .steps-long;
+          minutes-same = lm ∙ t .minutes-same;
+          steps-same = lk ∙ t .steps-same;
+          within = omega arith;
+          entries =
+              λ starts s l.
+              o starts costs s l
+              ∙ ap₂ (λ (e old : Entry). cond (leadsTo (rowVariables n sizes starts) (rowAction n costs conditions effects a) s x) (lowered e old) old) (step-entry price p) (t .entries starts s l)
+              ∙ ap (offeredBy starts s) (sym (add-one a));
+        }
+
+    pub actions-end : actions ≤ a → (starts : List ℕ) (s : ℕ) → s < rowStates n sizes → entryIn minutes steps s ≡ offeredBy starts s actions
+    actions-end h starts s l = let is : a ≡ actions = omega (arith, t .within) in t .entries starts s l ∙ ap (offeredBy starts s) is

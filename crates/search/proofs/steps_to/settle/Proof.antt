@@ -1,0 +1,106 @@
+-- The loop's invariant: the entries are those that the actions before `a` offer.
+use Prim.Native.Nat.{_-_}
+use mathlib.Core.Path.{refl}
+use native.Mathlib.Omega.{arith}
+use Rattle.search.proofs.OfferLoops.{Actions, price-few, state-values, action-row, actions-begin, actions-next, actions-end}
+use borrow.Author.Needs.{needs}
+use Rattle.search.proofs.steps_to.settle.Statement.{statement}
+use Rattle.search.proofs.steps_to.settle.Tie as tie
+
+abbrev Inv-loop : tie.InvT-loop
+Inv-loop minutes₀ steps₀ sizes weights costs conditions effects variables actions x cost count values a₀ minutes steps a =
+    Actions sizes weights costs conditions effects variables actions x minutes₀ steps₀ cost count minutes steps a
+
+abbrev μ-loop : tie.MeasureT-loop
+μ-loop minutes₀ steps₀ sizes weights costs conditions effects variables actions x cost count values a₀ minutes steps a = actions - a
+
+mul-cost : tie.Need-mul-cost Inv-loop μ-loop
+mul-cost c = search needs
+
+slice-read-cost : tie.Need-slice-read-cost Inv-loop μ-loop
+slice-read-cost c = search needs
+
+mul-count : tie.Need-mul-count Inv-loop μ-loop
+mul-count c = search needs
+
+slice-read-count : tie.Need-slice-read-count Inv-loop μ-loop
+slice-read-count c = search needs
+
+add-count : tie.Need-add-count Inv-loop μ-loop
+add-count c = search needs
+
+values-of-requires : tie.Need-values-of-requires Inv-loop μ-loop
+values-of-requires c κs = search needs
+
+loop-holds : tie.Need-loop-holds Inv-loop μ-loop
+loop-holds c =
+    let start = c .before .before .before .before .before in
+    actions-begin _ _ _ _ _ _ _ _ _ _ _ _ (start .pre .0) (start .pre .1) (start .pre .2) (start .pre .3) (start .pre .4) refl (start .pre .5) refl
+
+mul-price : tie.Need-mul-price Inv-loop μ-loop
+mul-price c = search needs
+
+element-copy-out-price : tie.Need-element-copy-out-price Inv-loop μ-loop
+element-copy-out-price c = search needs
+
+cast-price : tie.Need-cast-price Inv-loop μ-loop
+cast-price c = omega (arith, price-few _ _ _ _ _ _ _ _ _ _ _ _ _ _ _ (c .before .before .loop .inv) (c .before .loop-test .taken))
+
+add-offer-action : tie.Need-add-offer-action Inv-loop μ-loop
+add-offer-action c = omega (arith, price-few _ _ _ _ _ _ _ _ _ _ _ _ _ _ _ (c .before .before .before .before .before .loop .inv) (c .before .before .before .before .loop-test .taken), c .before .before .before .before .before .loop .inv .cost-few)
+
+offer-action-requires : tie.Need-offer-action-requires Inv-loop μ-loop
+offer-action-requires c κs =
+    let l = c .before .before .before .before .before .loop .inv in (
+      action-row _ _ _ _ _ _ _ _ _ _ _ _ _ _ _ l (c .before .before .before .before .loop-test .taken),
+      omega (arith, l .minutes-long, l .minutes-same),
+      omega (arith, l .steps-long, l .steps-same),
+      l .below,
+      state-values _ _ _ _ _ _ _ _ _ _ _ _ _ _ _ l _ (c .before .before .before .before .before .before .values-of .ensures),
+    )
+
+add-a : tie.Need-add-a Inv-loop μ-loop
+add-a c = search needs
+
+loop-less : tie.Need-loop-less Inv-loop μ-loop
+loop-less c = search needs
+
+loop-again : tie.Need-loop-again Inv-loop μ-loop
+loop-again c =
+    let l = c .before .before .before .before .before .before .before .before .before .before .loop .inv in
+    let turn = c .before .before .before .before .offer-action in
+    actions-next _ _ _ _ _ _ _ _ _ _ _ _ _ _ _ l _ _ _ (c .before .before .before .before .before .before .before .before .before .loop-test .taken) refl (turn .kept .0) (turn .kept .1 .0) (turn .ensures)
+
+same-length : tie.Need-same-length Inv-loop μ-loop
+same-length c = c .before .loop .inv .minutes-same
+
+same-length-2 : tie.Need-same-length-2 Inv-loop μ-loop
+same-length-2 c = c .before .loop .inv .steps-same
+
+returns : tie.Need-returns Inv-loop μ-loop
+returns c = actions-end _ _ _ _ _ _ _ _ _ _ _ _ _ _ _ (c .before .loop .inv) (c .loop-test .left)
+
+pub settle-spec : {M : Type 1} → statement M
+settle-spec =
+    tie.close
+    (tie.spec
+    Inv-loop
+    μ-loop
+    mul-cost
+    slice-read-cost
+    mul-count
+    slice-read-count
+    add-count
+    values-of-requires
+    loop-holds
+    mul-price
+    element-copy-out-price
+    cast-price
+    add-offer-action
+    offer-action-requires
+    add-a
+    loop-less
+    loop-again
+    same-length
+    same-length-2
+    returns)
