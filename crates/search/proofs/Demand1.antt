@@ -1,33 +1,33 @@
 -- Demand 1: whatever is handed over, the outcome is of the list and each buffer is as 01 names it.
-use Prim.Native.Nat.{ℕ, _+_, _≤_}
-use mathlib.Core.Path.{_≡_, refl, sym, ap, ap₂, _∙_}
+use Prim.Native.Nat.{ℕ}
+use mathlib.Core.Path.{_≡_, refl, sym, ap, _∙_}
 use mathlib.Core.Bool.{Bool, true, false, cond, _&&_, _||_}
 use mathlib.Core.List.{List, [], _∷_}
 use mathlib.Core.Logic.{_⊎_, inl, inr, ⊎-elim}
 use mathlib.Core.Option.{Option, none, some}
-use lib.Dec.{eqb, leb, ltb}
+use lib.Dec.{eqb, leb}
 use lib.ListN.{length}
 use Rattle.files.specs.declared.Outcome.{Outcome}
 use Rattle.files.specs.Below.{anyOf}
-use Rattle.files.specs.Outcome.{done, refusal, isDone, guard, andThen, inSecond, fits, overwrite, after}
+use Rattle.files.specs.Outcome.{done, isDone, guard, andThen, fits, overwrite, after}
 use Rattle.files.specs.PlanFile.{planFile, planOf}
 use Rattle.files.specs.Task.{Task, actionCount, factCount}
-use Rattle.files.specs.TaskFile.{checkTask, taskOf}
+use Rattle.files.specs.TaskFile.{taskOf}
 use borrow.Author.Tests.{eqb-true}
 use Rattle.files.proofs.Guards.{guard-passes}
 use Rattle.files.proofs.Logic.{split, and-split, clash}
 use Rattle.plans.specs.State.{startState}
-use Rattle.plans.specs.Plan.{Total, noSteps, totalOf}
+use Rattle.plans.specs.Plan.{noSteps, totalOf}
 use Rattle.plans.specs.Check.{planOutcome, withTotal, answer, checkPlan}
 use Rattle.marking.specs.Rounds.{marking}
 use Rattle.marking.specs.Mark.{validLevel, marksFit, markOutcome, noMarks, markAnswer, mark, markedActions, markedFacts, actionMarksOf, factMarksOf}
 use Rattle.reduction.specs.Task.{reducedTask, originsAt}
-use Rattle.reduction.specs.Reduce.{Rooms, filesFit, markStage, reduceStage, noFiles, reduceAnswer, reduce, reducedFile, originsFile, reducedActionMarks, reducedFactMarks, reducedBuffer, originBuffer}
+use Rattle.reduction.specs.Reduce.{filesFit, markStage, reduceStage, noFiles, reduceAnswer, reduce, reducedFile, originsFile, reducedActionMarks, reducedFactMarks, reducedBuffer, originBuffer}
 use Rattle.reduction.specs.Stretch.{stretchOutcome, stretch}
 use Rattle.search.specs.declared.Entry.{Entry}
 use Rattle.search.specs.Table.{tableOf}
-use Rattle.search.specs.Planner.{planLevel, searched, searchStage, statesFit, planFound, planFits, planStage, planMade, unplanned, planAnswer, plannedActionMarks, plannedFactMarks, plannedReduced, plannedOrigin, plannedTable, plannedPlan}
-use Rattle.search.specs.Demands.{listed, fileRefusals, checkRefusals, markRefusals, planRefusals, Buffers, Lent, roomsOf, lentRooms, reduceAfter, planAfter, withMarks, withFiles, lent, EndsWith, MarkAnswers, ReduceEnds, ReduceAnswers, PlanEnds, PlanAnswers, Demand1}
+use Rattle.search.specs.Planner.{searched, searchStage, statesFit, planFound, planFits, planStage, planMade, unplanned, planAnswer, plannedActionMarks, plannedFactMarks, plannedReduced, plannedOrigin, plannedTable, plannedPlan}
+use Rattle.search.specs.Demands.{listed, fileRefusals, checkRefusals, markRefusals, planRefusals, Buffers, Lent, roomsOf, lentRooms, reduceAfter, planAfter, withMarks, withFiles, lent, MarkAnswers, ReduceAnswers, PlanEnds, PlanAnswers, Demand1}
 use Rattle.search.proofs.Listed.{listed-done, listed-guard, listed-both, listed-second, task-listed, origin-listed, plan-listed, steps-listed}
 
 -- a list that begins with the refusals of a file

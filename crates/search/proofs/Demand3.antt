@@ -1,19 +1,19 @@
 -- Demand 3: the striking is harmless, and the planner is right.
 use Prim.Native.Nat.{ℕ, suc, _≤_, _<_}
 use mathlib.Core.Path.{_≡_, refl, sym, ap, ap₂, subst, _∙_}
-use mathlib.Core.Bool.{Bool, true, cond}
+use mathlib.Core.Bool.{true}
 use mathlib.Core.List.{List, [], _∷_}
-use mathlib.Core.Option.{Option, none, some, Option·map, Option·getD}
+use mathlib.Core.Option.{none, some}
 use native.Mathlib.Omega.{arith}
 use lib.Dec.{leb, ltb}
-use lib.ListN.{length, getD, take, drop, length-map}
+use lib.ListN.{length, take, length-map}
 use lib.Seq.{take-append-seam}
 use borrow.Author.Tests.{le-leb, lt-ltb}
 use Rattle.files.specs.declared.Outcome.{Outcome}
 use Rattle.files.specs.Accepted.{validSigner, acceptedTask, acceptedPlan}
 use Rattle.files.specs.Below.{allOf}
 use Rattle.files.specs.Bytes.{Octets}
-use Rattle.files.specs.Outcome.{done, refusal, isDone, guard, overwrite}
+use Rattle.files.specs.Outcome.{done, refusal, isDone, overwrite}
 use Rattle.files.specs.PlanFile.{planFile}
 use Rattle.files.specs.Reading.{readPlan, under}
 use Rattle.files.specs.Task.{Task, actionCount}
@@ -23,19 +23,17 @@ use Rattle.files.proofs.Logic.{split-option, and-join}
 use Rattle.files.proofs.PlanRoundTrip.{plan-reads-back}
 use Rattle.files.proofs.TaskChecked.{task-accepted}
 use Rattle.files.proofs.Valid.{Valid, task-valid}
-use Rattle.plans.specs.Plan.{IsPlan, Total, totalOf, Best, FirstBest, stepOf}
+use Rattle.plans.specs.Plan.{IsPlan, totalOf, FirstBest, stepOf}
 use Rattle.plans.proofs.OrderLaws.{total-steps}
-use Rattle.marking.specs.Mark.{validLevel}
-use Rattle.reduction.specs.Task.{reducedTask, originsAt, byOriginal}
+use Rattle.reduction.specs.Task.{reducedTask, byOriginal}
 use Rattle.reduction.specs.Reduce.{reduceStage}
 use Rattle.reduction.specs.Preserved.{Preserves}
 use Rattle.reduction.proofs.FilesPreserved.{reduction-of-files}
 use Rattle.reduction.proofs.Preservation.{reduction-preserves, reduction-accepted}
-use Rattle.search.specs.declared.Planned.{Planned}
 use Rattle.search.specs.States.{stateCount}
 use Rattle.search.specs.FirstPlan.{firstPlan}
 use Rattle.search.specs.Least.{PlanFirst}
-use Rattle.search.specs.Planner.{searched, planFound, statesFit, planFits, planStage, planMade, planAnswer, plannedPlan}
+use Rattle.search.specs.Planner.{searched, planFound, statesFit, planFits, planStage, planMade, planAnswer}
 use Rattle.search.specs.Demands.{Lent, roomsOf, lentRooms, planAfter, PlanLongEnough, HandedBack, PlannerRight, Demand3}
 use Rattle.search.proofs.Demand1.{whole-outcome, whole-is, rest-done, level-four}
 use Rattle.search.proofs.Demand2.{is-yes, fits-in, row-fits}

@@ -7,7 +7,7 @@ use Rattle.plans.proofs.Computes as plans
 use Rattle.marking.proofs.Computes as marking
 use Rattle.reduction.proofs.Computes as reduction
 use Rattle.search.proofs.Computes.{computes}
-use Rattle.search.specs.Examples.{Case, cases, asExpected}
+use Rattle.search.specs.Examples.{cases, asExpected}
 
 pub examples : allOf asExpected cases ≡ true
 unfolding asExpected cases files.computes plans.computes marking.computes reduction.computes computes

@@ -1,14 +1,13 @@
 -- The search of one task: its answer, its table and its plan buffer, from those of its parts.
 use Prim.Native.Nat.{ℕ, _+_, _*_, _≤_, _<_}
-use mathlib.Core.Path.{_≡_, refl, sym, ap, ap₂, _∙_}
-use mathlib.Core.Bool.{Bool, true, false, cond}
+use mathlib.Core.Path.{_≡_, refl, sym, ap, _∙_}
+use mathlib.Core.Bool.{true, cond}
 use mathlib.Core.List.{List, []}
-use mathlib.Core.Option.{Option, none, some, Option·map, Option·getD}
+use mathlib.Core.Option.{none, some, Option·map, Option·getD}
 use native.Mathlib.Omega.{arith}
-use lib.Dec.{leb}
 use lib.ListN.{length, getD, length-map}
 use Rattle.files.specs.declared.Outcome.{Outcome}
-use Rattle.files.specs.Outcome.{done, refusal, isDone, guard, andThen, fits, overwrite, after}
+use Rattle.files.specs.Outcome.{done, refusal, isDone, fits, overwrite, after}
 use Rattle.files.specs.OriginFile.{originOf}
 use Rattle.files.specs.PlanFile.{planFile}
 use Rattle.files.specs.Task.{Task}
@@ -20,7 +19,7 @@ use Rattle.reduction.specs.Preserved.{byOriginFile}
 use Rattle.search.specs.declared.Entry.{Entry}
 use Rattle.search.specs.declared.row.Found.{Found}
 use Rattle.search.specs.States.{stateCount}
-use Rattle.search.specs.Table.{Distance, distances, tableOf}
+use Rattle.search.specs.Table.{distances, tableOf}
 use Rattle.search.specs.FirstPlan.{startNumber, firstPlan}
 use Rattle.search.specs.Columns.{entriesIn}
 use Rattle.search.specs.Planner.{statesFit, planFits}

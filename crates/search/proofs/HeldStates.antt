@@ -1,15 +1,14 @@
 -- What the search asks of arrays holds where the task that they hold is accepted and has few states.
-use Prim.Native.Nat.{ℕ, zero, suc, _+_, _*_, _≤_, _<_}
+use Prim.Native.Nat.{ℕ, suc, _+_, _*_, _≤_, _<_}
 use mathlib.Core.Path.{_≡_, refl, sym, ap, _∙_}
 use mathlib.Core.Bool.{true}
 use mathlib.Core.List.{List, [], _∷_}
 use native.Mathlib.Omega.{arith}
 use lib.ListN.{length, getD}
 use borrow.Author.Tests.{ne-eqb}
-use Rattle.files.specs.Below.{tabulateFrom}
 use Rattle.files.specs.Task.{Variable, actionCount, actionOf}
 use Rattle.files.specs.Accepted.{acceptedTask}
-use Rattle.files.specs.Dense.{Arrays, rowVariable, rowAction, held}
+use Rattle.files.specs.Dense.{Arrays, rowAction, held}
 use Rattle.files.proofs.Valid.{Valid, task-valid}
 use Rattle.plans.specs.State.{State, startState}
 use Rattle.plans.specs.Tally.{listState}
@@ -18,18 +17,8 @@ use Rattle.marking.proofs.HeldTask.{variables-held, actions-held, size-held, st
 use Rattle.search.specs.States.{stateCount, stateNumber}
 use Rattle.search.specs.FirstPlan.{startNumber}
 use Rattle.search.specs.Columns.{rowVariables, rowStates, Searchable}
+use Rattle.search.proofs.RowNumbers.{states-count}
 
--- no start value changes the count of states
-states-from : (sizes starts others : List ℕ) (v count : ℕ) → stateCount (tabulateFrom v count (rowVariable sizes starts)) ≡ stateCount (tabulateFrom v count (rowVariable sizes others))
-unfolding stateCount rowVariable
-states-from sizes starts others v zero = refl
-states-from sizes starts others v (suc count) = ap (λ (n : ℕ). getD sizes v 0 * n) (states-from sizes starts others (v + 1) count)
-
-pub row-states : (variables : ℕ) (sizes starts : List ℕ) → stateCount (rowVariables variables sizes starts) ≡ rowStates variables sizes
-unfolding rowStates
-row-states variables sizes starts = states-from sizes starts [] 0 variables
-
--- a state's number is by the values of the variables
 pub number-same : (vs : List Variable) (s r : State) → ((v : ℕ) → v < length vs → s v ≡ r v) → stateNumber vs s ≡ stateNumber vs r
 unfolding stateNumber
 number-same [] s r h = refl
@@ -42,7 +31,7 @@ module _ (d : Arrays) where
   held-variables = refl
 
   pub held-states : stateCount (held d .variables) ≡ rowStates (d .variables) (d .sizes)
-  held-states = ap stateCount held-variables ∙ row-states (d .variables) (d .sizes) (d .starts)
+  held-states = ap stateCount held-variables ∙ sym (states-count (d .sizes) (d .starts) (d .variables))
 
   pub held-actions : (a : ℕ) → a < actionCount (held d) → actionOf (held d) a ≡ rowAction (d .variables) (d .costs) (d .conditions) (d .effects) a
   held-actions a h = held-action d a (omega (arith, actions-held d))

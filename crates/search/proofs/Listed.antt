@@ -1,14 +1,13 @@
 -- Every outcome is done, without a place, or one of the refusals of its call.
-use Prim.Native.Nat.{ℕ, zero, suc, _+_, _≤_}
-use mathlib.Core.Path.{_≡_, refl, sym, ap, ap₂, subst, _∙_}
+use Prim.Native.Nat.{ℕ, zero, suc, _+_}
+use mathlib.Core.Path.{_≡_, refl}
 use mathlib.Core.Bool.{Bool, true, false, cond, _&&_}
 use mathlib.Core.List.{List, [], _∷_}
-use native.Mathlib.Omega.{arith}
 use lib.Dec.{eqb, leb}
 use Rattle.files.specs.declared.Outcome.{Outcome}
 use Rattle.files.specs.Below.{anyOf}
 use Rattle.files.specs.Bytes.{u16At}
-use Rattle.files.specs.Outcome.{done, refusal, isDone, guard, andThen, inSecond}
+use Rattle.files.specs.Outcome.{done, isDone, guard, andThen, inSecond}
 use Rattle.files.specs.Records.{bodyFits, recordEnd, headAt, numbersAt, signOffAt, sizeFits}
 use Rattle.files.specs.TaskFile.{headerAt, variableAt, variablesAt, pairAt, pairsAt, goalAt, actionFormAt, actionAt, actionsAt, checkTask}
 use Rattle.files.specs.OriginFile.{variableOriginAt, variableOriginsAt, actionOriginsAt, checkOrigin}

@@ -1,9 +1,9 @@
 -- The planner's row: its outcome, its answer and its buffers, from those of its stages.
-use Prim.Native.Nat.{ℕ, _+_, _-_, _*_, _^_, _≤_, _<_}
+use Prim.Native.Nat.{ℕ, _-_, _^_, _≤_, _<_}
 use mathlib.Core.Path.{_≡_, refl, sym, ap, ap₂, subst, _∙_}
-use mathlib.Core.Bool.{Bool, true, false, cond}
-use mathlib.Core.List.{List, [], map, _++_}
-use mathlib.Core.Option.{Option, none, some, Option·map, Option·getD}
+use mathlib.Core.Bool.{true, false, cond}
+use mathlib.Core.List.{List, [], map}
+use mathlib.Core.Option.{Option, none, some, Option·map}
 use native.Mathlib.Omega.{arith}
 use lib.Dec.{leb}
 use lib.ListN.{length, getD, take, drop, length-append, length-map}
@@ -13,12 +13,12 @@ use Rattle.files.specs.declared.Outcome.{Outcome}
 use Rattle.files.specs.Accepted.{validSigner, acceptedTask}
 use Rattle.files.specs.Bytes.{Octets}
 use Rattle.files.specs.OriginFile.{Origin, originOf}
-use Rattle.files.specs.Outcome.{done, refusal, isDone, guard, andThen, fits, overwrite, after}
+use Rattle.files.specs.Outcome.{done, isDone, andThen, fits, overwrite, after}
 use Rattle.files.specs.PlanFile.{planFile}
 use Rattle.files.specs.Task.{Task, actionCount, factCount}
 use Rattle.files.specs.TaskFile.{checkTask, taskOf}
 use Rattle.files.proofs.Guards.{goes-on, stops, is-done, is-refused, done-number, passed, both-done, after-done, after-refused}
-use Rattle.files.proofs.Logic.{split, split-option, clash, and-join}
+use Rattle.files.proofs.Logic.{split, split-option, and-join}
 use Rattle.files.proofs.OriginRoundTrip.{origin-read-as}
 use Rattle.files.proofs.TaskChecked.{task-accepted}
 use Rattle.files.proofs.TaskRoundTrip.{task-read-as}
@@ -26,14 +26,13 @@ use Rattle.files.proofs.Whole.{task-check-done}
 use Rattle.files.proofs.Valid.{Valid, task-valid}
 use Rattle.plans.specs.Plan.{IsPlan, Total, totalOf}
 use Rattle.marking.specs.Rounds.{marking}
-use Rattle.marking.specs.Mark.{validLevel, marksFit}
+use Rattle.marking.specs.Mark.{validLevel}
 use Rattle.reduction.specs.declared.Reduced.{Reduced}
 use Rattle.reduction.specs.Task.{keptActions, keptAt, reducedBy, originBy, reducedTask, originsAt, byOriginal}
-use Rattle.reduction.specs.Reduce.{Rooms, reducedFile, originsFile, filesFit, markStage, reduceStage, noFiles, reduceAnswer, reduce, reducedActionMarks, reducedFactMarks, reducedBuffer, originBuffer}
-use Rattle.reduction.specs.Preserved.{Preserves, FilesPreserve, byOriginFile}
+use Rattle.reduction.specs.Reduce.{Rooms, reducedFile, originsFile, markStage, reduceStage, reduceAnswer, reduce, reducedActionMarks, reducedFactMarks, reducedBuffer, originBuffer}
+use Rattle.reduction.specs.Preserved.{FilesPreserve, byOriginFile}
 use Rattle.reduction.proofs.FilesPreserved.{reduction-of-files}
 use Rattle.reduction.proofs.Preservation.{reduction-preserves, reduction-accepted}
-use Rattle.search.specs.declared.Entry.{Entry}
 use Rattle.search.specs.declared.Planned.{Planned}
 use Rattle.search.specs.declared.row.Found.{Found}
 use Rattle.search.specs.declared.row.Run.{Run}
@@ -43,7 +42,7 @@ use Rattle.search.specs.FirstPlan.{firstPlan}
 use Rattle.search.specs.Least.{PlanFirst}
 use Rattle.search.specs.Columns.{entriesIn}
 use Rattle.search.specs.Planner.{planLevel, PlanRooms, planRooms, searched, searchedStates, planFound, statesFit, searchStage, planFits, planStage, planMade, unplanned, planAnswer, plannedActionMarks, plannedFactMarks, plannedReduced, plannedOrigin, plannedPlan}
-use Rattle.search.specs.Found.{searchOutcome, foundPlan, foundStates, notFound, foundAnswer, bothTogether}
+use Rattle.search.specs.Found.{searchOutcome, foundPlan, foundStates, foundAnswer, bothTogether}
 use Rattle.search.proofs.FoundLaws.{no-entries, plan-is}
 use Rattle.search.proofs.LeastPlans.{search-least}
 

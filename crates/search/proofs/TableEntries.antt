@@ -1,11 +1,10 @@
 -- Columns that hold the table of a task: their entries are its distances.
-use Prim.Native.Nat.{ℕ, _+_, _*_, _≤_, _<_}
-use mathlib.Core.Path.{_≡_, refl, sym, ap, _∙_}
-use mathlib.Core.List.{List, map}
+use Prim.Native.Nat.{ℕ, _≤_, _<_}
+use mathlib.Core.Path.{_≡_, sym, ap, _∙_}
+use mathlib.Core.List.{List}
 use mathlib.Core.Option.{none, some}
 use native.Mathlib.Omega.{arith}
 use lib.ListN.{getD}
-use Rattle.files.specs.Below.{tabulate}
 use Rattle.files.specs.Task.{Task}
 use Rattle.files.proofs.BelowLaws.{map-entry}
 use Rattle.files.proofs.Logic.{split-option}

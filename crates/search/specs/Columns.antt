@@ -3,8 +3,8 @@ use Prim.Native.Nat.{ℕ, zero, suc, _+_, _*_, _≤_, _<_}
 use mathlib.Core.Path.{_≡_}
 use mathlib.Core.Bool.{Bool, not, cond, _&&_}
 use mathlib.Core.List.{List, []}
-use lib.Dec.{eqb, leb}
 use mathlib.Core.Option.{none}
+use lib.Dec.{eqb, leb}
 use lib.ListN.{length, getD}
 use Rattle.files.specs.Below.{tabulate, allBelow}
 use Rattle.files.specs.Dense.{rowVariable, rowAction}
@@ -31,6 +31,10 @@ totalIn e = record { minutes = e .minutes; steps = e .steps }
 unfoldable pub lessEntry : Entry → Entry → Bool
 lessEntry x y = not (atMost (totalIn y) (totalIn x))
 
+-- entries that are alike
+unfoldable pub sameEntry : Entry → Entry → Bool
+sameEntry x y = not (lessEntry x y) && not (lessEntry y x)
+
 -- the entry y where x is offered
 unfoldable pub lowered : Entry → Entry → Entry
 lowered x y = cond (lessEntry x y) x y
@@ -56,16 +60,6 @@ rowVariables variables sizes starts = tabulate variables (rowVariable sizes star
 
 unfoldable pub rowStates : ℕ → List ℕ → ℕ
 rowStates variables sizes = stateCount (rowVariables variables sizes [])
-
--- what the search asks of arrays
-pub record Searchable (variables actions : ℕ) (sizes costs conditions effects : List ℕ) : Type 0 where
-  pub variables-few : variables ≤ 64
-  pub actions-few : actions ≤ 512
-  pub size-least : (v : ℕ) → v < variables → 1 ≤ getD sizes v 0
-  pub condition-inside : (a v : ℕ) → a < actions → v < variables → (getD conditions (64 * a + v) 0 ≡ 255 → ⊥) → getD conditions (64 * a + v) 0 < getD sizes v 0
-  pub effect-inside : (a v : ℕ) → a < actions → v < variables → (getD effects (64 * a + v) 0 ≡ 255 → ⊥) → getD effects (64 * a + v) 0 < getD sizes v 0
-  pub cost-most : (a : ℕ) → a < actions → getD costs a 0 ≤ 1000000
-  pub states-few : rowStates variables sizes ≤ 4096
 
 -- what a change of one in the value of variable v adds to the number of a state
 unfoldable pub rowWeight : List ℕ → ℕ → ℕ
@@ -95,6 +89,16 @@ differsOnly conditions effects base variables from s r =
     (meetsEntry (getD conditions (base + v) 0) (r v))
     (eqb (r v) (s v)))
 
+-- what the search asks of arrays
+pub record Searchable (variables actions : ℕ) (sizes costs conditions effects : List ℕ) : Type 0 where
+  pub variables-few : variables ≤ 64
+  pub actions-few : actions ≤ 512
+  pub size-least : (v : ℕ) → v < variables → 1 ≤ getD sizes v 0
+  pub condition-inside : (a v : ℕ) → a < actions → v < variables → (getD conditions (64 * a + v) 0 ≡ 255 → ⊥) → getD conditions (64 * a + v) 0 < getD sizes v 0
+  pub effect-inside : (a v : ℕ) → a < actions → v < variables → (getD effects (64 * a + v) 0 ≡ 255 → ⊥) → getD effects (64 * a + v) 0 < getD sizes v 0
+  pub cost-most : (a : ℕ) → a < actions → getD costs a 0 ≤ 1000000
+  pub states-few : rowStates variables sizes ≤ 4096
+
 -- what the walk over the states before a step at `base` asks of arrays
 pub record StepRow (variables base : ℕ) (sizes weights conditions effects : List ℕ) : Type 0 where
   pub variables-few : variables ≤ 64
@@ -104,10 +108,6 @@ pub record StepRow (variables base : ℕ) (sizes weights conditions effects : Li
   pub effect-inside : (v : ℕ) → v < variables → (getD effects (base + v) 0 ≡ 255 → ⊥) → getD effects (base + v) 0 < getD sizes v 0
   pub states-few : rowStates variables sizes ≤ 4096
   pub weight : (v : ℕ) → v < variables → getD weights v 0 ≡ rowWeight sizes v
-
--- entries that are alike
-unfoldable pub sameEntry : Entry → Entry → Bool
-sameEntry x y = not (lessEntry x y) && not (lessEntry y x)
 
 -- the entries of the first `count` states: none, or of few minutes and steps
 pub record Bounded (minutes steps : List ℕ) (count : ℕ) : Type 0 where

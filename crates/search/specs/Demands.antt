@@ -22,7 +22,7 @@ use Rattle.plans.specs.Check.{checkPlan, withTotal}
 use Rattle.plans.specs.Plan.{noSteps}
 use Rattle.plans.specs.Checker.{CheckerRight}
 use Rattle.marking.specs.Rounds.{nextMarks, marking}
-use Rattle.marking.specs.Mark.{validLevel, actionMarksOf, factMarksOf, marksFit, markOutcome, noMarks, mark, markedActions, markedFacts}
+use Rattle.marking.specs.Mark.{validLevel, actionMarksOf, factMarksOf, noMarks, mark, markedActions, markedFacts}
 use Rattle.reduction.specs.Task.{reducedTask, originsAt}
 use Rattle.reduction.specs.Reduce.{Rooms, rooms, reducedFile, originsFile, filesFit, markStage, noFiles, reduce, reducedActionMarks, reducedFactMarks, reducedBuffer, originBuffer}
 use Rattle.reduction.specs.Stretch.{stretchOutcome, stretch}

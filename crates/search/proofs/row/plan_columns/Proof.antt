@@ -1,9 +1,8 @@
 -- Reduction refuses, or its files say the reduced task and its origins, and the search of them is the row's.
-use Prim.Native.Nat.{ℕ, _-_, _^_, _<_}
-use mathlib.Core.Path.{_≡_, sym, ap, _∙_}
+use Prim.Native.Nat.{_-_, _^_, _<_}
+use mathlib.Core.Path.{ap, _∙_}
 use native.Mathlib.Omega.{arith}
 use denote.Ref.{now}
-use lib.ListN.{take}
 use Rattle.files.specs.Bytes.{Octets}
 use Rattle.search.specs.Columns.{entriesIn}
 use Rattle.search.proofs.RowLaws.{action-marks, fact-marks, reduced-file, origin-file, early-answer, early-plan, early-table, reduced-part, origin-part, reduced-fits, origin-fits, file-checked, enough-numbers, found-states, filled-bounded, row-table, row-plan, row-answer}

@@ -1,5 +1,5 @@
 -- The arrays hold the file's task.
-use mathlib.Core.Path.{_≡_, sym, ap, _∙_}
+use mathlib.Core.Path.{_≡_, ap, _∙_}
 use native.Mathlib.Omega.{arith}
 use denote.Ref.{now}
 use Rattle.files.specs.declared.Outcome.{Outcome}

@@ -3,7 +3,6 @@ use Prim.Native.Nat.{ℕ, _+_, _*_, _≤_, _<_}
 use mathlib.Core.Path.{_≡_, sym, ap, _∙_}
 use native.Mathlib.Omega.{arith}
 use denote.Ref.{now}
-use lib.ListN.{length, getD}
 use borrow.Author.Needs.{needs}
 use Rattle.files.specs.Dense.{Arrays, held, arrays}
 use Rattle.files.specs.declared.Outcome.{Outcome}
@@ -13,12 +12,10 @@ use Rattle.files.proofs.Valid.{Valid}
 use Rattle.marking.proofs.MarkLaws.{refusal-number}
 use Rattle.search.specs.declared.row.Found.{Found}
 use Rattle.search.specs.States.{stateCount}
-use Rattle.search.specs.FirstPlan.{startNumber}
 use Rattle.search.specs.Planner.{statesFit}
 use Rattle.search.proofs.HeldStates.{held-states, held-valid, held-sizes, held-few}
 use Rattle.search.proofs.Radix.{start-below}
 use Rattle.search.proofs.TableEntries.{at-count, start-none, start-some, start-distance, start-low, start-steps}
-use Rattle.search.proofs.LeastPlans.{stepsRead}
 use Rattle.search.proofs.FoundLaws.{states-many, table-short, states-fit, early-answer, early-table, full-table, refused-plan, late-answer, done-answer, no-plan, plan-short, plan-fits, read-plan, read-total, read-needed, read-length, plan-written}
 use Rattle.search.proofs.row.search_task.Statement.{statement}
 use Rattle.search.proofs.row.search_task.Tie as tie

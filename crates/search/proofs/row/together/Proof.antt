@@ -1,5 +1,4 @@
 -- A refusal of the search has no numbers; else both answers stand together.
-use mathlib.Core.Path.{_≡_, sym, ap, _∙_}
 use Rattle.search.proofs.RowLaws.{together-refused, together-done}
 use borrow.Author.Needs.{needs}
 use Rattle.search.proofs.row.together.Statement.{statement}
