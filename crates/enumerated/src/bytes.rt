@@ -1,5 +1,5 @@
 // Files in buffers of 512 bytes, the longest that a generated task needs: numbers of 2 bytes.
-ghost use Prim.Native.Nat.{_+_, _≤_};
+ghost use Prim.Native.Nat.{_≤_};
 
 fn wide(byte: u8) -> usize
     ensures { λ r. ⌜ r ≤ 255 ⌝ }
@@ -18,9 +18,7 @@ pub fn number(file: &[u8; 512], at: usize) -> usize
 }
 
 // Writes a number and answers where the next goes; nothing where there is no room.
-pub fn put_number(file: &mut [u8; 512], at: usize, number: usize) -> usize
-    ensures { λ r. ⌜ (at ≤ r) × (r ≤ at + 2) ⌝ }
-{
+pub fn put_number(file: &mut [u8; 512], at: usize, number: usize) -> usize {
     if 510 < at {
         return at;
     }
@@ -30,9 +28,7 @@ pub fn put_number(file: &mut [u8; 512], at: usize, number: usize) -> usize
 }
 
 // Writes two numbers: a record's head, a pair, or the lower and the upper half of a number of 4 bytes.
-pub fn put(file: &mut [u8; 512], at: usize, one: usize, other: usize) -> usize
-    ensures { λ r. ⌜ (at ≤ r) × (r ≤ at + 4) ⌝ }
-{
+pub fn put(file: &mut [u8; 512], at: usize, one: usize, other: usize) -> usize {
     let middle = put_number(file, at, one);
     put_number(file, middle, other)
 }

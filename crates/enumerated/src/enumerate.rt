@@ -14,17 +14,32 @@ use crate::states;
 // The cost where the goal is not reached.
 const NEVER: usize = 1000000000000;
 
-// What there is to find: 0 with the cost and the steps of a best plan, or 24 where there is no plan.
+// What there is to find: 0 with the cost and the steps of a best plan, the length of its file, and whether
+// there are several; or 24 where there is no plan.
 pub struct Found {
     pub number: u32,
     pub cost: usize,
     pub steps: usize,
+    pub length: usize,
+    pub tied: bool,
 }
 
 // An action to go on with, the cost by it, and whether a later one does as well.
 struct Choice {
     action: usize,
     cost: usize,
+    tied: bool,
+}
+
+// The least cost from the start state, and the fewest steps at that cost.
+struct Least {
+    cost: usize,
+    steps: usize,
+}
+
+// The length of a plan file, and whether another plan is as good.
+struct Written {
+    length: usize,
     tied: bool,
 }
 
@@ -193,7 +208,7 @@ fn fill_costs(file: &[u8; 512], graph: &[usize; 2570], costs: &mut [usize; 16384
 }
 
 // The least cost from the start state, and the least number of steps at that cost.
-fn least_steps(file: &[u8; 512], costs: &[usize; 16384]) -> Found {
+fn least_steps(file: &[u8; 512], costs: &[usize; 16384]) -> Least {
     let start = states::start(file);
     let mut least = NEVER;
     let mut fewest: usize = 0;
@@ -206,39 +221,25 @@ fn least_steps(file: &[u8; 512], costs: &[usize; 16384]) -> Found {
         }
         steps += 1;
     }
-    if least == NEVER {
-        return Found {
-            number: 24,
-            cost: 0,
-            steps: 0,
-        };
-    }
-    Found {
-        number: 0,
+    Least {
         cost: least,
         steps: fewest,
     }
 }
 
-// What there is to find in the task of a file; fills in the graph and the costs.
-pub fn find(file: &[u8; 512], graph: &mut [usize; 2570], costs: &mut [usize; 16384]) -> Found {
-    fill_graph(file, graph);
-    fill_costs(file, graph, costs);
-    least_steps(file, costs)
-}
-
-// Writes the plan file: at each step the first action that leaves the least cost in the steps that are
-// left. Answers whether a later action would have done as well at some step.
-pub fn put_plan(
+// Writes the file of a plan of so many steps: at each the first action that leaves the least cost in the
+// steps that are left. Answers its length, and whether a later action would have done as well at some
+// step.
+fn put_plan(
     file: &[u8; 512],
     graph: &[usize; 2570],
     costs: &[usize; 16384],
-    found: Found,
+    steps: usize,
     signer: usize,
     plan: &mut [u8; 512],
-) -> bool {
-    let mut left = found.steps;
-    let mut at = put(plan, 0, 2 * (left % 64), 8);
+) -> Written {
+    let mut left = steps;
+    let mut at = put(plan, 0, 2 * (steps % 64), 8);
     let mut state = states::start(file);
     let mut tied = false;
     while 0 < left {
@@ -248,6 +249,34 @@ pub fn put_plan(
         state = step(graph, choice.action, state);
         tied = tied || choice.tied;
     }
-    put_sign_off(plan, at, signer);
-    tied
+    Written {
+        length: put_sign_off(plan, at, signer),
+        tied: tied,
+    }
+}
+
+// What there is to find in the task of a file; writes the plan file under a signer.
+pub fn find(file: &[u8; 512], signer: usize, plan: &mut [u8; 512]) -> Found {
+    let mut graph = [0usize; 2570];
+    fill_graph(file, &mut graph);
+    let mut costs = [NEVER; 16384];
+    fill_costs(file, &graph, &mut costs);
+    let least = least_steps(file, &costs);
+    if NEVER <= least.cost {
+        return Found {
+            number: 24,
+            cost: 0,
+            steps: 0,
+            length: 0,
+            tied: false,
+        };
+    }
+    let written = put_plan(file, &graph, &costs, least.steps, signer, plan);
+    Found {
+        number: 0,
+        cost: least.cost,
+        steps: least.steps,
+        length: written.length,
+        tied: written.tied,
+    }
 }
