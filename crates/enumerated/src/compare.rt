@@ -1,0 +1,108 @@
+// Compares what the library answers and writes with what the enumerator finds.
+use crate::bytes::same;
+use crate::enumerate::Found;
+
+// The first bytes of a buffer.
+fn part(buffer: &[u8], length: usize) -> &[u8] {
+    if buffer.len() < length {
+        return buffer;
+    }
+    &buffer[..length]
+}
+
+// Whether an outcome has a number, and nothing beside it.
+fn is_outcome(outcome: files::Outcome, number: u32) -> bool {
+    if outcome.number != number {
+        return false;
+    }
+    if outcome.file != 0 {
+        return false;
+    }
+    outcome.place == 0
+}
+
+// Whether a cost and a number of steps are those that are found.
+fn is_found(cost: plans::Minutes, steps: plans::Steps, found: Found) -> bool {
+    if cost.0 != found.cost as u64 {
+        return false;
+    }
+    steps.0 as usize == found.steps
+}
+
+// Whether the planner gives another answer for the first bytes of a file than is found, or leaves another
+// byte anywhere in the plan buffer.
+pub fn planner_differs(
+    file: &[u8; 512],
+    length: usize,
+    signer: u32,
+    found: Found,
+    plan: &[u8; 512],
+) -> bool {
+    let mut actions = [0u8; 10];
+    let mut facts = [0u8; 16];
+    let mut reduced = [0u8; 512];
+    let mut origin = [0u8; 512];
+    let mut lent = [171u8; 512];
+    let answer = search::own_table::plan(
+        part(file, length),
+        signer,
+        &mut actions,
+        &mut facts,
+        &mut reduced,
+        &mut origin,
+        &mut lent,
+    );
+    if !is_outcome(answer.outcome, found.number) {
+        return true;
+    }
+    if !is_found(answer.cost, answer.steps, found) {
+        return true;
+    }
+    if answer.plan != found.length {
+        return true;
+    }
+    !same(&lent, plan)
+}
+
+// Whether the plan checker gives another answer for a plan file than is found.
+pub fn checker_differs(file: &[u8; 512], length: usize, found: Found, plan: &[u8; 512]) -> bool {
+    let answer = plans::check_plan(part(file, length), part(plan, found.length));
+    if !is_outcome(answer.outcome, 0) {
+        return true;
+    }
+    !is_found(answer.cost, answer.steps, found)
+}
+
+// Whether a file is not reduced at a level.
+pub fn reducer_differs(
+    file: &[u8; 512],
+    length: usize,
+    level: u32,
+    signer: u32,
+    reduced: &mut [u8; 512],
+) -> bool {
+    let mut actions = [0u8; 10];
+    let mut facts = [0u8; 16];
+    let mut origin = [0u8; 512];
+    let answer = reduction::reduce(
+        part(file, length),
+        level,
+        signer,
+        &mut actions,
+        &mut facts,
+        reduced,
+        &mut origin,
+    );
+    !is_outcome(answer.outcome, 0)
+}
+
+// Whether what is found in two tasks has another number, cost or number of steps.
+pub fn found_differ(one: Found, other: Found) -> bool {
+    if one.number != other.number {
+        return true;
+    }
+    if one.cost != other.cost {
+        return true;
+    }
+    one.steps != other.steps
+}
