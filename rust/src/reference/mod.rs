@@ -2,6 +2,7 @@
 //! the planner with. Plain rather than fast.
 
 pub mod files;
+pub mod generate;
 pub mod marking;
 pub mod outcome;
 pub mod plans;
