@@ -13,8 +13,9 @@ use shortest_check::reference::{
 
 type Family = fn(&mut Random) -> Task;
 
-const FAMILIES: [(Family, u64); 8] = [
+const FAMILIES: [(Family, u64); 9] = [
     (generate::small, 400),
+    (generate::small_with_plan, 400),
     (generate::chain, 40),
     (generate::many_alike, 20),
     (generate::switches, 40),
@@ -213,7 +214,8 @@ fn marks_as_by_sets() {
         let task = match seed % 10 {
             0 => generate::few_kept(random),
             1 => generate::switches(random),
-            _ => generate::small(random),
+            2..5 => generate::small(random),
+            _ => generate::small_with_plan(random),
         };
         let file = task_file(&task);
         for level in 1..=4 {
@@ -252,6 +254,15 @@ fn each_level_keeps_fewer_in_bounded_rounds() {
             before = action_marks;
         }
     });
+}
+
+#[test]
+fn chains_take_many_rounds() {
+    let rounds = |seed| {
+        let task = generate::chain(&mut Random::new(seed));
+        mark(&task_file(&task), 4, &mut [0; 512], &mut [0; 2_048]).rounds
+    };
+    assert!((0..40).map(rounds).max() > Some(200));
 }
 
 #[test]
@@ -350,8 +361,12 @@ fn first_by_trying(
 #[test]
 fn small_tasks_are_planned_as_by_enumeration() {
     let (mut none, mut long) = (0, 0);
-    for seed in 0..2_000 {
-        let task = generate::small(&mut Random::new(seed));
+    for seed in 0..3_000 {
+        let random = &mut Random::new(seed);
+        let task = match seed % 3 {
+            0 => generate::small(random),
+            _ => generate::small_with_plan(random),
+        };
         let answer = planned(&task, 3);
         let best = table_by_rounds(&task)[state_number(&task, &start(&task))];
         if best == Entry::NONE {
@@ -382,7 +397,7 @@ fn small_tasks_are_planned_as_by_enumeration() {
             long += 1;
         }
     }
-    assert!(none > 100 && none < 1_900 && long < 100);
+    assert!(none > 100 && none < 1_000 && long < 50);
 }
 
 #[test]
@@ -421,6 +436,11 @@ fn generated_plans_are_accepted_or_refused_by_their_steps() {
         let checked = check_plan(&task_file(&task), &plan_file(&plan));
         numbers.insert(checked.outcome.number);
         assert_eq!(checked.outcome.file, 0);
+
+        let damaged = generate::damaged(random, &plan_file(&plan));
+        let outcome = check_plan(&task_file(&task), &damaged).outcome;
+        let from_input = (1..=8).contains(&outcome.number);
+        assert_eq!(outcome.file, u32::from(from_input));
     }
     assert_eq!(numbers, [0, 22, 23].into());
 }

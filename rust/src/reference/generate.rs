@@ -96,7 +96,8 @@ impl Random {
 /// A task of any of the families below, the large ones rarely.
 pub fn any(random: &mut Random) -> Task {
     match random.below(100) {
-        0..60 => small(random),
+        0..20 => small(random),
+        20..60 => small_with_plan(random),
         60..70 => chain(random),
         70..76 => many_alike(random),
         76..82 => switches(random),
@@ -134,6 +135,66 @@ pub fn small(random: &mut Random) -> Task {
     }
 }
 
+/// 3 to 6 variables of 2 or 3 values and up to 16 actions, with a goal that
+/// some of them reach.
+pub fn small_with_plan(random: &mut Random) -> Task {
+    let variables: Vec<Variable> = (0..random.between(3, 6))
+        .map(|_| random.variable(2, 3))
+        .collect();
+    let among = numbers(variables.len());
+    let mut actions: Vec<Action> = Vec::new();
+    for _ in 0..random.between(3, 16) {
+        if random.chance(40) && !actions.is_empty() {
+            actions.push(alike(random, &variables, &actions));
+            continue;
+        }
+        let variable = random.one_of(&among);
+        let mut action = Action {
+            cost: random.cost(),
+            conditions: random.facts(&variables, &among, 2),
+            effects: vec![random.fact(&variables, variable)],
+        };
+        if random.chance(20) {
+            let variable = random.one_of(&among);
+            let fact = random.fact(&variables, variable);
+            add(&mut action.effects, fact);
+        }
+        actions.push(action);
+    }
+    let mut task = Task {
+        goal: Vec::new(),
+        variables,
+        actions,
+        signer: random.signer(),
+    };
+    task.goal = goal_reached(random, &task, &among, 3);
+    task
+}
+
+/// Facts of at most `most` of the variables in `among`, all true after some
+/// steps from the start; those that have changed come first.
+fn goal_reached(random: &mut Random, task: &Task, among: &[u16], most: usize) -> Vec<Fact> {
+    let mut state = start(task);
+    for _ in 0..random.between(5, 40) {
+        let number = random.below(task.actions.len());
+        if let Some(after) = step(&task.actions[number], &state) {
+            state = after;
+        }
+    }
+    let mut chosen = among.to_vec();
+    random.shuffle(&mut chosen);
+    chosen.sort_by_key(|&variable| {
+        let variable = variable as usize;
+        state[variable] == task.variables[variable].start
+    });
+    let mut goal = Vec::new();
+    for &variable in chosen.iter().take(random.between(1, most)) {
+        let value = state[variable as usize];
+        add(&mut goal, Fact { variable, value });
+    }
+    goal
+}
+
 /// Up to 512 actions, almost all of them alike: many are covered.
 pub fn many_alike(random: &mut Random) -> Task {
     let variables: Vec<Variable> = (0..random.between(4, 12))
@@ -150,12 +211,14 @@ pub fn many_alike(random: &mut Random) -> Task {
     for _ in 0..random.below(MOST_ACTIONS - 4) {
         actions.push(alike(random, &variables, &actions));
     }
-    Task {
-        goal: random.facts(&variables, &among, 3),
+    let mut task = Task {
+        goal: Vec::new(),
         variables,
         actions,
         signer: random.signer(),
-    }
+    };
+    task.goal = goal_reached(random, &task, &among, 3);
+    task
 }
 
 /// One of the actions with a condition more or less, sometimes with another
@@ -327,7 +390,7 @@ struct Parts {
 }
 
 impl Parts {
-    /// A core of at most 4,096 states; the rest is divided at random.
+    /// A core of at most `most_states` states; the rest is divided at random.
     fn of(random: &mut Random, variables: &[Variable], most_states: usize) -> Parts {
         let mut order = numbers(variables.len());
         random.shuffle(&mut order);
@@ -387,17 +450,19 @@ pub fn few_kept(random: &mut Random) -> Task {
         }
         actions.push(action);
     }
-    let mut goal = random.facts(&variables, &parts.core, 4);
-    if random.chance(50) && !parts.still.is_empty() {
-        let variable = random.one_of(&parts.still);
-        add(&mut goal, start_fact(&variables, variable));
-    }
-    Task {
-        goal,
+    let mut task = Task {
+        goal: Vec::new(),
         variables,
         actions,
         signer: random.signer(),
+    };
+    task.goal = goal_reached(random, &task, &parts.core, 4);
+    if random.chance(50) && !parts.still.is_empty() {
+        let variable = random.one_of(&parts.still);
+        let fact = start_fact(&task.variables, variable);
+        add(&mut task.goal, fact);
     }
+    task
 }
 
 /// Adds a condition or an effect that reduction drops.
@@ -426,16 +491,17 @@ pub fn largest_searched(random: &mut Random) -> Task {
     let actions = (0..MOST_ACTIONS)
         .map(|_| Action {
             cost: random.cost(),
-            conditions: random.facts(&variables, &parts.core, 3),
-            effects: random.facts(&variables, &parts.core, 3),
+            conditions: random.facts(&variables, &parts.core, 5),
+            effects: random.facts(&variables, &parts.core, 2),
         })
         .collect();
     let mut task = Task {
-        goal: random.facts(&variables, &parts.core, parts.core.len()),
+        goal: Vec::new(),
         variables,
         actions,
         signer: random.signer(),
     };
+    task.goal = goal_reached(random, &task, &parts.core, parts.core.len());
     fill(random, &mut task, |random, variables, action| {
         pad(random, variables, &parts, action)
     });
