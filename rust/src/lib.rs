@@ -1,0 +1,3 @@
+//! Checks of the changeover planner.
+
+pub mod reference;

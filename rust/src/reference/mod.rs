@@ -1,0 +1,17 @@
+//! The specification, implemented a second time and on its own, to compare
+//! the planner with. Plain rather than fast.
+
+pub mod files;
+pub mod generate;
+pub mod marking;
+pub mod outcome;
+pub mod plans;
+pub mod reduction;
+pub mod search;
+
+pub use files::{check_origin, check_task};
+pub use marking::{mark, Marked};
+pub use outcome::Outcome;
+pub use plans::{check_plan, PlanCheck};
+pub use reduction::{reduce, Reduced};
+pub use search::{plan, Entry, Planned};

@@ -1,0 +1,198 @@
+//! Search: the table of least costs, and the planner.
+
+use std::cmp::Reverse;
+use std::collections::BinaryHeap;
+
+use super::files::{write_plan, Plan, Task};
+use super::outcome::{long_enough, Outcome, NO_PLAN, TOO_MANY_STATES};
+use super::plans::{holds, start, step, State};
+use super::reduction::reduce_stage;
+
+pub const MOST_STATES: usize = 4_096;
+
+/// The least cost from a state to the goal, and the fewest steps at that cost.
+#[repr(C)]
+#[derive(Clone, Copy, Debug, PartialEq, Eq, PartialOrd, Ord)]
+pub struct Entry {
+    pub minutes: u64,
+    pub steps: u16,
+}
+
+impl Entry {
+    /// The entry of a state from which no plan leads to the goal.
+    pub const NONE: Entry = Entry {
+        minutes: u64::MAX,
+        steps: u16::MAX,
+    };
+    const GOAL: Entry = Entry {
+        minutes: 0,
+        steps: 0,
+    };
+
+    /// One step more, in front; none in front of none.
+    fn behind(self, cost: u32) -> Option<Entry> {
+        Some(Entry {
+            minutes: self.minutes.checked_add(u64::from(cost))?,
+            steps: self.steps.checked_add(1)?,
+        })
+    }
+}
+
+#[derive(Clone, Copy, Debug, Default, PartialEq, Eq)]
+pub struct Planned {
+    pub outcome: Outcome,
+    pub action_marks: usize,
+    pub fact_marks: usize,
+    pub reduced: usize,
+    pub origin: usize,
+    pub table: usize,
+    pub plan: usize,
+    pub rounds: usize,
+    pub cost: u64,
+    pub steps: usize,
+}
+
+#[allow(clippy::too_many_arguments)]
+pub fn plan(
+    task: &[u8],
+    signer: u32,
+    action_marks: &mut [u8],
+    fact_marks: &mut [u8],
+    reduced: &mut [u8],
+    origin: &mut [u8],
+    table: &mut [Entry],
+    plan: &mut [u8],
+) -> Planned {
+    let stage = reduce_stage(task, 4, signer, action_marks, fact_marks, reduced, origin);
+    let planned = stage.and_then(|stage| {
+        let searched = search_stage(&stage.task, table)?;
+        let number = |&action: &u16| stage.origin.actions[action as usize];
+        let file = write_plan(&Plan {
+            steps: searched.plan.iter().map(number).collect(),
+            signer,
+        });
+        long_enough(plan.len(), file.len())?;
+        plan[..file.len()].copy_from_slice(&file);
+        Ok(Planned {
+            outcome: Outcome::DONE,
+            action_marks: stage.report.action_marks,
+            fact_marks: stage.report.fact_marks,
+            reduced: stage.report.reduced,
+            origin: stage.report.origin,
+            table: searched.states,
+            plan: file.len(),
+            rounds: stage.report.rounds,
+            cost: searched.cost,
+            steps: searched.plan.len(),
+        })
+    });
+    planned.unwrap_or_else(|outcome| Planned {
+        outcome,
+        ..Planned::default()
+    })
+}
+
+struct Searched {
+    states: usize,
+    cost: u64,
+    /// By the numbers of the task searched.
+    plan: Vec<u16>,
+}
+
+fn search_stage(task: &Task, table: &mut [Entry]) -> Result<Searched, Outcome> {
+    let states = state_count(task).ok_or(Outcome::refused(TOO_MANY_STATES, 0))?;
+    long_enough(table.len(), states)?;
+    let entries = least_costs(task, states);
+    table[..states].copy_from_slice(&entries);
+
+    let first = entries[state_number(task, &start(task))];
+    if first == Entry::NONE {
+        return Err(Outcome::refused(NO_PLAN, 0));
+    }
+    Ok(Searched {
+        states,
+        cost: first.minutes,
+        plan: first_plan(task, &entries),
+    })
+}
+
+/// The count of states, where it is at most 4,096.
+pub fn state_count(task: &Task) -> Option<usize> {
+    task.variables.iter().try_fold(1, |count, variable| {
+        let count = count * variable.size as usize;
+        (count <= MOST_STATES).then_some(count)
+    })
+}
+
+/// Mixed radix, variable 0 least.
+pub fn state_number(task: &Task, state: &State) -> usize {
+    let digits = task.variables.iter().zip(state).rev();
+    digits.fold(0, |number, (variable, &value)| {
+        number * variable.size as usize + value as usize
+    })
+}
+
+pub fn state_numbered(task: &Task, mut number: usize) -> State {
+    let mut state = State::new();
+    for variable in &task.variables {
+        state.push((number % variable.size as usize) as u16);
+        number /= variable.size as usize;
+    }
+    state
+}
+
+/// The entry of every state: Dijkstra's algorithm from the goal backwards,
+/// on cost and then steps.
+pub fn least_costs(task: &Task, states: usize) -> Vec<Entry> {
+    let mut entries = vec![Entry::NONE; states];
+    let mut queue = BinaryHeap::new();
+    // For each state the states one step before it, with the step's cost.
+    let mut before: Vec<Vec<(u32, usize)>> = vec![Vec::new(); states];
+    for (number, entry) in entries.iter_mut().enumerate() {
+        let state = state_numbered(task, number);
+        if holds(&task.goal, &state) {
+            *entry = Entry::GOAL;
+            queue.push(Reverse((Entry::GOAL, number)));
+        }
+        for action in &task.actions {
+            if let Some(after) = step(action, &state) {
+                before[state_number(task, &after)].push((action.cost, number));
+            }
+        }
+    }
+
+    while let Some(Reverse((entry, number))) = queue.pop() {
+        if entry > entries[number] {
+            continue;
+        }
+        for &(cost, earlier) in &before[number] {
+            if let Some(longer) = entry.behind(cost).filter(|&e| e < entries[earlier]) {
+                entries[earlier] = longer;
+                queue.push(Reverse((longer, earlier)));
+            }
+        }
+    }
+    entries
+}
+
+/// The first, by action numbers, of the cheapest plans of fewest steps.
+fn first_plan(task: &Task, entries: &[Entry]) -> Vec<u16> {
+    let mut plan = Vec::new();
+    let mut state = start(task);
+    loop {
+        let entry = entries[state_number(task, &state)];
+        if entry == Entry::GOAL {
+            return plan;
+        }
+        for (number, action) in task.actions.iter().enumerate() {
+            let Some(after) = step(action, &state) else {
+                continue;
+            };
+            if entries[state_number(task, &after)].behind(action.cost) == Some(entry) {
+                plan.push(number as u16);
+                state = after;
+                break;
+            }
+        }
+    }
+}
