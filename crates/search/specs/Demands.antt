@@ -17,9 +17,8 @@ use Rattle.files.specs.OriginFile.{Origin, checkOrigin, originFile}
 use Rattle.files.specs.PlanFile.{planFile}
 use Rattle.files.specs.Reading.{readTask, readOrigin, readPlan, under}
 use Rattle.files.specs.Accepted.{validSigner, acceptedTask, acceptedOrigin, acceptedPlan}
-use Rattle.plans.specs.Plan.{IsPlan, totalOf, Best, FirstBest}
+use Rattle.plans.specs.Plan.{IsPlan, noSteps, totalOf, Best, FirstBest}
 use Rattle.plans.specs.Check.{checkPlan, withTotal}
-use Rattle.plans.specs.Plan.{noSteps}
 use Rattle.plans.specs.Checker.{CheckerRight}
 use Rattle.marking.specs.Rounds.{nextMarks, marking}
 use Rattle.marking.specs.Mark.{validLevel, actionMarksOf, factMarksOf, noMarks, mark, markedActions, markedFacts}
