@@ -1,0 +1,18 @@
+-- The answer of the call, as numbers.
+use borrow.Author.Needs.{needs}
+use mathlib.Core.Path.{ap, _∙_}
+use Rattle.capi.specs.Numbers.{outcomeNumbers}
+use Rattle.capi.proofs.shortest_check_origin.Statement.{statement}
+use Rattle.capi.proofs.shortest_check_origin.Tie as tie
+
+check-origin-requires : tie.Need-check-origin-requires
+check-origin-requires c κs = search needs
+
+of-outcome-requires : tie.Need-of-outcome-requires
+of-outcome-requires c κs = search needs
+
+returns : tie.Need-returns
+returns c = c .of-outcome .ensures ∙ ap outcomeNumbers (c .before .check-origin .ensures)
+
+pub shortest-check-origin-spec : {M : Type 1} → statement M
+shortest-check-origin-spec = tie.close (tie.spec check-origin-requires of-outcome-requires returns)
