@@ -3,10 +3,10 @@
 ghost use mathlib.Core.Path.{_≡_};
 ghost use Rattle.capi.specs.Numbers.{outcomeNumbers, checkedNumbers, markedNumbers, reducedNumbers, plannedNumbers};
 
-pub fn of_outcome(outcome: files::Outcome) -> [u64; 12]
-    ensures { λ r. ⌜ r ≡ outcomeNumbers outcome ⌝ }
+pub fn write_outcome(outcome: files::Outcome, out: &mut [u64; 12])
+    ensures { λ r. ⌜ now (out .exit) ≡ outcomeNumbers outcome ⌝ }
 {
-    [
+    *out = [
         outcome.number as u64,
         outcome.file as u64,
         outcome.place as u64,
@@ -19,14 +19,14 @@ pub fn of_outcome(outcome: files::Outcome) -> [u64; 12]
         0,
         0,
         0,
-    ]
+    ];
 }
 
-pub fn of_checked(checked: plans::Checked) -> [u64; 12]
-    ensures { λ r. ⌜ r ≡ checkedNumbers checked ⌝ }
+pub fn write_checked(checked: plans::Checked, out: &mut [u64; 12])
+    ensures { λ r. ⌜ now (out .exit) ≡ checkedNumbers checked ⌝ }
 {
     let outcome = checked.outcome;
-    [
+    *out = [
         outcome.number as u64,
         outcome.file as u64,
         outcome.place as u64,
@@ -39,14 +39,14 @@ pub fn of_checked(checked: plans::Checked) -> [u64; 12]
         0,
         0,
         0,
-    ]
+    ];
 }
 
-pub fn of_marked(marked: marking::Marked) -> [u64; 12]
-    ensures { λ r. ⌜ r ≡ markedNumbers marked ⌝ }
+pub fn write_marked(marked: marking::Marked, out: &mut [u64; 12])
+    ensures { λ r. ⌜ now (out .exit) ≡ markedNumbers marked ⌝ }
 {
     let outcome = marked.outcome;
-    [
+    *out = [
         outcome.number as u64,
         outcome.file as u64,
         outcome.place as u64,
@@ -59,14 +59,14 @@ pub fn of_marked(marked: marking::Marked) -> [u64; 12]
         0,
         0,
         0,
-    ]
+    ];
 }
 
-pub fn of_reduced(reduced: reduction::Reduced) -> [u64; 12]
-    ensures { λ r. ⌜ r ≡ reducedNumbers reduced ⌝ }
+pub fn write_reduced(reduced: reduction::Reduced, out: &mut [u64; 12])
+    ensures { λ r. ⌜ now (out .exit) ≡ reducedNumbers reduced ⌝ }
 {
     let outcome = reduced.outcome;
-    [
+    *out = [
         outcome.number as u64,
         outcome.file as u64,
         outcome.place as u64,
@@ -79,14 +79,14 @@ pub fn of_reduced(reduced: reduction::Reduced) -> [u64; 12]
         reduced.origin as u64,
         0,
         0,
-    ]
+    ];
 }
 
-pub fn of_planned(planned: search::Planned) -> [u64; 12]
-    ensures { λ r. ⌜ r ≡ plannedNumbers planned ⌝ }
+pub fn write_planned(planned: search::Planned, out: &mut [u64; 12])
+    ensures { λ r. ⌜ now (out .exit) ≡ plannedNumbers planned ⌝ }
 {
     let outcome = planned.outcome;
-    [
+    *out = [
         outcome.number as u64,
         outcome.file as u64,
         outcome.place as u64,
@@ -99,5 +99,5 @@ pub fn of_planned(planned: search::Planned) -> [u64; 12]
         planned.origin as u64,
         planned.table as u64,
         planned.plan as u64,
-    ]
+    ];
 }

@@ -8,11 +8,12 @@ use Rattle.capi.proofs.shortest_check_origin.Tie as tie
 check-origin-requires : tie.Need-check-origin-requires
 check-origin-requires c κs = search needs
 
-of-outcome-requires : tie.Need-of-outcome-requires
-of-outcome-requires c κs = search needs
+write-outcome-requires : tie.Need-write-outcome-requires
+write-outcome-requires c κs = search needs
 
 returns : tie.Need-returns
-returns c = c .of-outcome .ensures ∙ ap outcomeNumbers (c .before .check-origin .ensures)
+returns c = c .write-outcome .ensures ∙ ap outcomeNumbers (c .before .before .check-origin .ensures)
 
 pub shortest-check-origin-spec : {M : Type 1} → statement M
-shortest-check-origin-spec = tie.close (tie.spec check-origin-requires of-outcome-requires returns)
+shortest-check-origin-spec =
+    tie.close (tie.spec check-origin-requires write-outcome-requires returns)

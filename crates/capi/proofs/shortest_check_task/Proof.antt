@@ -8,11 +8,11 @@ use Rattle.capi.proofs.shortest_check_task.Tie as tie
 check-task-requires : tie.Need-check-task-requires
 check-task-requires c κs = search needs
 
-of-outcome-requires : tie.Need-of-outcome-requires
-of-outcome-requires c κs = search needs
+write-outcome-requires : tie.Need-write-outcome-requires
+write-outcome-requires c κs = search needs
 
 returns : tie.Need-returns
-returns c = c .of-outcome .ensures ∙ ap outcomeNumbers (c .before .check-task .ensures)
+returns c = c .write-outcome .ensures ∙ ap outcomeNumbers (c .before .before .check-task .ensures)
 
 pub shortest-check-task-spec : {M : Type 1} → statement M
-shortest-check-task-spec = tie.close (tie.spec check-task-requires of-outcome-requires returns)
+shortest-check-task-spec = tie.close (tie.spec check-task-requires write-outcome-requires returns)

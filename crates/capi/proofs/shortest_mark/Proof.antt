@@ -8,8 +8,8 @@ use Rattle.capi.proofs.shortest_mark.Tie as tie
 mark-requires : tie.Need-mark-requires
 mark-requires c κs = search needs
 
-of-marked-requires : tie.Need-of-marked-requires
-of-marked-requires c κs = search needs
+write-marked-requires : tie.Need-write-marked-requires
+write-marked-requires c κs = search needs
 
 same-length : tie.Need-same-length
 same-length c = search needs
@@ -19,9 +19,9 @@ same-length-2 c = search needs
 
 returns : tie.Need-returns
 returns c =
-    let said = c .before .before .before .before .before .mark .ensures in
-    (c .of-marked .ensures ∙ ap markedNumbers (said .0), said .1)
+    let said = c .before .before .before .before .before .before .mark .ensures in
+    (c .write-marked .ensures ∙ ap markedNumbers (said .0), said .1)
 
 pub shortest-mark-spec : {M : Type 1} → statement M
 shortest-mark-spec =
-    tie.close (tie.spec mark-requires of-marked-requires same-length same-length-2 returns)
+    tie.close (tie.spec mark-requires write-marked-requires same-length same-length-2 returns)

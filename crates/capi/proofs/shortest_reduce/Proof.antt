@@ -8,8 +8,8 @@ use Rattle.capi.proofs.shortest_reduce.Tie as tie
 reduce-requires : tie.Need-reduce-requires
 reduce-requires c κs = search needs
 
-of-reduced-requires : tie.Need-of-reduced-requires
-of-reduced-requires c κs = search needs
+write-reduced-requires : tie.Need-write-reduced-requires
+write-reduced-requires c κs = search needs
 
 same-length : tie.Need-same-length
 same-length c = search needs
@@ -25,15 +25,15 @@ same-length-4 c = search needs
 
 returns : tie.Need-returns
 returns c =
-    let said = c .before .before .before .before .before .before .before .before .before .reduce .ensures in
-    (c .of-reduced .ensures ∙ ap reducedNumbers (said .0), said .1)
+    let said = c .before .before .before .before .before .before .before .before .before .before .reduce .ensures in
+    (c .write-reduced .ensures ∙ ap reducedNumbers (said .0), said .1)
 
 pub shortest-reduce-spec : {M : Type 1} → statement M
 shortest-reduce-spec =
     tie.close
     (tie.spec
     reduce-requires
-    of-reduced-requires
+    write-reduced-requires
     same-length
     same-length-2
     same-length-3
