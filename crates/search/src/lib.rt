@@ -15,7 +15,8 @@ ghost use Rattle.reduction.specs.Reduce.{rooms};
 ghost use Rattle.search.specs.Planner.{planRooms, planAnswer, plannedActionMarks, plannedFactMarks, plannedReduced, plannedOrigin, plannedTable, plannedPlan};
 
 // An entry of the work table: the least cost to the goal from a state, then the fewest steps at
-// that cost; 2^64 - 1 and 65,535 where the goal cannot be reached.
+// that cost; 2^64 - 1 and 65,535 where the goal cannot be reached. C callers lend such tables.
+#[repr(C)]
 pub struct Entry {
     pub minutes: u64,
     pub steps: u16,
