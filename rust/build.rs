@@ -19,5 +19,10 @@ fn main() {
         println!("cargo::rustc-cfg=library");
         println!("cargo::rustc-link-search=native={}", folder.display());
         println!("cargo::rustc-link-lib=static=capi");
+    } else {
+        println!(
+            "cargo::warning=no {}: without the library",
+            archive.display()
+        );
     }
 }

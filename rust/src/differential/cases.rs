@@ -1,7 +1,7 @@
 //! What the calls are compared on.
 
 use super::{Comparison, Lengths};
-use crate::reference::files::Task;
+use crate::reference::files::{Task, MOST_COST};
 use crate::reference::generate::{self, origin_file, plan_file, task_file, Random};
 use crate::reference::marking::marking;
 use crate::reference::plan;
@@ -13,7 +13,7 @@ const LEVELS: [u32; 7] = [0, 1, 2, 3, 4, 5, u32::MAX];
 const SIGNERS: [u32; 6] = [0, 1, 4, 5, 1 << 16, u32::MAX];
 
 /// Longer than any result.
-const LONG: Lengths = [520, 2_060, 65_540, 5_400, MOST_STATES + 4, 8_220];
+const LONG: Lengths = [520, 2_060, 65_540, 5_540, MOST_STATES + 4, 8_220];
 
 /// The length that each buffer needs when the task is reduced at a level and
 /// searched.
@@ -159,12 +159,30 @@ pub fn damaged(comparison: &mut Comparison, random: &mut Random, task: &Task) {
 }
 
 fn damaged_file(random: &mut Random, file: &[u8]) -> Vec<u8> {
-    let mut file = generate::damaged(random, file);
-    while random.chance(30) {
-        file = generate::damaged(random, &file);
+    let mut file = file.to_vec();
+    loop {
+        file = if random.chance(30) {
+            field_set(random, file)
+        } else {
+            generate::damaged(random, &file)
+        };
+        if random.chance(70) {
+            break;
+        }
     }
     if random.chance(30) {
         sign_again(&mut file);
+    }
+    file
+}
+
+/// With a field of 2 bytes at or around one of the limits.
+fn field_set(random: &mut Random, mut file: Vec<u8>) -> Vec<u8> {
+    if file.len() >= 2 {
+        let limit = random.one_of(&[0, 2, 32, 64, 512, 4_096, MOST_COST as u16, u16::MAX]);
+        let number = limit.wrapping_add(random.one_of(&[0, 1, u16::MAX]));
+        let at = 2 * random.below(file.len() / 2);
+        file[at..at + 2].copy_from_slice(&number.to_le_bytes());
     }
     file
 }
@@ -251,8 +269,8 @@ pub fn every_byte(comparison: &mut Comparison, random: &mut Random, task: &Task)
     let (_, origin) = reduction(task, &marking(task, 4).kept, 1);
     let origin = origin_file(&origin);
     for_every_byte(&file, |file| {
-        comparison.check_task(file);
         comparison.check_plan(file, &plan);
+        task_file_as_it_is(comparison, random, file);
     });
     for_every_byte(&plan, |plan| comparison.check_plan(&file, plan));
     for_every_byte(&origin, |origin| comparison.check_origin(origin));
