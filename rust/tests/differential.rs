@@ -82,11 +82,13 @@ fn the_longest_and_dearest_plan() {
 fn files_at_the_limit() {
     for_seeds(2, |comparison, random| {
         let file = generate::task_file(&generate::largest(random));
+        let accepted = generate::task_file(&generate::small(random));
         let plan = vec![0; 65_536];
         for file in [&file[..], &[&file[..], &[0]].concat(), &vec![0; 70_000]] {
             cases::task_file_as_it_is(comparison, random, file);
             comparison.check_plan(file, &plan);
             comparison.check_plan(&plan, file);
+            comparison.check_plan(&accepted, file);
         }
     });
 }
