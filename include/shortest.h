@@ -1,0 +1,118 @@
+/*
+ * The planner's calls for C: link libcapi.a, which `rt staticlib capi` writes to target/staticlib.
+ *
+ * Every call takes arbitrary bytes and buffers of any length, and refuses what does not serve.
+ * A buffer is a pointer and the number of its elements. The pointer is not null, also where the
+ * number is 0, and is aligned for its elements. A buffer that is written overlaps no other buffer
+ * and not `out`. The calls keep nothing between them, allocate nothing, and use up to about 550 KiB
+ * of the stack.
+ *
+ * The answer of a call is written to `out`, all of its twelve numbers at every call; a number that
+ * the call does not have, and every number but the first three beside a refusal, is 0:
+ *
+ *    0  number: 0 for done, any other for a refusal (docs/FORMAT.md lists them)
+ *    1  file: 1 where the place is an offset in the second file handed in, else 0
+ *    2  place of the refusal: an offset in a file; of 21 the number of elements that the buffer
+ *       needs; of 22 and 23 a step
+ *    3  rounds of the marking
+ *    4  cost of the plan
+ *    5  steps of the plan
+ *    6  action marks written
+ *    7  fact marks written
+ *    8  bytes of the reduced file written
+ *    9  bytes of the origin file written
+ *   10  entries of the table written
+ *   11  bytes of the plan file written
+ *
+ * A buffer holds its result from its first element on; what lies behind the result is untouched.
+ * A refusal leaves every buffer as it was, but for the results of the stages before it: the marks
+ * stand where the reduced or the origin file finds no room (21); the marks and both files where
+ * there are too many states (25) or the table finds no room (21); and the table beside them where
+ * there is no plan (24) or the plan file finds no room (21).
+ */
+#ifndef SHORTEST_H
+#define SHORTEST_H
+
+#include <stddef.h>
+#include <stdint.h>
+
+#ifdef __cplusplus
+extern "C" {
+#endif
+
+/* The places of `out`. */
+enum {
+    SHORTEST_NUMBER,
+    SHORTEST_FILE,
+    SHORTEST_PLACE,
+    SHORTEST_ROUNDS,
+    SHORTEST_COST,
+    SHORTEST_STEPS,
+    SHORTEST_ACTIONS,
+    SHORTEST_FACTS,
+    SHORTEST_REDUCED,
+    SHORTEST_ORIGIN,
+    SHORTEST_TABLE,
+    SHORTEST_PLAN,
+    SHORTEST_NUMBERS
+};
+
+/* As many elements as any result has. */
+enum {
+    SHORTEST_MOST_ACTIONS = 512,
+    SHORTEST_MOST_FACTS = 2048,
+    SHORTEST_MOST_REDUCED = 65536,
+    SHORTEST_MOST_ORIGIN = 5520,
+    SHORTEST_MOST_ENTRIES = 4096,
+    SHORTEST_MOST_PLAN = 8206
+};
+
+/* An entry of the table: the least cost to the goal from a state, then the fewest steps at that
+   cost; UINT64_MAX and UINT16_MAX where the goal cannot be reached. */
+struct shortest_entry {
+    uint64_t minutes;
+    uint16_t steps;
+};
+
+/* Whether a file is a task file. */
+void shortest_check_task(const uint8_t *file, size_t file_length, uint64_t out[12]);
+
+/* Whether a file is an origin file. */
+void shortest_check_origin(const uint8_t *file, size_t file_length, uint64_t out[12]);
+
+/* Whether a plan file holds a plan of the task of a task file; its cost and steps. */
+void shortest_check_plan(const uint8_t *task, size_t task_length,
+                         const uint8_t *plan, size_t plan_length, uint64_t out[12]);
+
+/* Marks the task of a task file at a level, 1 to 4. The action marks need an element an action and
+   hold 1 for a kept action, else 0. The fact marks need an element a fact, by variable and then
+   value, and hold 2 for a relevant fact that is linked, 1 for any other relevant fact, else 0. */
+void shortest_mark(const uint8_t *task, size_t task_length, uint32_t level,
+                   uint8_t *actions, size_t actions_length,
+                   uint8_t *facts, size_t facts_length, uint64_t out[12]);
+
+/* Marks as shortest_mark does, and reduces the task: `reduced` holds the file of the reduced task
+   and `origin` the file of its origins, both under the signer, which is not 0. The reduced file is
+   no longer than the task file. */
+void shortest_reduce(const uint8_t *task, size_t task_length, uint32_t level, uint32_t signer,
+                     uint8_t *actions, size_t actions_length,
+                     uint8_t *facts, size_t facts_length,
+                     uint8_t *reduced, size_t reduced_length,
+                     uint8_t *origin, size_t origin_length, uint64_t out[12]);
+
+/* Plans: reduces at level 4 as shortest_reduce does, fills the table with an entry for each state
+   of the reduced task, by its number, and writes to `plan` the plan file of the first of the
+   cheapest plans of fewest steps, in the action numbers of the task file, under the signer. */
+void shortest_plan(const uint8_t *task, size_t task_length, uint32_t signer,
+                   uint8_t *actions, size_t actions_length,
+                   uint8_t *facts, size_t facts_length,
+                   uint8_t *reduced, size_t reduced_length,
+                   uint8_t *origin, size_t origin_length,
+                   struct shortest_entry *table, size_t table_length,
+                   uint8_t *plan, size_t plan_length, uint64_t out[12]);
+
+#ifdef __cplusplus
+}
+#endif
+
+#endif
