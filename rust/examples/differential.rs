@@ -1,0 +1,30 @@
+//! Compares the library with the reference until a number of calls, and
+//! prints how many differed: `differential [CALLS [FIRST SEED]]`.
+
+#[cfg(library)]
+fn main() {
+    use shortest_check::differential::{cases, Comparison};
+    use shortest_check::reference::generate::Random;
+
+    let mut arguments = std::env::args().skip(1).map(|word| word.parse().unwrap());
+    let calls: u64 = arguments.next().unwrap_or(1_000_000);
+    let mut seed: u64 = arguments.next().unwrap_or(0);
+    let mut comparison = Comparison::default();
+    while comparison.calls < calls {
+        cases::any(&mut comparison, &mut Random::new(seed));
+        seed += 1;
+    }
+    for ((call, number), count) in &comparison.outcomes {
+        println!("{call} {number}: {count}");
+    }
+    let Comparison {
+        calls, differences, ..
+    } = comparison;
+    println!("{calls} calls, {differences} differences");
+    assert_eq!(differences, 0);
+}
+
+#[cfg(not(library))]
+fn main() {
+    println!("built without the library");
+}
