@@ -18,6 +18,7 @@ pub mod StateLoops
 pub mod OneChange
 pub mod Predecessors
 pub mod OfferLoops
+pub mod OfferActions
 pub mod Settling
 pub mod Offering
 pub mod HeldStates

@@ -29,6 +29,21 @@ offer-at t = and 6 offer-kinds.ps (is 6 offer-kinds.ps μ-offer t) offer.Pre
 abbrev offer-below : ℕ → In 6 offer-kinds.ps
 offer-below t = and 6 offer-kinds.ps (falls 6 offer-kinds.ps _<_ μ-offer t) offer.Pre
 
+-- what each call asks and gives, in the order of the calls
+abbrev known : ℕ → offer-lts.Claims
+known t = (
+  next-effect-reads.Asked,
+  next-effect-reads.Learnt,
+  byte-at-reads.Asked,
+  byte-at-reads.Learnt,
+  earlier-reads.Asked,
+  earlier-reads.Learnt,
+  offer-below t,
+  offer.Post,
+  lower-reads.Asked,
+  lower-reads.Learnt,
+)
+
 abbrev offer-Inv-loop : offer-lts.InvT-loop
 offer-Inv-loop minutes₀ steps₀ sizes weights conditions effects base variables from number cost count v weight rest value₀ high minutes steps value =
     (Walk sizes weights conditions effects base variables from number v weight rest value₀ high)
@@ -38,247 +53,71 @@ abbrev offer-μ-loop : offer-lts.MeasureT-loop
 offer-μ-loop minutes₀ steps₀ sizes weights conditions effects base variables from number cost count v weight rest value₀ high minutes steps value =
     high - value
 
-offer-next-effect-requires : (t : ℕ) → offer-lts.Need-next-effect-requires (
-  next-effect-reads.Asked,
-  next-effect-reads.Learnt,
-  byte-at-reads.Asked,
-  byte-at-reads.Learnt,
-  earlier-reads.Asked,
-  earlier-reads.Learnt,
-  offer-below t,
-  offer.Post,
-  lower-reads.Asked,
-  lower-reads.Learnt,
-) (offer-at t) offer.Post offer-Inv-loop offer-μ-loop
+offer-next-effect-requires : (t : ℕ) → offer-lts.Need-next-effect-requires (known t) (offer-at t) offer.Post offer-Inv-loop offer-μ-loop
 offer-next-effect-requires t c κs = (c .before .before .pre .1 .3, c .before .before .pre .1 .0 .variables-few, c .before .before .pre .1 .0 .row-inside)
 
-offer-mul-weight : (t : ℕ) → offer-lts.Need-mul-weight (
-  next-effect-reads.Asked,
-  next-effect-reads.Learnt,
-  byte-at-reads.Asked,
-  byte-at-reads.Learnt,
-  earlier-reads.Asked,
-  earlier-reads.Learnt,
-  offer-below t,
-  offer.Post,
-  lower-reads.Asked,
-  lower-reads.Learnt,
-) (offer-at t) offer.Post offer-Inv-loop offer-μ-loop
+offer-mul-weight : (t : ℕ) → offer-lts.Need-mul-weight (known t) (offer-at t) offer.Post offer-Inv-loop offer-μ-loop
 offer-mul-weight t c = omega (arith, c .if1 .taken, c .before .before .before .before .pre .1 .0 .variables-few)
 
-offer-element-copy-out-weight : (t : ℕ) → offer-lts.Need-element-copy-out-weight (
-  next-effect-reads.Asked,
-  next-effect-reads.Learnt,
-  byte-at-reads.Asked,
-  byte-at-reads.Learnt,
-  earlier-reads.Asked,
-  earlier-reads.Learnt,
-  offer-below t,
-  offer.Post,
-  lower-reads.Asked,
-  lower-reads.Learnt,
-) (offer-at t) offer.Post offer-Inv-loop offer-μ-loop
+offer-element-copy-out-weight : (t : ℕ) → offer-lts.Need-element-copy-out-weight (known t) (offer-at t) offer.Post offer-Inv-loop offer-μ-loop
 offer-element-copy-out-weight t c = omega (arith, c .if1 .taken, c .before .before .before .before .pre .1 .0 .variables-few)
 
-offer-add-byte-at : (t : ℕ) → offer-lts.Need-add-byte-at (
-  next-effect-reads.Asked,
-  next-effect-reads.Learnt,
-  byte-at-reads.Asked,
-  byte-at-reads.Learnt,
-  earlier-reads.Asked,
-  earlier-reads.Learnt,
-  offer-below t,
-  offer.Post,
-  lower-reads.Asked,
-  lower-reads.Learnt,
-) (offer-at t) offer.Post offer-Inv-loop offer-μ-loop
+offer-add-byte-at : (t : ℕ) → offer-lts.Need-add-byte-at (known t) (offer-at t) offer.Post offer-Inv-loop offer-μ-loop
 offer-add-byte-at t c = omega (arith, c .before .before .if1 .taken, c .before .before .before .before .before .before .pre .1 .0 .variables-few, c .before .before .before .before .before .before .pre .1 .0 .row-inside)
 
-offer-byte-at-requires : (t : ℕ) → offer-lts.Need-byte-at-requires (
-  next-effect-reads.Asked,
-  next-effect-reads.Learnt,
-  byte-at-reads.Asked,
-  byte-at-reads.Learnt,
-  earlier-reads.Asked,
-  earlier-reads.Learnt,
-  offer-below t,
-  offer.Post,
-  lower-reads.Asked,
-  lower-reads.Learnt,
-) (offer-at t) offer.Post offer-Inv-loop offer-μ-loop
+offer-byte-at-requires : (t : ℕ) → offer-lts.Need-byte-at-requires (known t) (offer-at t) offer.Post offer-Inv-loop offer-μ-loop
 offer-byte-at-requires t c κs = search needs
 
-offer-mul-rest : (t : ℕ) → offer-lts.Need-mul-rest (
-  next-effect-reads.Asked,
-  next-effect-reads.Learnt,
-  byte-at-reads.Asked,
-  byte-at-reads.Learnt,
-  earlier-reads.Asked,
-  earlier-reads.Learnt,
-  offer-below t,
-  offer.Post,
-  lower-reads.Asked,
-  lower-reads.Learnt,
-) (offer-at t) offer.Post offer-Inv-loop offer-μ-loop
+offer-mul-rest : (t : ℕ) → offer-lts.Need-mul-rest (known t) (offer-at t) offer.Post offer-Inv-loop offer-μ-loop
 offer-mul-rest t c =
     let start = c .before .before .before .before .before .before .before in
     let f = found _ _ _ _ _ _ _ _ _ (start .pre .1 .0) (start .pre .1 .4) (start .pre .1 .5) (c .before .before .before .before .next-effect .ensures .0) (c .before .before .before .before .next-effect .ensures .2) (c .before .before .before .before .next-effect .ensures .3) (c .before .before .before .if1 .taken) in
     omega (arith, product-most _ _ (weight-few _ _ _ _ _ _ _ _ _ _ (c .byte-at .result) f refl) (c .byte-at .ensures .1))
 
-offer-sub-rest : (t : ℕ) → offer-lts.Need-sub-rest (
-  next-effect-reads.Asked,
-  next-effect-reads.Learnt,
-  byte-at-reads.Asked,
-  byte-at-reads.Learnt,
-  earlier-reads.Asked,
-  earlier-reads.Learnt,
-  offer-below t,
-  offer.Post,
-  lower-reads.Asked,
-  lower-reads.Learnt,
-) (offer-at t) offer.Post offer-Inv-loop offer-μ-loop
+offer-sub-rest : (t : ℕ) → offer-lts.Need-sub-rest (known t) (offer-at t) offer.Post offer-Inv-loop offer-μ-loop
 offer-sub-rest t c =
     let start = c .before .before .before .before .before .before .before in
     let f = found _ _ _ _ _ _ _ _ _ (start .pre .1 .0) (start .pre .1 .4) (start .pre .1 .5) (c .before .before .before .before .next-effect .ensures .0) (c .before .before .before .before .next-effect .ensures .2) (c .before .before .before .before .next-effect .ensures .3) (c .before .before .before .if1 .taken) in
     omega (arith, taken-least _ _ _ _ _ _ _ _ _ _ (c .byte-at .result) f refl (c .byte-at .ensures .0))
 
-offer-add-byte-at-2 : (t : ℕ) → offer-lts.Need-add-byte-at-2 (
-  next-effect-reads.Asked,
-  next-effect-reads.Learnt,
-  byte-at-reads.Asked,
-  byte-at-reads.Learnt,
-  earlier-reads.Asked,
-  earlier-reads.Learnt,
-  offer-below t,
-  offer.Post,
-  lower-reads.Asked,
-  lower-reads.Learnt,
-) (offer-at t) offer.Post offer-Inv-loop offer-μ-loop
+offer-add-byte-at-2 : (t : ℕ) → offer-lts.Need-add-byte-at-2 (known t) (offer-at t) offer.Post offer-Inv-loop offer-μ-loop
 offer-add-byte-at-2 t c = omega (arith, c .before .before .before .before .if1 .taken, c .before .before .before .before .before .before .before .before .pre .1 .0 .variables-few, c .before .before .before .before .before .before .before .before .pre .1 .0 .row-inside)
 
-offer-byte-at-requires-2 : (t : ℕ) → offer-lts.Need-byte-at-requires-2 (
-  next-effect-reads.Asked,
-  next-effect-reads.Learnt,
-  byte-at-reads.Asked,
-  byte-at-reads.Learnt,
-  earlier-reads.Asked,
-  earlier-reads.Learnt,
-  offer-below t,
-  offer.Post,
-  lower-reads.Asked,
-  lower-reads.Learnt,
-) (offer-at t) offer.Post offer-Inv-loop offer-μ-loop
+offer-byte-at-requires-2 : (t : ℕ) → offer-lts.Need-byte-at-requires-2 (known t) (offer-at t) offer.Post offer-Inv-loop offer-μ-loop
 offer-byte-at-requires-2 t c κs = search needs
 
-offer-byte-at-requires-3 : (t : ℕ) → offer-lts.Need-byte-at-requires-3 (
-  next-effect-reads.Asked,
-  next-effect-reads.Learnt,
-  byte-at-reads.Asked,
-  byte-at-reads.Learnt,
-  earlier-reads.Asked,
-  earlier-reads.Learnt,
-  offer-below t,
-  offer.Post,
-  lower-reads.Asked,
-  lower-reads.Learnt,
-) (offer-at t) offer.Post offer-Inv-loop offer-μ-loop
+offer-byte-at-requires-3 : (t : ℕ) → offer-lts.Need-byte-at-requires-3 (known t) (offer-at t) offer.Post offer-Inv-loop offer-μ-loop
 offer-byte-at-requires-3 t c κs = search needs
 
-offer-earlier-requires : (t : ℕ) → offer-lts.Need-earlier-requires (
-  next-effect-reads.Asked,
-  next-effect-reads.Learnt,
-  byte-at-reads.Asked,
-  byte-at-reads.Learnt,
-  earlier-reads.Asked,
-  earlier-reads.Learnt,
-  offer-below t,
-  offer.Post,
-  lower-reads.Asked,
-  lower-reads.Learnt,
-) (offer-at t) offer.Post offer-Inv-loop offer-μ-loop
+offer-earlier-requires : (t : ℕ) → offer-lts.Need-earlier-requires (known t) (offer-at t) offer.Post offer-Inv-loop offer-μ-loop
 offer-earlier-requires t c κs =
     let start = c .before .before .before .before .before .before .before .before .before .before .before in
     let asks = c .before .before .byte-at2 .ensures in
     let size = c .byte-at3 .ensures .0 in
     (asks .1, λ d. omega (arith, asks .0, size, start .pre .1 .0 .condition-inside _ (c .before .before .before .before .before .before .before .if1 .taken) (λ e. d (asks .0 ∙ e))))
 
-offer-loop-holds : (t : ℕ) → offer-lts.Need-loop-holds (
-  next-effect-reads.Asked,
-  next-effect-reads.Learnt,
-  byte-at-reads.Asked,
-  byte-at-reads.Learnt,
-  earlier-reads.Asked,
-  earlier-reads.Learnt,
-  offer-below t,
-  offer.Post,
-  lower-reads.Asked,
-  lower-reads.Learnt,
-) (offer-at t) offer.Post offer-Inv-loop offer-μ-loop
+offer-loop-holds : (t : ℕ) → offer-lts.Need-loop-holds (known t) (offer-at t) offer.Post offer-Inv-loop offer-μ-loop
 offer-loop-holds t c =
     let start = c .before .before .before .before .before .before .before .before .before .before .before .before in
     let f = found _ _ _ _ _ _ _ _ _ (start .pre .1 .0) (start .pre .1 .4) (start .pre .1 .5) (c .before .before .before .before .before .before .before .before .before .next-effect .ensures .0) (c .before .before .before .before .before .before .before .before .before .next-effect .ensures .2) (c .before .before .before .before .before .before .before .before .before .next-effect .ensures .3) (c .before .before .before .before .before .before .before .before .if1 .taken) in
     let w = walk _ _ _ _ _ _ _ _ _ _ _ _ _ _ _ f refl (c .before .before .before .before .before .byte-at .ensures .0) (c .before .before .before .byte-at2 .ensures .0) (c .before .byte-at3 .ensures .0) (c .earlier .ensures) in
     (w, turns-begin _ _ _ _ _ _ _ _ _ _ _ _ _ w _ _ _ (start .pre .1 .1) (start .pre .1 .2))
 
-offer-add-offer : (t : ℕ) → offer-lts.Need-add-offer (
-  next-effect-reads.Asked,
-  next-effect-reads.Learnt,
-  byte-at-reads.Asked,
-  byte-at-reads.Learnt,
-  earlier-reads.Asked,
-  earlier-reads.Learnt,
-  offer-below t,
-  offer.Post,
-  lower-reads.Asked,
-  lower-reads.Learnt,
-) (offer-at t) offer.Post offer-Inv-loop offer-μ-loop
+offer-add-offer : (t : ℕ) → offer-lts.Need-add-offer (known t) (offer-at t) offer.Post offer-Inv-loop offer-μ-loop
 offer-add-offer t c = omega (arith, c .before .before .before .before .before .before .before .before .before .before .before .before .if1 .taken, c .before .before .before .before .before .before .before .before .before .before .before .before .before .before .before .before .pre .1 .0 .variables-few)
 
-offer-mul-offer : (t : ℕ) → offer-lts.Need-mul-offer (
-  next-effect-reads.Asked,
-  next-effect-reads.Learnt,
-  byte-at-reads.Asked,
-  byte-at-reads.Learnt,
-  earlier-reads.Asked,
-  earlier-reads.Learnt,
-  offer-below t,
-  offer.Post,
-  lower-reads.Asked,
-  lower-reads.Learnt,
-) (offer-at t) offer.Post offer-Inv-loop offer-μ-loop
+offer-mul-offer : (t : ℕ) → offer-lts.Need-mul-offer (known t) (offer-at t) offer.Post offer-Inv-loop offer-μ-loop
 offer-mul-offer t c =
     let w = c .before .before .before .loop .inv .0 in
     let few : c .before .before .before .loop .value < 256 = omega (arith, c .before .before .before .before .before .byte-at3 .ensures .0, c .before .before .before .before .before .byte-at3 .ensures .1, w .span .1, c .before .before .loop-test .taken) in
     omega (arith, product-most _ _ (weight-few _ _ _ _ _ _ _ _ _ _ 0 (w .found) (w .weight-is)) few)
 
-offer-add-offer-2 : (t : ℕ) → offer-lts.Need-add-offer-2 (
-  next-effect-reads.Asked,
-  next-effect-reads.Learnt,
-  byte-at-reads.Asked,
-  byte-at-reads.Learnt,
-  earlier-reads.Asked,
-  earlier-reads.Learnt,
-  offer-below t,
-  offer.Post,
-  lower-reads.Asked,
-  lower-reads.Learnt,
-) (offer-at t) offer.Post offer-Inv-loop offer-μ-loop
+offer-add-offer-2 : (t : ℕ) → offer-lts.Need-add-offer-2 (known t) (offer-at t) offer.Post offer-Inv-loop offer-μ-loop
 offer-add-offer-2 t c =
     let w = c .before .before .before .loop .inv .0 in
     omega (arith, next-below _ _ _ _ _ _ _ _ _ _ _ _ _ w _ (c .before .before .loop-test .taken), w .found .row .states-few)
 
-offer-offer-requires : (t : ℕ) → offer-lts.Need-offer-requires (
-  next-effect-reads.Asked,
-  next-effect-reads.Learnt,
-  byte-at-reads.Asked,
-  byte-at-reads.Learnt,
-  earlier-reads.Asked,
-  earlier-reads.Learnt,
-  offer-below t,
-  offer.Post,
-  lower-reads.Asked,
-  lower-reads.Learnt,
-) (offer-at t) offer.Post offer-Inv-loop offer-μ-loop
+offer-offer-requires : (t : ℕ) → offer-lts.Need-offer-requires (known t) (offer-at t) offer.Post offer-Inv-loop offer-μ-loop
 offer-offer-requires t c κs =
     let start = c .before .before .before .before .before .before .before .before .before .before .before .before .before .before .before .before in
     let l = c .before .before .before .loop .inv in
@@ -295,166 +134,45 @@ offer-offer-requires t c κs =
       ),
     )
 
-offer-add-value : (t : ℕ) → offer-lts.Need-add-value (
-  next-effect-reads.Asked,
-  next-effect-reads.Learnt,
-  byte-at-reads.Asked,
-  byte-at-reads.Learnt,
-  earlier-reads.Asked,
-  earlier-reads.Learnt,
-  offer-below t,
-  offer.Post,
-  lower-reads.Asked,
-  lower-reads.Learnt,
-) (offer-at t) offer.Post offer-Inv-loop offer-μ-loop
+offer-add-value : (t : ℕ) → offer-lts.Need-add-value (known t) (offer-at t) offer.Post offer-Inv-loop offer-μ-loop
 offer-add-value t c = omega (arith, c .before .before .before .before .before .before .before .before .before .before .byte-at3 .ensures .0, c .before .before .before .before .before .before .before .before .before .before .byte-at3 .ensures .1, c .before .before .before .before .before .before .before .before .loop .inv .0 .span .1, c .before .before .before .before .before .before .before .loop-test .taken)
 
-offer-loop-less : (t : ℕ) → offer-lts.Need-loop-less (
-  next-effect-reads.Asked,
-  next-effect-reads.Learnt,
-  byte-at-reads.Asked,
-  byte-at-reads.Learnt,
-  earlier-reads.Asked,
-  earlier-reads.Learnt,
-  offer-below t,
-  offer.Post,
-  lower-reads.Asked,
-  lower-reads.Learnt,
-) (offer-at t) offer.Post offer-Inv-loop offer-μ-loop
+offer-loop-less : (t : ℕ) → offer-lts.Need-loop-less (known t) (offer-at t) offer.Post offer-Inv-loop offer-μ-loop
 offer-loop-less t c = omega (arith, c .before .before .before .before .before .before .before .loop-test .taken)
 
-offer-loop-again : (t : ℕ) → offer-lts.Need-loop-again (
-  next-effect-reads.Asked,
-  next-effect-reads.Learnt,
-  byte-at-reads.Asked,
-  byte-at-reads.Learnt,
-  earlier-reads.Asked,
-  earlier-reads.Learnt,
-  offer-below t,
-  offer.Post,
-  lower-reads.Asked,
-  lower-reads.Learnt,
-) (offer-at t) offer.Post offer-Inv-loop offer-μ-loop
+offer-loop-again : (t : ℕ) → offer-lts.Need-loop-again (known t) (offer-at t) offer.Post offer-Inv-loop offer-μ-loop
 offer-loop-again t c =
     let l = c .before .before .before .before .before .before .before .before .loop .inv in
     let turn = c .before .before .before .before .offer in
     (l .0, turns-next _ _ _ _ _ _ _ _ _ _ _ _ _ (l .0) _ _ _ _ _ _ _ _ (l .1) (c .before .before .before .before .before .before .before .loop-test .taken) (turn .kept .0) (turn .kept .1 .0) (turn .ensures))
 
-offer-lower-requires : (t : ℕ) → offer-lts.Need-lower-requires (
-  next-effect-reads.Asked,
-  next-effect-reads.Learnt,
-  byte-at-reads.Asked,
-  byte-at-reads.Learnt,
-  earlier-reads.Asked,
-  earlier-reads.Learnt,
-  offer-below t,
-  offer.Post,
-  lower-reads.Asked,
-  lower-reads.Learnt,
-) (offer-at t) offer.Post offer-Inv-loop offer-μ-loop
+offer-lower-requires : (t : ℕ) → offer-lts.Need-lower-requires (known t) (offer-at t) offer.Post offer-Inv-loop offer-μ-loop
 offer-lower-requires t c κs =
     let start = c .before .before .before .before .before .before in
     (omega (arith, start .pre .1 .4, start .pre .1 .1), omega (arith, start .pre .1 .4, start .pre .1 .2))
 
-offer-same-length : (t : ℕ) → offer-lts.Need-same-length (
-  next-effect-reads.Asked,
-  next-effect-reads.Learnt,
-  byte-at-reads.Asked,
-  byte-at-reads.Learnt,
-  earlier-reads.Asked,
-  earlier-reads.Learnt,
-  offer-below t,
-  offer.Post,
-  lower-reads.Asked,
-  lower-reads.Learnt,
-) (offer-at t) offer.Post offer-Inv-loop offer-μ-loop
+offer-same-length : (t : ℕ) → offer-lts.Need-same-length (known t) (offer-at t) offer.Post offer-Inv-loop offer-μ-loop
 offer-same-length t c = c .before .loop .inv .1 .minutes-same
 
-offer-same-length-2 : (t : ℕ) → offer-lts.Need-same-length-2 (
-  next-effect-reads.Asked,
-  next-effect-reads.Learnt,
-  byte-at-reads.Asked,
-  byte-at-reads.Learnt,
-  earlier-reads.Asked,
-  earlier-reads.Learnt,
-  offer-below t,
-  offer.Post,
-  lower-reads.Asked,
-  lower-reads.Learnt,
-) (offer-at t) offer.Post offer-Inv-loop offer-μ-loop
+offer-same-length-2 : (t : ℕ) → offer-lts.Need-same-length-2 (known t) (offer-at t) offer.Post offer-Inv-loop offer-μ-loop
 offer-same-length-2 t c = c .before .loop .inv .1 .steps-same
 
-offer-returns : (t : ℕ) → offer-lts.Need-returns (
-  next-effect-reads.Asked,
-  next-effect-reads.Learnt,
-  byte-at-reads.Asked,
-  byte-at-reads.Learnt,
-  earlier-reads.Asked,
-  earlier-reads.Learnt,
-  offer-below t,
-  offer.Post,
-  lower-reads.Asked,
-  lower-reads.Learnt,
-) (offer-at t) offer.Post offer-Inv-loop offer-μ-loop
+offer-returns : (t : ℕ) → offer-lts.Need-returns (known t) (offer-at t) offer.Post offer-Inv-loop offer-μ-loop
 offer-returns t c = turns-end _ _ _ _ _ _ _ _ _ _ _ _ _ (c .before .loop .inv .0) _ _ _ _ _ _ (c .before .loop .inv .1) (c .loop-test .left)
 
-offer-same-length-3 : (t : ℕ) → offer-lts.Need-same-length-3 (
-  next-effect-reads.Asked,
-  next-effect-reads.Learnt,
-  byte-at-reads.Asked,
-  byte-at-reads.Learnt,
-  earlier-reads.Asked,
-  earlier-reads.Learnt,
-  offer-below t,
-  offer.Post,
-  lower-reads.Asked,
-  lower-reads.Learnt,
-) (offer-at t) offer.Post offer-Inv-loop offer-μ-loop
+offer-same-length-3 : (t : ℕ) → offer-lts.Need-same-length-3 (known t) (offer-at t) offer.Post offer-Inv-loop offer-μ-loop
 offer-same-length-3 t c = c .before .before .before .before .lower .kept .0
 
-offer-same-length-4 : (t : ℕ) → offer-lts.Need-same-length-4 (
-  next-effect-reads.Asked,
-  next-effect-reads.Learnt,
-  byte-at-reads.Asked,
-  byte-at-reads.Learnt,
-  earlier-reads.Asked,
-  earlier-reads.Learnt,
-  offer-below t,
-  offer.Post,
-  lower-reads.Asked,
-  lower-reads.Learnt,
-) (offer-at t) offer.Post offer-Inv-loop offer-μ-loop
+offer-same-length-4 : (t : ℕ) → offer-lts.Need-same-length-4 (known t) (offer-at t) offer.Post offer-Inv-loop offer-μ-loop
 offer-same-length-4 t c = c .before .before .before .before .lower .kept .1 .0
 
-offer-returns-2 : (t : ℕ) → offer-lts.Need-returns-2 (
-  next-effect-reads.Asked,
-  next-effect-reads.Learnt,
-  byte-at-reads.Asked,
-  byte-at-reads.Learnt,
-  earlier-reads.Asked,
-  earlier-reads.Learnt,
-  offer-below t,
-  offer.Post,
-  lower-reads.Asked,
-  lower-reads.Learnt,
-) (offer-at t) offer.Post offer-Inv-loop offer-μ-loop
+offer-returns-2 : (t : ℕ) → offer-lts.Need-returns-2 (known t) (offer-at t) offer.Post offer-Inv-loop offer-μ-loop
 offer-returns-2 t c =
     let start = c .before .before .before .before .before .before .before .before .before .before .before in
     offer-last _ _ _ _ _ _ _ _ _ (start .pre .1 .0) (start .pre .1 .4) (c .before .before .before .before .before .before .before .before .next-effect .ensures .2) (c .before .before .before .before .before .before .before .if1 .left) (entry (start .args .cost) (start .args .count)) (now (start .args .minutes)) (now (start .args .steps)) (c .before .before .before .before .lower .last .0) (c .before .before .before .before .lower .last .1 .0) (c .before .before .before .before .lower .ensures)
 
 pub +offer-spec : {M : Type 1} → statement M
-+offer-spec = close μ-offer λ t. offer-lts.spec (
-  next-effect-reads.Asked,
-  next-effect-reads.Learnt,
-  byte-at-reads.Asked,
-  byte-at-reads.Learnt,
-  earlier-reads.Asked,
-  earlier-reads.Learnt,
-  offer-below t,
-  offer.Post,
-  lower-reads.Asked,
-  lower-reads.Learnt,
-)
++offer-spec = close μ-offer λ t. offer-lts.spec (known t)
     (offer-at t)
     offer.Post
     offer-Inv-loop

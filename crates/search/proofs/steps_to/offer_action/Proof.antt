@@ -1,7 +1,7 @@
 use native.Mathlib.Omega.{arith}
 use denote.Ref.{now}
 use Rattle.search.specs.Table.{entry}
-use Rattle.search.proofs.OfferLoops.{reached-is, reached-effects, action-offers, action-offers-none}
+use Rattle.search.proofs.OfferActions.{reached-is, reached-effects, action-offers, action-offers-none}
 use borrow.Author.Needs.{needs}
 use Rattle.search.proofs.steps_to.offer_action.Statement.{statement}
 use Rattle.search.proofs.steps_to.offer_action.Tie as tie

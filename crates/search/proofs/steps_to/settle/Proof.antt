@@ -2,7 +2,7 @@
 use Prim.Native.Nat.{_-_}
 use mathlib.Core.Path.{refl}
 use native.Mathlib.Omega.{arith}
-use Rattle.search.proofs.OfferLoops.{Actions, price-few, state-values, action-row, actions-begin, actions-next, actions-end}
+use Rattle.search.proofs.OfferActions.{Actions, price-few, state-values, action-row, actions-begin, actions-next, actions-end}
 use borrow.Author.Needs.{needs}
 use Rattle.search.proofs.steps_to.settle.Statement.{statement}
 use Rattle.search.proofs.steps_to.settle.Tie as tie
