@@ -8,6 +8,7 @@ pub mod Done
 pub mod Whole
 pub mod ReadAs
 pub mod Countdown
+pub mod ReaderCall
 pub mod BelowLaws
 pub mod Tabulate
 pub mod Filling

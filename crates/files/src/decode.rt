@@ -9,6 +9,7 @@ ghost use Rattle.files.specs.Rows.{cleared, stored, filled, filledRows, 
 ghost use Rattle.files.specs.TaskFile.{pairsFrom, variablesFrom, actionsFrom, checkTask, taskOf, variablesIn, actionsIn};
 use crate::Outcome;
 use crate::bytes;
+use crate::reader;
 use crate::records;
 use crate::task;
 
@@ -80,7 +81,7 @@ fn read_costs(costs: &mut [u32], s: &[u8], at: usize, count: usize)
     while 0 < left {
         costs[i] = bytes::u32_at(s, place + 4) as u32;
         i += 1;
-        place = records::record_end(s, place);
+        place = reader::record_after(s, place);
         left -= 1;
     }
 }
@@ -98,7 +99,7 @@ fn read_conditions(rows: &mut [u8], s: &[u8], at: usize, count: usize)
         clear_row(rows, base);
         fill_row(rows, base, s, place + 12, pairs);
         base += 64;
-        place = records::record_end(s, place);
+        place = reader::record_after(s, place);
         left -= 1;
     }
 }
@@ -117,7 +118,7 @@ fn read_effects(rows: &mut [u8], s: &[u8], at: usize, count: usize)
         clear_row(rows, base);
         fill_row(rows, base, s, from, pairs);
         base += 64;
-        place = records::record_end(s, place);
+        place = reader::record_after(s, place);
         left -= 1;
     }
 }

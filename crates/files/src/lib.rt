@@ -5,6 +5,7 @@ pub mod decode;
 pub mod origin;
 pub mod outcomes;
 pub mod plan;
+pub mod reader;
 pub mod records;
 pub mod task;
 pub mod write;
@@ -64,5 +65,5 @@ pub fn check_origin(file: &[u8]) -> Outcome
     if actions.number != 0 {
         return actions;
     }
-    records::check_sign_off(file, records::record_end(file, at))
+    records::check_sign_off(file, reader::record_after(file, at))
 }

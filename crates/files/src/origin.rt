@@ -5,6 +5,7 @@ ghost use Rattle.files.specs.OriginFile.{valuesIn, variableOriginAt, var
 use crate::Outcome;
 use crate::bytes;
 use crate::outcomes;
+use crate::reader;
 use crate::records;
 
 // How many values the variable origin at `at` gives.
@@ -52,7 +53,7 @@ pub fn check_variables(s: &[u8], count: usize) -> Outcome
             return variable;
         }
         low = bytes::u16_at(s, place + 4) + 1;
-        place = records::record_end(s, place);
+        place = reader::record_after(s, place);
         left -= 1;
     }
     outcomes::done()
@@ -94,7 +95,7 @@ pub fn variables_in(s: &[u8]) -> usize
             return found;
         }
         found += 1;
-        place = records::record_end(s, place);
+        place = reader::record_after(s, place);
         left -= 1;
     }
     found
@@ -104,5 +105,5 @@ pub fn variables_in(s: &[u8]) -> usize
 pub fn actions_place(s: &[u8]) -> usize
     ensures { λ r. ⌜ (r ≡ originActionsPlace (now (s .entry))) × (r < 8589934592) ⌝ }
 {
-    records::records_end(s, 0, variables_in(s))
+    reader::records_after(s, 0, variables_in(s))
 }

@@ -10,6 +10,7 @@ ghost use Rattle.files.specs.Records.{numberBytes};
 use crate::Outcome;
 use crate::bytes;
 use crate::outcomes;
+use crate::reader;
 use crate::records;
 
 // Whether a file is a plan file for a task of so many actions.
@@ -27,7 +28,7 @@ pub fn check(s: &[u8], actions: usize) -> Outcome
     if numbers.number != 0 {
         return numbers;
     }
-    records::check_sign_off(s, records::record_end(s, 0))
+    records::check_sign_off(s, reader::record_after(s, 0))
 }
 
 // How many steps a plan file holds.

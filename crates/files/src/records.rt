@@ -4,7 +4,7 @@ ghost use mathlib.Core.List.{_++_};
 ghost use Prim.Native.Nat.{_+_, _*_, _<_, _≤_};
 ghost use lib.ListN.{length};
 ghost use Rattle.files.specs.Bytes.{u16Bytes, u32Bytes, placed};
-ghost use Rattle.files.specs.Records.{rule, bodyLength, kindAt, recordEnd, recordsEnd, bodyRule, bodyFits, headAt, numbersAt, signOffAt, signerOf, recordBytes};
+ghost use Rattle.files.specs.Records.{rule, bodyLength, kindAt, recordEnd, bodyRule, bodyFits, headAt, numbersAt, signOffAt, signerOf, recordBytes};
 use crate::Outcome;
 use crate::bytes;
 use crate::outcomes;
@@ -63,20 +63,6 @@ pub fn record_end(s: &[u8], at: usize) -> usize
     ensures { λ r. ⌜ (r ≡ recordEnd (now (s .entry)) at) × (r < at + 65540) ⌝ }
 {
     at + 4 + body_length(s, at)
-}
-
-// Where the record after `count` records from `at` on stands.
-pub fn records_end(s: &[u8], at: usize, count: usize) -> usize
-    requires { ⌜ at + 65540 * count < 549755813888 ⌝ }
-    ensures { λ r. ⌜ (r ≡ recordsEnd (now (s .entry)) at count) × (r ≤ at + 65540 * count) ⌝ }
-{
-    let mut place = at;
-    let mut left = count;
-    while 0 < left {
-        place = record_end(s, place);
-        left -= 1;
-    }
-    place
 }
 
 // Whether a body of `length` bytes fits its kind's rule.

@@ -7,6 +7,7 @@ ghost use Rattle.files.specs.TaskFile.{headerAt, variablesIn, actionsIn,
 use crate::Outcome;
 use crate::bytes;
 use crate::outcomes;
+use crate::reader;
 use crate::records;
 
 // The counts that a header states.
@@ -227,7 +228,7 @@ pub fn check_actions(s: &[u8], at: usize, count: usize) -> Outcome
         if action.number != 0 {
             return action;
         }
-        place = records::record_end(s, place);
+        place = reader::record_after(s, place);
         left -= 1;
     }
     records::check_sign_off(s, place)
@@ -243,12 +244,12 @@ pub fn goal_place(s: &[u8]) -> usize
 pub fn actions_place(s: &[u8]) -> usize
     ensures { λ r. ⌜ (r ≡ actionsPlace (now (s .entry))) × (r < 700000) ⌝ }
 {
-    records::record_end(s, goal_place(s))
+    reader::record_after(s, goal_place(s))
 }
 
 pub fn action_place(s: &[u8], a: usize) -> usize
     requires { ⌜ a < 65536 ⌝ }
     ensures { λ r. ⌜ (r ≡ actionPlace (now (s .entry)) a) × (r < 8589934592) ⌝ }
 {
-    records::records_end(s, actions_place(s), a)
+    reader::records_after(s, actions_place(s), a)
 }

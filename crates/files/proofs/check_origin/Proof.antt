@@ -57,8 +57,8 @@ returns-4 c =
     )
     (search forms depth 12 fits 5000)
 
-record-end-requires : tie.Need-record-end-requires
-record-end-requires c κs = search needs
+record-after-requires : tie.Need-record-after-requires
+record-after-requires c κs = search needs
 
 check-sign-off-requires : tie.Need-check-sign-off-requires
 check-sign-off-requires c κs = search needs
@@ -70,7 +70,7 @@ returns-5 c =
       ← c .before .before .before .before .before .before .before .before .before .before .before .before .before .variables-in .ensures .0,
       ← c .before .before .before .before .before .before .before .before .before .actions-place .ensures .0,
       ← c .before .before .before .before .before .body-length .ensures .0,
-      ← c .before .record-end .ensures .0,
+      ← c .before .record-after .ensures .0,
     )
     (search forms depth 12 fits 5000)
 
@@ -90,6 +90,6 @@ check-origin-spec =
     body-length-requires
     check-actions-requires
     returns-4
-    record-end-requires
+    record-after-requires
     check-sign-off-requires
     returns-5)

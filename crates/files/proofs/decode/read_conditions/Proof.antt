@@ -37,8 +37,8 @@ fill-row-requires c κs = search needs
 add-base : tie.Need-add-base Inv-loop μ-loop
 add-base c = search needs
 
-record-end-requires : tie.Need-record-end-requires Inv-loop μ-loop
-record-end-requires c κs = search needs
+record-after-requires : tie.Need-record-after-requires Inv-loop μ-loop
+record-after-requires c κs = search needs
 
 sub-left : tie.Need-sub-left Inv-loop μ-loop
 sub-left c = search needs
@@ -49,7 +49,7 @@ loop-less c = search needs
 loop-again : tie.Need-loop-again Inv-loop μ-loop
 loop-again c =
     let v = c .before .before .before .before .before .before .before .before .before .before .before .loop in
-    let next = conditions-next _ _ _ _ _ _ _ _ _ _ (v .inv .0) (c .before .before .before .before .before .before .before .before .before .before .loop-test .taken) (c .before .before .before .before .before .before .before .before .before .conditions-in .ensures .0) (c .record-end .ensures .0) (c .before .before .before .before .before .before .before .clear-row .ensures) (c .before .before .before .fill-row .ensures) in
+    let next = conditions-next _ _ _ _ _ _ _ _ _ _ (v .inv .0) (c .before .before .before .before .before .before .before .before .before .before .loop-test .taken) (c .before .before .before .before .before .before .before .before .before .conditions-in .ensures .0) (c .record-after .ensures .0) (c .before .before .before .before .before .before .before .clear-row .ensures) (c .before .before .before .fill-row .ensures) in
     (next, omega arith, omega arith, omega arith)
 
 same-length : tie.Need-same-length Inv-loop μ-loop
@@ -70,7 +70,7 @@ read-conditions-spec =
     add-fill-row
     fill-row-requires
     add-base
-    record-end-requires
+    record-after-requires
     sub-left
     loop-less
     loop-again

@@ -40,8 +40,8 @@ slice-write-costs c = search needs
 add-i : tie.Need-add-i Inv-loop μ-loop
 add-i c = search needs
 
-record-end-requires : tie.Need-record-end-requires Inv-loop μ-loop
-record-end-requires c κs = search needs
+record-after-requires : tie.Need-record-after-requires Inv-loop μ-loop
+record-after-requires c κs = search needs
 
 sub-left : tie.Need-sub-left Inv-loop μ-loop
 sub-left c = search needs
@@ -74,7 +74,7 @@ read-costs-spec =
     mul-costs
     slice-write-costs
     add-i
-    record-end-requires
+    record-after-requires
     sub-left
     loop-less
     loop-again

@@ -8,12 +8,12 @@ use Rattle.files.proofs.origin.actions_place.Tie as tie
 variables-in-requires : tie.Need-variables-in-requires
 variables-in-requires c κs = search needs
 
-records-end-requires : tie.Need-records-end-requires
-records-end-requires c κs = search needs
+records-after-requires : tie.Need-records-after-requires
+records-after-requires c κs = search needs
 
 returns : tie.Need-returns
 unfolding originActionsPlace
 returns c = (cc, omega arith)
 
 pub actions-place-spec : {M : Type 1} → statement M
-actions-place-spec = tie.close (tie.spec variables-in-requires records-end-requires returns)
+actions-place-spec = tie.close (tie.spec variables-in-requires records-after-requires returns)

@@ -32,8 +32,8 @@ u16-at-requires c κs = search needs
 add-low : tie.Need-add-low Inv-loop μ-loop
 add-low c = search needs
 
-record-end-requires : tie.Need-record-end-requires Inv-loop μ-loop
-record-end-requires c κs = search needs
+record-after-requires : tie.Need-record-after-requires Inv-loop μ-loop
+record-after-requires c κs = search needs
 
 sub-left : tie.Need-sub-left Inv-loop μ-loop
 sub-left c = search needs
@@ -62,7 +62,7 @@ check-variables-spec =
     add-u16-at
     u16-at-requires
     add-low
-    record-end-requires
+    record-after-requires
     sub-left
     loop-less
     loop-again

@@ -27,8 +27,8 @@ returns c = search (needs, origins-counted-stop)
 add-found : tie.Need-add-found Inv-loop μ-loop
 add-found c = search needs
 
-record-end-requires : tie.Need-record-end-requires Inv-loop μ-loop
-record-end-requires c κs = search needs
+record-after-requires : tie.Need-record-after-requires Inv-loop μ-loop
+record-after-requires c κs = search needs
 
 sub-left : tie.Need-sub-left Inv-loop μ-loop
 sub-left c = search needs
@@ -52,7 +52,7 @@ variables-in-spec =
     kind-at-requires
     returns
     add-found
-    record-end-requires
+    record-after-requires
     sub-left
     loop-less
     loop-again

@@ -30,8 +30,8 @@ returns-3 : tie.Need-returns-3
 unfolding checkPlanFile sizeFits stepsIn
 returns-3 c = rw (← c .before .before .before .body-length .ensures .0) (search forms depth 12 fits 5000)
 
-record-end-requires : tie.Need-record-end-requires
-record-end-requires c κs = search needs
+record-after-requires : tie.Need-record-after-requires
+record-after-requires c κs = search needs
 
 check-sign-off-requires : tie.Need-check-sign-off-requires
 check-sign-off-requires c κs = search needs
@@ -41,7 +41,7 @@ unfolding checkPlanFile sizeFits stepsIn
 returns-4 c =
     rw (
       ← c .before .before .before .before .before .body-length .ensures .0,
-      ← c .before .record-end .ensures .0,
+      ← c .before .record-after .ensures .0,
     )
     (search forms depth 12 fits 5000)
 
@@ -56,6 +56,6 @@ check-spec =
     body-length-requires
     check-numbers-requires
     returns-3
-    record-end-requires
+    record-after-requires
     check-sign-off-requires
     returns-4)

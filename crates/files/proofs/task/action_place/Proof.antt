@@ -8,12 +8,12 @@ use Rattle.files.proofs.task.action_place.Tie as tie
 actions-place-requires : tie.Need-actions-place-requires
 actions-place-requires c κs = search needs
 
-records-end-requires : tie.Need-records-end-requires
-records-end-requires c κs = search needs
+records-after-requires : tie.Need-records-after-requires
+records-after-requires c κs = search needs
 
 returns : tie.Need-returns
 unfolding actionPlace
 returns c = (cc, omega arith)
 
 pub action-place-spec : {M : Type 1} → statement M
-action-place-spec = tie.close (tie.spec actions-place-requires records-end-requires returns)
+action-place-spec = tie.close (tie.spec actions-place-requires records-after-requires returns)

@@ -8,12 +8,12 @@ use Rattle.files.proofs.task.actions_place.Tie as tie
 goal-place-requires : tie.Need-goal-place-requires
 goal-place-requires c κs = search needs
 
-record-end-requires : tie.Need-record-end-requires
-record-end-requires c κs = search needs
+record-after-requires : tie.Need-record-after-requires
+record-after-requires c κs = search needs
 
 returns : tie.Need-returns
 unfolding actionsPlace
 returns c = (cc, omega arith)
 
 pub actions-place-spec : {M : Type 1} → statement M
-actions-place-spec = tie.close (tie.spec goal-place-requires record-end-requires returns)
+actions-place-spec = tie.close (tie.spec goal-place-requires record-after-requires returns)

@@ -23,8 +23,8 @@ check-action-requires c κs = search needs
 returns : tie.Need-returns Inv-loop μ-loop
 returns c = search actions-stop
 
-record-end-requires : tie.Need-record-end-requires Inv-loop μ-loop
-record-end-requires c κs = search needs
+record-after-requires : tie.Need-record-after-requires Inv-loop μ-loop
+record-after-requires c κs = search needs
 
 sub-left : tie.Need-sub-left Inv-loop μ-loop
 sub-left c = search needs
@@ -50,7 +50,7 @@ check-actions-spec =
     loop-holds
     check-action-requires
     returns
-    record-end-requires
+    record-after-requires
     sub-left
     loop-less
     loop-again

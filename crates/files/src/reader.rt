@@ -1,0 +1,44 @@
+// A reader of records, and the walk from record to record.
+ghost use mathlib.Core.Path.{_≡_};
+ghost use Prim.Native.Nat.{_+_, _*_, _<_, _≤_};
+ghost use Rattle.files.specs.Records.{recordEnd, recordsEnd};
+use crate::records;
+
+// The file being read and the offset reached.
+pub struct Reader<'a> {
+    pub file: &'a [u8],
+    pub at: usize,
+}
+
+// The reader behind the record at its offset.
+pub fn past<'a>(reader: Reader<'a>) -> Reader<'a>
+    requires { ⌜ reader .at < 1099511627776 ⌝ }
+    ensures { λ r. ⌜ (r .file ≡ reader .entry .file) × (r .at ≡ recordEnd (now (reader .entry .file)) (reader .entry .at)) × (r .at < reader .entry .at + 65540) ⌝ }
+{
+    Reader {
+        file: reader.file,
+        at: records::record_end(reader.file, reader.at),
+    }
+}
+
+// Where the record after the one at `at` stands.
+pub fn record_after(file: &[u8], at: usize) -> usize
+    requires { ⌜ at < 1099511627776 ⌝ }
+    ensures { λ r. ⌜ (r ≡ recordEnd (now (file .entry)) at) × (r < at + 65540) ⌝ }
+{
+    past(Reader { file, at }).at
+}
+
+// Where the record after `count` records from `at` on stands.
+pub fn records_after(file: &[u8], at: usize, count: usize) -> usize
+    requires { ⌜ at + 65540 * count < 549755813888 ⌝ }
+    ensures { λ r. ⌜ (r ≡ recordsEnd (now (file .entry)) at count) × (r ≤ at + 65540 * count) ⌝ }
+{
+    let mut reader = Reader { file, at };
+    let mut left = count;
+    while 0 < left {
+        reader = past(reader);
+        left -= 1;
+    }
+    reader.at
+}
