@@ -1,11 +1,10 @@
 //! Compares the library with the reference until a number of calls, and
 //! prints how many differed: `differential [CALLS [FIRST SEED]]`.
 
-#[cfg(library)]
-fn main() {
-    use shortest_check::differential::{cases, Comparison};
-    use shortest_check::reference::generate::Random;
+use shortest_check::differential::{cases, Comparison};
+use shortest_check::reference::generate::Random;
 
+fn main() {
     let mut arguments = std::env::args().skip(1).map(|word| word.parse().unwrap());
     let calls: u64 = arguments.next().unwrap_or(1_000_000);
     let mut seed: u64 = arguments.next().unwrap_or(0);
@@ -22,9 +21,4 @@ fn main() {
     } = comparison;
     println!("{calls} calls, {differences} differences");
     assert_eq!(differences, 0);
-}
-
-#[cfg(not(library))]
-fn main() {
-    println!("built without the library");
 }

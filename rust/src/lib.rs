@@ -1,7 +1,6 @@
 //! Checks of the changeover planner.
 
-#[cfg(library)]
+pub mod answers;
 pub mod differential;
-#[cfg(library)]
 pub mod library;
 pub mod reference;

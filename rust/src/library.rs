@@ -1,13 +1,13 @@
-//! The proved library's calls, in the shape of the reference's.
+//! The proved library's calls, safe to make with any slices.
 
 use std::mem::take;
 
-use crate::reference::{Entry, Marked, Outcome, PlanCheck, Planned, Reduced};
+use crate::answers::{Buffers, Entry, Marked, Outcome, PlanCheck, Planned, Reduced};
 
 /// The calls as `include/shortest.h` declares them: each buffer is a pointer
 /// and a length, and `out` is where the twelve numbers of the answer go.
 mod c {
-    use crate::reference::Entry;
+    use crate::answers::Entry;
 
     extern "C" {
         pub fn shortest_check_task(file: *const u8, file_length: usize, out: *mut u64);
@@ -192,6 +192,20 @@ pub fn plan(
             out,
         );
     })
+}
+
+/// `plan` with all its buffers.
+pub fn plan_into(task: &[u8], signer: u32, lent: &mut Buffers) -> Planned {
+    plan(
+        task,
+        signer,
+        &mut lent.action_marks,
+        &mut lent.fact_marks,
+        &mut lent.reduced,
+        &mut lent.origin,
+        &mut lent.table,
+        &mut lent.plan,
+    )
 }
 
 /// The twelve numbers that a call writes.

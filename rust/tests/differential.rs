@@ -1,5 +1,4 @@
 //! The library against the reference.
-#![cfg(library)]
 
 use shortest_check::differential::{cases, Comparison};
 use shortest_check::reference::generate::{self, Random};

@@ -1,10 +1,11 @@
 //! Each refusal from the input at its place, and their order.
 
+use shortest_check::answers::Outcome;
 use shortest_check::reference::files::{
     write_origin, write_plan, write_task, Action, Fact, Origin, Plan, Task, Variable,
     VariableOrigin,
 };
-use shortest_check::reference::{check_origin, check_plan, check_task, Outcome};
+use shortest_check::reference::{check_origin, check_plan, check_task};
 
 fn fact(variable: u16, value: u16) -> Fact {
     Fact { variable, value }

@@ -1,14 +1,12 @@
 //! The worked examples of the specification.
 
+use shortest_check::answers::{Entry, Marked, Outcome, PlanCheck, Planned, Reduced};
 use shortest_check::reference::files::{
     read_origin, read_task, write_plan, write_task, Action, Fact, Origin, Plan, Task, Variable,
     VariableOrigin,
 };
 use shortest_check::reference::search::state_numbered;
-use shortest_check::reference::{
-    check_origin, check_plan, check_task, mark, plan, reduce, Entry, Marked, Outcome, PlanCheck,
-    Planned, Reduced,
-};
+use shortest_check::reference::{check_origin, check_plan, check_task, mark, plan, reduce};
 
 const STATION: u16 = 0;
 const LAMP: u16 = 1;

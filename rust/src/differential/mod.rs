@@ -5,7 +5,7 @@ pub mod cases;
 
 use std::collections::BTreeMap;
 
-use crate::reference::{Entry, Marked, Outcome, Planned, Reduced};
+use crate::answers::{Entry, Marked, Outcome, Planned, Reduced};
 use crate::{library, reference};
 
 /// Lengths lent: action marks, fact marks, reduced, origin, table, plan. A

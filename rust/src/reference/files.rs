@@ -1,9 +1,9 @@
 //! Signed files: tasks, origins and plans, read and written.
 
 use super::outcome::{
-    Outcome, NOT_RISING, OUTSIDE_LIMIT, OUT_OF_RANGE, RECORD_CUT, WRONG_KIND, WRONG_LENGTH,
-    WRONG_SIGN_OFF,
+    NOT_RISING, OUTSIDE_LIMIT, OUT_OF_RANGE, RECORD_CUT, WRONG_KIND, WRONG_LENGTH, WRONG_SIGN_OFF,
 };
+use crate::answers::Outcome;
 
 pub const MOST_BYTES: usize = 65_536;
 pub const MOST_VARIABLES: usize = 64;

@@ -1,15 +1,8 @@
 //! Marking: which actions are kept and which facts are relevant.
 
 use super::files::{read_task, Action, Fact, Task};
-use super::outcome::{long_enough, Outcome, WRONG_LEVEL};
-
-#[derive(Clone, Copy, Debug, Default, PartialEq, Eq)]
-pub struct Marked {
-    pub outcome: Outcome,
-    pub action_marks: usize,
-    pub fact_marks: usize,
-    pub rounds: usize,
-}
+use super::outcome::{long_enough, WRONG_LEVEL};
+use crate::answers::{Marked, Outcome};
 
 /// A set of facts: by variable, then by value.
 #[derive(Clone, Debug, PartialEq, Eq)]

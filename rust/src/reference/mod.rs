@@ -10,8 +10,7 @@ pub mod reduction;
 pub mod search;
 
 pub use files::{check_origin, check_task};
-pub use marking::{mark, Marked};
-pub use outcome::Outcome;
-pub use plans::{check_plan, PlanCheck};
-pub use reduction::{reduce, Reduced};
-pub use search::{plan, Entry, Planned};
+pub use marking::mark;
+pub use plans::check_plan;
+pub use reduction::reduce;
+pub use search::plan;

@@ -1,17 +1,11 @@
 //! Plans and their cost.
 
 use super::files::{read_plan, read_task, Action, Fact, Task};
-use super::outcome::{Outcome, GOAL_NOT_MET, NOT_APPLICABLE};
+use super::outcome::{GOAL_NOT_MET, NOT_APPLICABLE};
+use crate::answers::{Outcome, PlanCheck};
 
 /// The value of each variable.
 pub type State = Vec<u16>;
-
-#[derive(Clone, Copy, Debug, Default, PartialEq, Eq)]
-pub struct PlanCheck {
-    pub outcome: Outcome,
-    pub cost: u64,
-    pub steps: usize,
-}
 
 pub fn start(task: &Task) -> State {
     task.variables

@@ -4,17 +4,8 @@ use super::files::{
     read_task, write_origin, write_task, Action, Fact, Origin, Task, Variable, VariableOrigin,
 };
 use super::marking::{level_given, mark_stage, Facts, Marking};
-use super::outcome::{long_enough, signer_given, Outcome};
-
-#[derive(Clone, Copy, Debug, Default, PartialEq, Eq)]
-pub struct Reduced {
-    pub outcome: Outcome,
-    pub action_marks: usize,
-    pub fact_marks: usize,
-    pub reduced: usize,
-    pub origin: usize,
-    pub rounds: usize,
-}
+use super::outcome::{long_enough, signer_given};
+use crate::answers::{Outcome, Reduced};
 
 /// What the stages up to reduction leave for the next.
 pub struct Stage {

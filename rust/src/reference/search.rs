@@ -4,26 +4,14 @@ use std::cmp::Reverse;
 use std::collections::BinaryHeap;
 
 use super::files::{write_plan, Plan, Task};
-use super::outcome::{long_enough, Outcome, NO_PLAN, TOO_MANY_STATES};
+use super::outcome::{long_enough, NO_PLAN, TOO_MANY_STATES};
 use super::plans::{holds, start, step, State};
 use super::reduction::reduce_stage;
+use crate::answers::{Entry, Outcome, Planned};
 
 pub const MOST_STATES: usize = 4_096;
 
-/// The least cost from a state to the goal, and the fewest steps at that cost.
-#[repr(C)]
-#[derive(Clone, Copy, Debug, PartialEq, Eq, PartialOrd, Ord)]
-pub struct Entry {
-    pub minutes: u64,
-    pub steps: u16,
-}
-
 impl Entry {
-    /// The entry of a state from which no plan leads to the goal.
-    pub const NONE: Entry = Entry {
-        minutes: u64::MAX,
-        steps: u16::MAX,
-    };
     const GOAL: Entry = Entry {
         minutes: 0,
         steps: 0,
@@ -36,20 +24,6 @@ impl Entry {
             steps: self.steps.checked_add(1)?,
         })
     }
-}
-
-#[derive(Clone, Copy, Debug, Default, PartialEq, Eq)]
-pub struct Planned {
-    pub outcome: Outcome,
-    pub action_marks: usize,
-    pub fact_marks: usize,
-    pub reduced: usize,
-    pub origin: usize,
-    pub table: usize,
-    pub plan: usize,
-    pub rounds: usize,
-    pub cost: u64,
-    pub steps: usize,
 }
 
 #[allow(clippy::too_many_arguments)]

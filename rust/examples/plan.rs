@@ -1,0 +1,13 @@
+use shortest_check::{answers::Buffers, library};
+use std::io::{self, Read};
+
+fn main() -> io::Result<()> {
+    let (mut task, mut lent) = (Vec::new(), Buffers::long());
+    io::stdin().read_to_end(&mut task)?;
+    let planned = library::plan_into(&task, 1, &mut lent);
+    for action in lent.steps(planned.steps) {
+        println!("step {action}");
+    }
+    println!("outcome {} cost {}", planned.outcome.number, planned.cost);
+    Ok(())
+}
