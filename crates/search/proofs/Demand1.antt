@@ -59,27 +59,27 @@ unfolding andThen
 both-no a b e = rw e refl
 
 -- an outcome of a list that is done is `done` itself
-pub listed-itself : (numbers : List ℕ) (o : Outcome) → listed numbers o ≡ true → isDone o ≡ true → o ≡ done
+pub listed-itself : (last : ℕ) (numbers : List ℕ) (o : Outcome) → listed last numbers o ≡ true → isDone o ≡ true → o ≡ done
 unfolding listed isDone
-listed-itself numbers o w e =
-    let q : eqb (o .file) 0 && eqb (o .place) 0 ≡ true = sym (ap (λ (b : Bool). cond b (eqb (o .file) 0 && eqb (o .place) 0) (anyOf (eqb (o .number)) numbers && leb (o .file) 1)) e) ∙ w in
+listed-itself last numbers o w e =
+    let q : eqb (o .file) 0 && eqb (o .place) 0 ≡ true = sym (ap (λ (b : Bool). cond b (eqb (o .file) 0 && eqb (o .place) 0) (anyOf (eqb (o .number)) numbers && leb (o .file) last)) e) ∙ w in
     let parts = and-split (eqb (o .file) 0) (eqb (o .place) 0) q in
     λ i. record { number = eqb-true (o .number) 0 e i; file = eqb-true (o .file) 0 (parts .0) i; place = eqb-true (o .place) 0 (parts .1) i }
 
 -- the outcomes of the stages
-marks-listed : (numbers : List ℕ) → anyOf (eqb 21) numbers ≡ true → (t : Task) (a f : ℕ) → listed numbers (marksFit t a f) ≡ true
+marks-listed : (last : ℕ) (numbers : List ℕ) → anyOf (eqb 21) numbers ≡ true → (t : Task) (a f : ℕ) → listed last numbers (marksFit t a f) ≡ true
 unfolding marksFit fits
-marks-listed numbers h t a f = listed-guard numbers _ 21 _ _ refl h (listed-guard numbers _ 21 _ _ refl h (listed-done numbers))
+marks-listed last numbers h t a f = listed-guard last numbers _ 21 _ _ refl h (listed-guard last numbers _ 21 _ _ refl h (listed-done last numbers))
 
 module _ (task : List ℕ) (level : ℕ) (actions facts : List ℕ) where
   abbrev o : Outcome
   o = markOutcome task level (length actions) (length facts)
 
-  pub mark-listed : listed markRefusals o ≡ true
+  pub mark-listed : listed 0 markRefusals o ≡ true
   unfolding markOutcome
   mark-listed =
-      listed-both markRefusals _ _ (task-listed markRefusals (more (8 ∷ 21 ∷ [])) task)
-      (listed-guard markRefusals _ 8 0 _ refl refl (marks-listed markRefusals refl (taskOf task) (length actions) (length facts)))
+      listed-both 0 markRefusals _ _ (task-listed 0 markRefusals (more (8 ∷ 21 ∷ [])) task)
+      (listed-guard 0 markRefusals _ 8 0 _ refl refl (marks-listed 0 markRefusals refl (taskOf task) (length actions) (length facts)))
 
   mark-outcome : mark task level (length actions) (length facts) .outcome ≡ o
   unfolding mark markAnswer
@@ -97,7 +97,7 @@ module _ (task : List ℕ) (level : ℕ) (actions facts : List ℕ) where
       rw e
       (λ i.
       record {
-        outcome = listed-itself markRefusals o mark-listed e i;
+        outcome = listed-itself 0 markRefusals o mark-listed e i;
         actions = actionCount (taskOf task);
         facts = factCount (taskOf task);
         rounds = marking (taskOf task) level .rounds;
@@ -107,7 +107,7 @@ module _ (task : List ℕ) (level : ℕ) (actions facts : List ℕ) where
   unfolding markedActions markedFacts
   mark-answers =
       record {
-        outcome = ap (listed markRefusals) mark-outcome ∙ mark-listed;
+        outcome = ap (listed 0 markRefusals) mark-outcome ∙ mark-listed;
         ends =
             split (isDone o)
             (λ e. inr (mark-done e, after-yes o _ actions e, after-yes o _ facts e))
@@ -128,20 +128,20 @@ module _ (task : List ℕ) (level signer : ℕ) (b : Buffers) where
   abbrev row : Outcome
   row = reduceStage task level signer (roomsOf b)
 
-  stage-listed : (numbers : List ℕ) → ((n : ℕ) → anyOf (eqb n) fileRefusals ≡ true → anyOf (eqb n) numbers ≡ true) → (validLevel level ≡ true) ⊎ (anyOf (eqb 8) numbers ≡ true) → anyOf (eqb 21) numbers ≡ true
-      → (listed numbers marks ≡ true) × (listed numbers files ≡ true) × (listed numbers row ≡ true)
+  stage-listed : (last : ℕ) (numbers : List ℕ) → ((n : ℕ) → anyOf (eqb n) fileRefusals ≡ true → anyOf (eqb n) numbers ≡ true) → (validLevel level ≡ true) ⊎ (anyOf (eqb 8) numbers ≡ true) → anyOf (eqb 21) numbers ≡ true
+      → (listed last numbers marks ≡ true) × (listed last numbers files ≡ true) × (listed last numbers row ≡ true)
   unfolding markStage filesFit fits reduceStage
-  stage-listed numbers wide levels room =
-      let signs : listed numbers (guard (leb 1 signer) 7 0 (marksFit t (length (b .actions)) (length (b .facts)))) ≡ true =
-      listed-guard numbers _ 7 0 _ refl (wide 7 refl) (marks-listed numbers room t (length (b .actions)) (length (b .facts))) in
-      let level-listed : listed numbers (guard (validLevel level) 8 0 (guard (leb 1 signer) 7 0 (marksFit t (length (b .actions)) (length (b .facts))))) ≡ true =
+  stage-listed last numbers wide levels room =
+      let signs : listed last numbers (guard (leb 1 signer) 7 0 (marksFit t (length (b .actions)) (length (b .facts)))) ≡ true =
+      listed-guard last numbers _ 7 0 _ refl (wide 7 refl) (marks-listed last numbers room t (length (b .actions)) (length (b .facts))) in
+      let level-listed : listed last numbers (guard (validLevel level) 8 0 (guard (leb 1 signer) 7 0 (marksFit t (length (b .actions)) (length (b .facts))))) ≡ true =
       ⊎-elim
-      (λ v. ap (listed numbers) (sym (guard-passes (validLevel level) 8 0 _ (guard (leb 1 signer) 7 0 (marksFit t (length (b .actions)) (length (b .facts)))) v refl)) ∙ signs)
-      (λ a. listed-guard numbers (validLevel level) 8 0 _ refl a signs)
+      (λ v. ap (listed last numbers) (sym (guard-passes (validLevel level) 8 0 _ (guard (leb 1 signer) 7 0 (marksFit t (length (b .actions)) (length (b .facts)))) v refl)) ∙ signs)
+      (λ a. listed-guard last numbers (validLevel level) 8 0 _ refl a signs)
       levels in
-      let first : listed numbers marks ≡ true = listed-both numbers _ _ (task-listed numbers wide task) level-listed in
-      let second : listed numbers files ≡ true = listed-guard numbers _ 21 _ _ refl room (listed-guard numbers _ 21 _ _ refl room (listed-done numbers)) in
-      (first, second, listed-both numbers _ _ first second)
+      let first : listed last numbers marks ≡ true = listed-both last numbers _ _ (task-listed last numbers wide task) level-listed in
+      let second : listed last numbers files ≡ true = listed-guard last numbers _ 21 _ _ refl room (listed-guard last numbers _ 21 _ _ refl room (listed-done last numbers)) in
+      (first, second, listed-both last numbers _ _ first second)
 
   row-outcome : reduce task level signer (roomsOf b) .outcome ≡ row
   unfolding reduce reduceAnswer
@@ -181,16 +181,16 @@ module _ (task : List ℕ) (level signer : ℕ) (b : Buffers) where
 
   pub reduce-answers : ReduceAnswers task level signer b
   reduce-answers =
-      let listings = stage-listed markRefusals (more (8 ∷ 21 ∷ [])) (inr refl) refl in
+      let listings = stage-listed 0 markRefusals (more (8 ∷ 21 ∷ [])) (inr refl) refl in
       let o = reduce task level signer (roomsOf b) .outcome in
       record {
-        outcome = ap (listed markRefusals) row-outcome ∙ listings .2;
+        outcome = ap (listed 0 markRefusals) row-outcome ∙ listings .2;
         zeros = λ e. row-refused (ap isDone (sym row-outcome) ∙ e) ∙ ap noFiles (sym row-outcome);
         ends =
             split (isDone marks)
             (λ e.
             split (isDone files)
-            (λ n. let w = row-whole e n in inr (inr (row-outcome ∙ w .0 ∙ listed-itself markRefusals files (listings .1) n, w .1)))
+            (λ n. let w = row-whole e n in inr (inr (row-outcome ∙ w .0 ∙ listed-itself 0 markRefusals files (listings .1) n, w .1)))
             (λ n. let w = row-late e n in inr (inl ((n, row-outcome ∙ w .0), w .1))))
             (λ e. let w = row-early e in inl ((e, row-outcome ∙ w .0), w .1));
       }
@@ -216,21 +216,21 @@ module _ (task : List ℕ) (signer : ℕ) (b : Lent) where
   abbrev whole : Outcome
   whole = planStage task signer (lentRooms b)
 
-  files-listed : (listed planRefusals (markStage task 4 signer (roomsOf (b .buffers))) ≡ true) × (listed planRefusals first-files ≡ true) × (listed planRefusals (reduceStage task 4 signer (roomsOf (b .buffers))) ≡ true)
-  files-listed = stage-listed task 4 signer (b .buffers) planRefusals (more (21 ∷ 24 ∷ 25 ∷ [])) (inl level-four) refl
+  files-listed : (listed 0 planRefusals (markStage task 4 signer (roomsOf (b .buffers))) ≡ true) × (listed 0 planRefusals first-files ≡ true) × (listed 0 planRefusals (reduceStage task 4 signer (roomsOf (b .buffers))) ≡ true)
+  files-listed = stage-listed task 4 signer (b .buffers) 0 planRefusals (more (21 ∷ 24 ∷ 25 ∷ [])) (inl level-four) refl
 
-  states-listed : listed planRefusals states ≡ true
+  states-listed : listed 0 planRefusals states ≡ true
   unfolding statesFit fits
-  states-listed = listed-guard planRefusals _ 25 0 _ refl refl (listed-guard planRefusals _ 21 _ _ refl refl (listed-done planRefusals))
+  states-listed = listed-guard 0 planRefusals _ 25 0 _ refl refl (listed-guard 0 planRefusals _ 21 _ _ refl refl (listed-done 0 planRefusals))
 
-  found-listed : (plan : Option (List ℕ)) → listed planRefusals (planFits plan signer (length (b .plan))) ≡ true
+  found-listed : (plan : Option (List ℕ)) → listed 0 planRefusals (planFits plan signer (length (b .plan))) ≡ true
   unfolding planFits fits listed isDone
   found-listed none = refl
-  found-listed (some plan) = listed-guard planRefusals _ 21 _ _ refl refl (listed-done planRefusals)
+  found-listed (some plan) = listed-guard 0 planRefusals _ 21 _ _ refl refl (listed-done 0 planRefusals)
 
-  whole-listed : listed planRefusals whole ≡ true
+  whole-listed : listed 0 planRefusals whole ≡ true
   unfolding planStage searchStage
-  whole-listed = listed-both planRefusals _ _ (listed-both planRefusals _ _ (files-listed .2) states-listed) (found-listed (planFound task))
+  whole-listed = listed-both 0 planRefusals _ _ (listed-both 0 planRefusals _ _ (files-listed .2) states-listed) (found-listed (planFound task))
 
   pub whole-outcome : planAnswer task signer (lentRooms b) .outcome ≡ whole
   unfolding planAnswer
@@ -309,7 +309,7 @@ module _ (task : List ℕ) (signer : ℕ) (b : Lent) where
       split (isDone states)
       (λ s.
       split (isDone found)
-      (λ p. inr (inr (inr (inr (whole-outcome ∙ whole-is r s ∙ listed-itself planRefusals found (found-listed (planFound task)) p, together (same-buffers ∙ w .1) (table-filled r s) (rest-done r s p))))))
+      (λ p. inr (inr (inr (inr (whole-outcome ∙ whole-is r s ∙ listed-itself 0 planRefusals found (found-listed (planFound task)) p, together (same-buffers ∙ w .1) (table-filled r s) (rest-done r s p))))))
       (λ p. inr (inr (inr (inl ((p, whole-outcome ∙ whole-is r s), together (same-buffers ∙ w .1) (table-filled r s) (rest-found r s p)))))))
       (λ s. let x = rest-states r s in inr (inr (inl ((s, whole-outcome ∙ x .0), together (same-buffers ∙ w .1) (x .1) (x .2))))))
       (λ n.
@@ -324,18 +324,18 @@ module _ (task : List ℕ) (signer : ℕ) (b : Lent) where
   pub plan-answers : PlanAnswers task signer b
   plan-answers =
       record {
-        outcome = ap (listed planRefusals) whole-outcome ∙ whole-listed;
+        outcome = ap (listed 0 planRefusals) whole-outcome ∙ whole-listed;
         zeros = λ e. whole-refused (ap isDone (sym whole-outcome) ∙ e) ∙ ap unplanned (sym whole-outcome);
         ends = plan-ends;
       }
 
 -- the checks and the stretch
-check-listed : (task plan : List ℕ) → listed checkRefusals (planOutcome task plan) ≡ true
+check-listed : (task plan : List ℕ) → listed 1 checkRefusals (planOutcome task plan) ≡ true
 unfolding planOutcome
 check-listed task plan =
-    listed-both checkRefusals _ _ (task-listed checkRefusals (more (22 ∷ 23 ∷ [])) task)
-    (listed-both checkRefusals _ _ (listed-second checkRefusals _ (plan-listed checkRefusals (more (22 ∷ 23 ∷ [])) plan (actionCount (taskOf task))))
-    (steps-listed checkRefusals refl refl (taskOf task) (startState (taskOf task)) 0 (planOf plan)))
+    listed-both 1 checkRefusals _ _ (task-listed 1 checkRefusals (more (22 ∷ 23 ∷ [])) task)
+    (listed-both 1 checkRefusals _ _ (listed-second 1 checkRefusals _ (plan-listed 1 checkRefusals (more (22 ∷ 23 ∷ [])) plan (actionCount (taskOf task))))
+    (steps-listed 1 checkRefusals refl refl (taskOf task) (startState (taskOf task)) 0 (planOf plan)))
 
 check-zeros : (task plan : List ℕ) → isDone (checkPlan task plan .outcome) ≡ false → checkPlan task plan ≡ withTotal (checkPlan task plan .outcome) noSteps
 unfolding checkPlan answer withTotal
@@ -345,12 +345,12 @@ check-outcome : (task plan : List ℕ) → checkPlan task plan .outcome ≡ plan
 unfolding checkPlan answer withTotal
 check-outcome task plan = refl
 
-stretch-listed : (full reduced : List ℕ) (side action : ℕ) → listed fileRefusals (stretchOutcome full reduced side action) ≡ true
+stretch-listed : (full reduced : List ℕ) (side action : ℕ) → listed 1 fileRefusals (stretchOutcome full reduced side action) ≡ true
 unfolding stretchOutcome
 stretch-listed full reduced side action =
-    listed-both fileRefusals _ _ (task-listed fileRefusals (λ n e. e) full)
-    (listed-both fileRefusals _ _ (listed-second fileRefusals _ (task-listed fileRefusals (λ n e. e) reduced))
-    (listed-guard fileRefusals _ 5 0 _ refl refl (listed-done fileRefusals)))
+    listed-both 1 fileRefusals _ _ (task-listed 1 fileRefusals (λ n e. e) full)
+    (listed-both 1 fileRefusals _ _ (listed-second 1 fileRefusals _ (task-listed 1 fileRefusals (λ n e. e) reduced))
+    (listed-guard 1 fileRefusals _ 5 0 _ refl refl (listed-done 1 fileRefusals)))
 
 no-stretch : (full reduced : List ℕ) (side action : ℕ) → isDone (stretchOutcome full reduced side action) ≡ false → stretch full reduced side action ≡ []
 unfolding stretch
@@ -359,9 +359,9 @@ no-stretch full reduced side action e = rw e refl
 pub demand-1 : Demand1
 demand-1 =
     record {
-      check-task = task-listed fileRefusals (λ n e. e);
-      check-origin = origin-listed fileRefusals (λ n e. e);
-      check-plan = λ task plan. ap (listed checkRefusals) (check-outcome task plan) ∙ check-listed task plan;
+      check-task = task-listed 0 fileRefusals (λ n e. e);
+      check-origin = origin-listed 0 fileRefusals (λ n e. e);
+      check-plan = λ task plan. ap (listed 1 checkRefusals) (check-outcome task plan) ∙ check-listed task plan;
       check-zeros = check-zeros;
       mark = mark-answers;
       reduce = reduce-answers;

@@ -34,9 +34,9 @@ use Rattle.search.specs.Planner.{PlanRooms, planRooms, searched, planFou
 
 -- Demand 1: arbitrary input, an outcome of the list, exact buffers.
 
--- done, which has no place; or one of the refusals given by their numbers
-unfoldable pub listed : List ℕ → Outcome → Bool
-listed numbers o = cond (isDone o) (eqb (o .file) 0 && eqb (o .place) 0) (anyOf (eqb (o .number)) numbers && leb (o .file) 1)
+-- done, which has no place; or one of the refusals given by their numbers, in a file up to the last that is handed over
+unfoldable pub listed : ℕ → List ℕ → Outcome → Bool
+listed last numbers o = cond (isDone o) (eqb (o .file) 0 && eqb (o .place) 0) (anyOf (eqb (o .number)) numbers && leb (o .file) last)
 
 -- the refusals of each call
 abbrev pub fileRefusals : List ℕ
@@ -121,7 +121,7 @@ EndsWith o stage = (isDone stage ≡ false) × (o ≡ stage)
 
 -- marking: refused with both buffers untouched, or done with both written
 pub record MarkAnswers (task : List ℕ) (level : ℕ) (actions facts : List ℕ) : Type 0 where
-  pub outcome : listed markRefusals (mark task level (length actions) (length facts) .outcome) ≡ true
+  pub outcome : listed 0 markRefusals (mark task level (length actions) (length facts) .outcome) ≡ true
   pub ends :
       ((isDone (mark task level (length actions) (length facts) .outcome) ≡ false)
       × (mark task level (length actions) (length facts) ≡ noMarks (mark task level (length actions) (length facts) .outcome))
@@ -141,7 +141,7 @@ ReduceEnds task level signer b o now =
     ⊎ ((o ≡ done) × (now ≡ withFiles (taskOf task) level signer b)))
 
 pub record ReduceAnswers (task : List ℕ) (level signer : ℕ) (b : Buffers) : Type 0 where
-  pub outcome : listed markRefusals (reduce task level signer (roomsOf b) .outcome) ≡ true
+  pub outcome : listed 0 markRefusals (reduce task level signer (roomsOf b) .outcome) ≡ true
   -- beside a refusal every other number is 0
   pub zeros : isDone (reduce task level signer (roomsOf b) .outcome) ≡ false → reduce task level signer (roomsOf b) ≡ noFiles (reduce task level signer (roomsOf b) .outcome)
   pub ends : ReduceEnds task level signer b (reduce task level signer (roomsOf b) .outcome) (reduceAfter task level signer b)
@@ -160,18 +160,18 @@ PlanEnds task signer b o now =
     × (now ≡ lent (withFiles (taskOf task) 4 signer (b .buffers)) (overwrite (b .table) (tableOf (searched task))) (overwrite (b .plan) (planFile (planMade task) signer)))))))
 
 pub record PlanAnswers (task : List ℕ) (signer : ℕ) (b : Lent) : Type 0 where
-  pub outcome : listed planRefusals (planAnswer task signer (lentRooms b) .outcome) ≡ true
+  pub outcome : listed 0 planRefusals (planAnswer task signer (lentRooms b) .outcome) ≡ true
   pub zeros : isDone (planAnswer task signer (lentRooms b) .outcome) ≡ false → planAnswer task signer (lentRooms b) ≡ unplanned (planAnswer task signer (lentRooms b) .outcome)
   pub ends : PlanEnds task signer b (planAnswer task signer (lentRooms b) .outcome) (planAfter task signer b)
 
 pub record Demand1 : Type 0 where
-  pub check-task : (file : List ℕ) → listed fileRefusals (checkTask file) ≡ true
-  pub check-origin : (file : List ℕ) → listed fileRefusals (checkOrigin file) ≡ true
-  pub check-plan : (task plan : List ℕ) → listed checkRefusals (checkPlan task plan .outcome) ≡ true
+  pub check-task : (file : List ℕ) → listed 0 fileRefusals (checkTask file) ≡ true
+  pub check-origin : (file : List ℕ) → listed 0 fileRefusals (checkOrigin file) ≡ true
+  pub check-plan : (task plan : List ℕ) → listed 1 checkRefusals (checkPlan task plan .outcome) ≡ true
   pub check-zeros : (task plan : List ℕ) → isDone (checkPlan task plan .outcome) ≡ false → checkPlan task plan ≡ withTotal (checkPlan task plan .outcome) noSteps
   pub mark : (task : List ℕ) (level : ℕ) (actions facts : List ℕ) → MarkAnswers task level actions facts
   pub reduce : (task : List ℕ) (level signer : ℕ) (b : Buffers) → ReduceAnswers task level signer b
-  pub conditions : (full reduced : List ℕ) (side action : ℕ) → listed fileRefusals (stretchOutcome full reduced side action) ≡ true
+  pub conditions : (full reduced : List ℕ) (side action : ℕ) → listed 1 fileRefusals (stretchOutcome full reduced side action) ≡ true
   pub no-stretch : (full reduced : List ℕ) (side action : ℕ) → isDone (stretchOutcome full reduced side action) ≡ false → stretch full reduced side action ≡ []
   pub plan : (task : List ℕ) (signer : ℕ) (b : Lent) → PlanAnswers task signer b
 
