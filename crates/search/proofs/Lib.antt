@@ -23,6 +23,7 @@ pub mod Settling
 pub mod Offering
 pub mod HeldStates
 pub mod Picking
+pub mod Blocks
 pub mod Begun
 pub mod Searching
 pub mod Hand

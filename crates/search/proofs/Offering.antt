@@ -74,6 +74,9 @@ lowered-is x y = split (lessEntry x y) (λ e. inr (rw e)) (λ e. inl (rw e))
 pub lessEntry-self : (x : Entry) → lessEntry x x ≡ false
 lessEntry-self x = less-some x x ∙ le-refl (some (totalIn x))
 
+pub lessEntry-trans : (x y z : Entry) → lessEntry y x ≡ false → lessEntry z y ≡ false → lessEntry z x ≡ false
+lessEntry-trans x y z e h = less-some z x ∙ le-trans (some (totalIn x)) (some (totalIn y)) (some (totalIn z)) (sym (less-some y x) ∙ e) (sym (less-some z y) ∙ h)
+
 pub lessEntry-below : (x y z : Entry) → lessEntry x y ≡ true → lessEntry z y ≡ false → lessEntry z x ≡ false
 lessEntry-below x y z e h =
     less-some z x

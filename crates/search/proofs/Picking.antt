@@ -1,5 +1,5 @@
--- Picking the open state with the least entry, state by state.
-use Prim.Native.Nat.{ℕ, _+_, _≤_, _<_}
+-- Picking the open state with the least entry: state by state, and of two stretches of states.
+use Prim.Native.Nat.{ℕ, _+_, _*_, _≤_, _<_}
 use mathlib.Core.Path.{_≡_, sym, subst}
 use mathlib.Core.Bool.{true, false}
 use mathlib.Core.List.{List}
@@ -8,66 +8,123 @@ use lib.ListN.{getD}
 use Rattle.files.proofs.Logic.{split-le}
 use Rattle.search.specs.Columns.{entryIn, lessEntry}
 use Rattle.search.specs.Settling.{Picked}
-use Rattle.search.proofs.Offering.{top, lessEntry-self, lessEntry-below}
+use Rattle.search.proofs.Offering.{top, lessEntry-self, lessEntry-below, lessEntry-trans}
 
 module _ (minutes steps settled : List ℕ) (count : ℕ) where
-  pub pick-none : Picked minutes steps settled count 0 count
-  pick-none =
+  pub pick-none : (from : ℕ) → Picked minutes steps settled count from from count
+  pick-none from =
       record {
         range = omega arith;
+        inside = λ h. absurd (omega arith);
         unsettled = λ h. absurd (omega arith);
         has-entry = λ h. absurd (omega arith);
-        least = λ h s l. absurd (omega arith);
-        none-left = λ e s l. absurd (omega arith);
+        least = λ h s a l. absurd (omega arith);
+        none-left = λ e s a l. absurd (omega arith);
       }
 
-  -- state s is settled or has no entry
-  pub pick-skip : (s best : ℕ) → Picked minutes steps settled count s best → (getD settled s 0 ≡ 0 → getD minutes s 0 < top → ⊥) → Picked minutes steps settled count (s + 1) best
-  pick-skip s best p f =
-      record {
-        range = p .range;
-        unsettled = p .unsettled;
-        has-entry = p .has-entry;
-        least = λ h r l z w. split-le s r (λ q. let e : r ≡ s = omega arith in absurd (f (subst (λ (i : ℕ). getD settled i 0 ≡ 0) e z) (subst (λ (i : ℕ). getD minutes i 0 < top) e w))) (λ q. p .least h r q z w);
-        none-left = λ e r l z w. split-le s r (λ q. let e : r ≡ s = omega arith in f (subst (λ (i : ℕ). getD settled i 0 ≡ 0) e z) (subst (λ (i : ℕ). getD minutes i 0 < top) e w)) (λ q. p .none-left e r q z w);
-      }
-
-  -- it is the first with an entry, or less than the best so far
-  pub pick-new : (s best : ℕ) → Picked minutes steps settled count s best → s < count → getD settled s 0 ≡ 0 → getD minutes s 0 < top
-      → (best < count → lessEntry (entryIn minutes steps s) (entryIn minutes steps best) ≡ true) → Picked minutes steps settled count (s + 1) s
-  pick-new s best p h o m e =
+  -- an open state with an entry, alone
+  pub pick-one : (s : ℕ) → s < count → getD settled s 0 ≡ 0 → getD minutes s 0 < top → Picked minutes steps settled count s (s + 1) s
+  pick-one s h o m =
       record {
         range = omega arith;
+        inside = λ _. (omega arith, omega arith);
         unsettled = λ _. o;
         has-entry = λ _. m;
-        least =
-            λ k r l z w.
-            split-le s r
-            (λ q.
-            let same : r ≡ s = omega arith in
-            subst (λ (i : ℕ). lessEntry (entryIn minutes steps i) (entryIn minutes steps s) ≡ false) (sym same) (lessEntry-self (entryIn minutes steps s)))
-            (λ q.
-            split-le count best
-            (λ b. absurd (p .none-left (omega (arith, p .range)) r q z w))
-            (λ b. lessEntry-below (entryIn minutes steps s) (entryIn minutes steps best) (entryIn minutes steps r) (e b) (p .least b r q z w)));
+        least = λ _ r a l c z w. let same : r ≡ s = omega arith in subst (λ (i : ℕ). lessEntry (entryIn minutes steps i) (entryIn minutes steps s) ≡ false) (sym same) (lessEntry-self (entryIn minutes steps s));
         none-left = λ q. absurd (omega arith);
       }
 
-  -- it is no less than the best so far
-  pub pick-keep : (s best : ℕ) → Picked minutes steps settled count s best → best < count → lessEntry (entryIn minutes steps s) (entryIn minutes steps best) ≡ false
-      → Picked minutes steps settled count (s + 1) best
-  pick-keep s best p h e =
+  -- a state that is settled or has no entry, alone
+  pub pick-not : (s : ℕ) → (getD settled s 0 ≡ 0 → getD minutes s 0 < top → ⊥) → Picked minutes steps settled count s (s + 1) count
+  pick-not s f =
+      record {
+        range = omega arith;
+        inside = λ h. absurd (omega arith);
+        unsettled = λ h. absurd (omega arith);
+        has-entry = λ h. absurd (omega arith);
+        least = λ h. absurd (omega arith);
+        none-left = λ e r a l c z w. let same : r ≡ s = omega arith in f (subst (λ (i : ℕ). getD settled i 0 ≡ 0) same z) (subst (λ (i : ℕ). getD minutes i 0 < top) same w);
+      }
+
+  -- states behind the last change nothing
+  pub pick-to : (from limit more best : ℕ) → limit ≤ more → (limit < more → count ≤ limit) → Picked minutes steps settled count from limit best → Picked minutes steps settled count from more best
+  pick-to from limit more best h k p =
       record {
         range = p .range;
+        inside = λ l. (p .inside l .0, omega (arith, p .inside l .1));
         unsettled = p .unsettled;
         has-entry = p .has-entry;
-        least =
-            λ k r l z w.
-            split-le s r
-            (λ q. let same : r ≡ s = omega arith in subst (λ (i : ℕ). lessEntry (entryIn minutes steps i) (entryIn minutes steps best) ≡ false) (sym same) e)
-            (λ q. p .least k r q z w);
-        none-left = λ q. absurd (omega arith);
+        least = λ l s a b c z w. p .least l s a (below s b c) c z w;
+        none-left = λ e s a b c z w. p .none-left e s a (below s b c) c z w;
+      }
+    where
+      below : (s : ℕ) → s < more → s < count → s < limit
+      below s b c = split-le more limit (λ m. omega arith) (λ m. omega (arith, k m))
+
+  pub pick-all : (limit best : ℕ) → count ≤ limit → Picked minutes steps settled count 0 limit best → Picked minutes steps settled count 0 count best
+  pick-all limit best h p =
+      record {
+        range = p .range;
+        inside = λ l. (omega arith, l);
+        unsettled = p .unsettled;
+        has-entry = p .has-entry;
+        least = λ l s a b c z w. p .least l s a (omega arith) c z w;
+        none-left = λ e s a b c z w. p .none-left e s a (omega arith) c z w;
       }
 
-  pub pick-all : (s best : ℕ) → Picked minutes steps settled count s best → s ≤ count → count ≤ s → Picked minutes steps settled count count best
-  pick-all s best p h k = subst (λ (i : ℕ). Picked minutes steps settled count i best) (omega arith) p
+  pub pick-block : (b best : ℕ) → Picked minutes steps settled count 0 (64 * b + 64) best → Picked minutes steps settled count 0 (64 * (b + 1)) best
+  pick-block b best p = subst (λ (limit : ℕ). Picked minutes steps settled count 0 limit best) (omega arith) p
+
+  -- of two stretches
+  module _ (from middle limit first second : ℕ) (h : from ≤ middle) (k : middle ≤ limit) (p : Picked minutes steps settled count from middle first) (q : Picked minutes steps settled count middle limit second) where
+    pub join-first : second ≡ count → Picked minutes steps settled count from limit first
+    join-first e =
+        record {
+          range = p .range;
+          inside = λ l. (p .inside l .0, omega (arith, p .inside l .1));
+          unsettled = p .unsettled;
+          has-entry = p .has-entry;
+          least = λ l s a b c z w. split-le middle s (λ m. absurd (q .none-left e s m b c z w)) (λ m. p .least l s a m c z w);
+          none-left = λ e′ s a b c z w. split-le middle s (λ m. q .none-left e s m b c z w) (λ m. p .none-left e′ s a m c z w);
+        }
+
+    pub join-second : first ≡ count → Picked minutes steps settled count from limit second
+    join-second e =
+        record {
+          range = q .range;
+          inside = λ l. (omega (arith, q .inside l .0), q .inside l .1);
+          unsettled = q .unsettled;
+          has-entry = q .has-entry;
+          least = λ l s a b c z w. split-le middle s (λ m. q .least l s m b c z w) (λ m. absurd (p .none-left e s a m c z w));
+          none-left = λ e′ s a b c z w. split-le middle s (λ m. q .none-left e′ s m b c z w) (λ m. p .none-left e s a m c z w);
+        }
+
+    pub join-less : first < count → second < count → lessEntry (entryIn minutes steps second) (entryIn minutes steps first) ≡ true → Picked minutes steps settled count from limit second
+    join-less f g e =
+        record {
+          range = q .range;
+          inside = λ l. (omega (arith, q .inside l .0), q .inside l .1);
+          unsettled = q .unsettled;
+          has-entry = q .has-entry;
+          least =
+              λ l s a b c z w.
+              split-le middle s
+              (λ m. q .least l s m b c z w)
+              (λ m. lessEntry-below (entryIn minutes steps second) (entryIn minutes steps first) (entryIn minutes steps s) e (p .least f s a m c z w));
+          none-left = λ e′. absurd (omega arith);
+        }
+
+    pub join-keep : first < count → second < count → lessEntry (entryIn minutes steps second) (entryIn minutes steps first) ≡ false → Picked minutes steps settled count from limit first
+    join-keep f g e =
+        record {
+          range = p .range;
+          inside = λ l. (p .inside l .0, omega (arith, p .inside l .1));
+          unsettled = p .unsettled;
+          has-entry = p .has-entry;
+          least =
+              λ l s a b c z w.
+              split-le middle s
+              (λ m. lessEntry-trans (entryIn minutes steps first) (entryIn minutes steps second) (entryIn minutes steps s) e (q .least g s m b c z w))
+              (λ m. p .least l s a m c z w);
+          none-left = λ e′. absurd (omega arith);
+        }

@@ -87,7 +87,7 @@ pub record Searching (d : Arrays) (count : ℕ) (minutes steps settled : List �
   pub size : length settled ≡ 4096
   pub going : Going (held d) (columnDistance minutes steps) (isSettled settled)
   pub small : (s : ℕ) → s < count → Small (openCount settled) (entryIn minutes steps s)
-  pub picked : Picked minutes steps settled count count u
+  pub picked : Picked minutes steps settled count 0 count u
 
 module _ (d : Arrays) (count : ℕ) where
   -- the first round
@@ -109,7 +109,7 @@ module _ (d : Arrays) (count : ℕ) where
     unfolding noSteps
     no-steps = refl
 
-    pub begin : count ≤ length minutes → count ≤ length steps → (u : ℕ) → Picked minutes steps (replicate 4096 0) count count u → Searching d count minutes steps (replicate 4096 0) u
+    pub begin : count ≤ length minutes → count ≤ length steps → (u : ℕ) → Picked minutes steps (replicate 4096 0) count 0 count u → Searching d count minutes steps (replicate 4096 0) u
     begin long-minutes long-steps u p =
         record {
           accepted = accepted;
@@ -158,7 +158,7 @@ module _ (d : Arrays) (count : ℕ) where
         (λ z. subst (λ (x : Distance). Le (columnDistance minutes steps u) x) (sym z) (le-none (columnDistance minutes steps u)))
         (λ z.
         rw (distance-some (entryIn minutes steps u) (r .picked .has-entry h), distance-some (entryIn minutes steps s) z)
-        (sym (less-some (entryIn minutes steps s) (entryIn minutes steps u)) ∙ r .picked .least h s l (is-open settled s e) z))
+        (sym (less-some (entryIn minutes steps s) (entryIn minutes steps u)) ∙ r .picked .least h s (omega arith) l l (is-open settled s e) z))
         (small-distance (openCount settled) (entryIn minutes steps s) (r .small s l))
 
     cheap : (a : ℕ) → actionOf (held d) a .cost ≤ 1000000
@@ -187,7 +187,7 @@ module _ (d : Arrays) (count : ℕ) where
           (λ a k. sym (held-actions d a (omega (arith, actions-held d))))
           ∙ rw (actions-held d, held-variables d) refl
 
-      pub next : count ≤ length minutes′ → count ≤ length steps′ → (v : ℕ) → Picked minutes′ steps′ (set settled u 1) count count v → Searching d count minutes′ steps′ (set settled u 1) v
+      pub next : count ≤ length minutes′ → count ≤ length steps′ → (v : ℕ) → Picked minutes′ steps′ (set settled u 1) count 0 count v → Searching d count minutes′ steps′ (set settled u 1) v
       next long-minutes long-steps v p =
           let t = held d in
           let relaxed = offered-relaxed t (entryIn minutes steps) (entryIn minutes′ steps′) u (λ a k. affordable a) by-task in
@@ -222,7 +222,7 @@ module _ (d : Arrays) (count : ℕ) where
     none-open s l e =
         ⊎-elim
         (λ z. z)
-        (λ z. absurd (r .picked .none-left (omega (arith, r .picked .range)) s l (is-open settled′ s e) z))
+        (λ z. absurd (r .picked .none-left (omega (arith, r .picked .range)) s (omega arith) l l (is-open settled′ s e) z))
         (small-distance (openCount settled′) (entryIn minutes steps s) (r .small s l))
 
     is-distance : (s : ℕ) → s < count → columnDistance minutes steps s ≡ getD (distances (held d)) s none

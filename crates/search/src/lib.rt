@@ -4,6 +4,7 @@ mod columns;
 mod first_plan;
 pub mod own_table;
 mod row;
+mod selection;
 mod states;
 mod steps_to;
 mod table;

@@ -10,6 +10,7 @@ ghost use Rattle.files.specs.Dense.{rowAction};
 ghost use Rattle.plans.specs.Tally.{listState, meetsEntry};
 ghost use Rattle.search.specs.Table.{entry};
 ghost use Rattle.search.specs.Columns.{entryIn, lowered, leadsTo, offered, rowVariables, rowStates, rowWeight, rowState, canHave, canReach, differsOnly, StepRow, Searchable};
+ghost use Rattle.search.specs.Settling.{Unchanged};
 use crate::columns;
 use crate::states;
 use files::bytes;
@@ -90,6 +91,7 @@ fn next_effect(effects: &[u8; 32768], base: usize, from: usize, variables: usize
 fn offer(
     minutes: &mut [u64],
     steps: &mut [u16],
+    changed: &mut [u8],
     sizes: &[u8; 64],
     weights: &[usize; 64],
     conditions: &[u8; 32768],
@@ -101,8 +103,8 @@ fn offer(
     cost: u64,
     count: u16,
 )
-    requires { ⌜ StepRow variables base (now sizes) (now weights) (now conditions) (now effects) × (rowStates variables (now sizes) ≤ length (now minutes)) × (rowStates variables (now sizes) ≤ length (now steps)) × (from ≤ variables) × (number < rowStates variables (now sizes)) × ((v : ℕ) → from ≤ v → v < variables → (getD (now effects) (base + v) 0 ≡ 255 → ⊥) → rowState variables (now sizes) number v ≡ getD (now effects) (base + v) 0) ⌝ }
-    ensures { λ r. ⌜ ((s : ℕ) → s < rowStates variables (now (sizes .entry)) → entryIn (now (minutes .exit)) (now (steps .exit)) s ≡ cond (differsOnly (now (conditions .entry)) (now (effects .entry)) base variables from (rowState variables (now (sizes .entry)) number) (rowState variables (now (sizes .entry)) s)) (lowered (entry cost count) (entryIn (now (minutes .entry)) (now (steps .entry)) s)) (entryIn (now (minutes .entry)) (now (steps .entry)) s)) ⌝ }
+    requires { ⌜ StepRow variables base (now sizes) (now weights) (now conditions) (now effects) × (rowStates variables (now sizes) ≤ length (now minutes)) × (rowStates variables (now sizes) ≤ length (now steps)) × (from ≤ variables) × (number < rowStates variables (now sizes)) × ((v : ℕ) → from ≤ v → v < variables → (getD (now effects) (base + v) 0 ≡ 255 → ⊥) → rowState variables (now sizes) number v ≡ getD (now effects) (base + v) 0) × (64 ≤ length (now changed)) ⌝ }
+    ensures { λ r. ⌜ ((s : ℕ) → s < rowStates variables (now (sizes .entry)) → entryIn (now (minutes .exit)) (now (steps .exit)) s ≡ cond (differsOnly (now (conditions .entry)) (now (effects .entry)) base variables from (rowState variables (now (sizes .entry)) number) (rowState variables (now (sizes .entry)) s)) (lowered (entry cost count) (entryIn (now (minutes .entry)) (now (steps .entry)) s)) (entryIn (now (minutes .entry)) (now (steps .entry)) s)) × Unchanged (now (changed .entry)) (now (minutes .entry)) (now (steps .entry)) (now (changed .exit)) (now (minutes .exit)) (now (steps .exit)) ⌝ }
 {
     let v = next_effect(effects, base, from, variables);
     if v < variables {
@@ -118,6 +120,7 @@ fn offer(
             offer(
                 minutes,
                 steps,
+                changed,
                 sizes,
                 weights,
                 conditions,
@@ -132,7 +135,7 @@ fn offer(
             value += 1;
         }
     } else {
-        columns::lower(minutes, steps, number, cost, count);
+        columns::lower(minutes, steps, changed, number, cost, count);
     }
 }
 
@@ -140,6 +143,7 @@ fn offer(
 fn offer_action(
     minutes: &mut [u64],
     steps: &mut [u16],
+    changed: &mut [u8],
     sizes: &[u8; 64],
     weights: &[usize; 64],
     conditions: &[u8; 32768],
@@ -151,14 +155,15 @@ fn offer_action(
     cost: u64,
     count: u16,
 )
-    requires { ⌜ StepRow variables (64 * a) (now sizes) (now weights) (now conditions) (now effects) × (rowStates variables (now sizes) ≤ length (now minutes)) × (rowStates variables (now sizes) ≤ length (now steps)) × (x < rowStates variables (now sizes)) × (listState (now values) ≡ rowState variables (now sizes) x) ⌝ }
-    ensures { λ r. ⌜ ((starts costs : List ℕ) (s : ℕ) → s < rowStates variables (now (sizes .entry)) → entryIn (now (minutes .exit)) (now (steps .exit)) s ≡ cond (leadsTo (rowVariables variables (now (sizes .entry)) starts) (rowAction variables costs (now (conditions .entry)) (now (effects .entry)) a) s x) (lowered (entry cost count) (entryIn (now (minutes .entry)) (now (steps .entry)) s)) (entryIn (now (minutes .entry)) (now (steps .entry)) s)) ⌝ }
+    requires { ⌜ StepRow variables (64 * a) (now sizes) (now weights) (now conditions) (now effects) × (rowStates variables (now sizes) ≤ length (now minutes)) × (rowStates variables (now sizes) ≤ length (now steps)) × (x < rowStates variables (now sizes)) × (listState (now values) ≡ rowState variables (now sizes) x) × (64 ≤ length (now changed)) ⌝ }
+    ensures { λ r. ⌜ ((starts costs : List ℕ) (s : ℕ) → s < rowStates variables (now (sizes .entry)) → entryIn (now (minutes .exit)) (now (steps .exit)) s ≡ cond (leadsTo (rowVariables variables (now (sizes .entry)) starts) (rowAction variables costs (now (conditions .entry)) (now (effects .entry)) a) s x) (lowered (entry cost count) (entryIn (now (minutes .entry)) (now (steps .entry)) s)) (entryIn (now (minutes .entry)) (now (steps .entry)) s)) × Unchanged (now (changed .entry)) (now (minutes .entry)) (now (steps .entry)) (now (changed .exit)) (now (minutes .exit)) (now (steps .exit)) ⌝ }
 {
     let base = 64 * a;
     if reaches(conditions, effects, base, variables, values) {
         offer(
             minutes,
             steps,
+            changed,
             sizes,
             weights,
             conditions,
@@ -177,6 +182,7 @@ fn offer_action(
 pub fn settle(
     minutes: &mut [u64],
     steps: &mut [u16],
+    changed: &mut [u8],
     sizes: &[u8; 64],
     weights: &[usize; 64],
     costs: &[u32; 512],
@@ -186,8 +192,8 @@ pub fn settle(
     actions: usize,
     x: usize,
 )
-    requires { ⌜ Searchable variables actions (now sizes) (now costs) (now conditions) (now effects) × (rowStates variables (now sizes) ≤ length (now minutes)) × (rowStates variables (now sizes) ≤ length (now steps)) × ((v : ℕ) → v < variables → getD (now weights) v 0 ≡ rowWeight (now sizes) v) × (x < rowStates variables (now sizes)) × (getD (now minutes) x 0 < 18446744073000000000) × (getD (now steps) x 0 < 65535) ⌝ }
-    ensures { λ r. ⌜ ((starts : List ℕ) (s : ℕ) → s < rowStates variables (now (sizes .entry)) → entryIn (now (minutes .exit)) (now (steps .exit)) s ≡ offered (rowVariables variables (now (sizes .entry)) starts) (rowAction variables (now (costs .entry)) (now (conditions .entry)) (now (effects .entry))) x (entryIn (now (minutes .entry)) (now (steps .entry)) x) s (entryIn (now (minutes .entry)) (now (steps .entry)) s) actions) ⌝ }
+    requires { ⌜ Searchable variables actions (now sizes) (now costs) (now conditions) (now effects) × (rowStates variables (now sizes) ≤ length (now minutes)) × (rowStates variables (now sizes) ≤ length (now steps)) × ((v : ℕ) → v < variables → getD (now weights) v 0 ≡ rowWeight (now sizes) v) × (x < rowStates variables (now sizes)) × (getD (now minutes) x 0 < 18446744073000000000) × (getD (now steps) x 0 < 65535) × (64 ≤ length (now changed)) ⌝ }
+    ensures { λ r. ⌜ ((starts : List ℕ) (s : ℕ) → s < rowStates variables (now (sizes .entry)) → entryIn (now (minutes .exit)) (now (steps .exit)) s ≡ offered (rowVariables variables (now (sizes .entry)) starts) (rowAction variables (now (costs .entry)) (now (conditions .entry)) (now (effects .entry))) x (entryIn (now (minutes .entry)) (now (steps .entry)) x) s (entryIn (now (minutes .entry)) (now (steps .entry)) s) actions) × Unchanged (now (changed .entry)) (now (minutes .entry)) (now (steps .entry)) (now (changed .exit)) (now (minutes .exit)) (now (steps .exit)) ⌝ }
 {
     let cost = minutes[x];
     let count = steps[x] + 1;
@@ -198,6 +204,7 @@ pub fn settle(
         offer_action(
             minutes,
             steps,
+            changed,
             sizes,
             weights,
             conditions,

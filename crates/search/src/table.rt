@@ -12,51 +12,10 @@ ghost use Rattle.search.specs.States.{stateCount, stateAt};
 ghost use Rattle.search.specs.Table.{tableOf};
 ghost use Rattle.search.specs.FirstPlan.{startNumber};
 ghost use Rattle.search.specs.Columns.{entryIn, entriesIn, rowVariables};
-ghost use Rattle.search.specs.Settling.{firstEntry, Picked};
-use crate::columns;
+ghost use Rattle.search.specs.Settling.{firstEntry};
+use crate::selection;
 use crate::states;
 use crate::steps_to;
-
-// Of the best state so far, or `count`, and state s the better: one that is open and has an entry.
-fn better(
-    minutes: &[u64],
-    steps: &[u16],
-    settled: &[u8],
-    count: usize,
-    best: usize,
-    s: usize,
-) -> usize
-    requires { ⌜ Picked (now minutes) (now steps) (now settled) count s best × (s < count) × (count ≤ length (now minutes)) × (count ≤ length (now steps)) × (count ≤ length (now settled)) ⌝ }
-    ensures { λ r. ⌜ Picked (now (minutes .entry)) (now (steps .entry)) (now (settled .entry)) count (s + 1) r ⌝ }
-{
-    if settled[s] != 0 {
-        return best;
-    }
-    if minutes[s] == 18446744073709551615 {
-        return best;
-    }
-    if best == count {
-        return s;
-    }
-    if columns::less(minutes[s], steps[s], minutes[best], steps[best]) {
-        return s;
-    }
-    best
-}
-
-// The open state with the least entry, or `count` where no open state has one.
-fn select(minutes: &[u64], steps: &[u16], settled: &[u8], count: usize) -> usize
-    requires { ⌜ (count ≤ length (now minutes)) × (count ≤ length (now steps)) × (count ≤ length (now settled)) ⌝ }
-    ensures { λ r. ⌜ Picked (now (minutes .entry)) (now (steps .entry)) (now (settled .entry)) count count r ⌝ }
-{
-    let mut best = count;
-    let mut s: usize = 0;
-    while s < count {
-        best = better(minutes, steps, settled, count, best, s);
-        s += 1;
-    }
-    best
-}
 
 // The entry of a state before any step.
 fn store(minutes: &mut [u64], steps: &mut [u16], state: usize, reached: bool)
@@ -118,12 +77,16 @@ pub fn search(
     begin(minutes, steps, sizes, goal, variables, count);
     let weights = states::weights(sizes, variables);
     let mut settled = [0u8; 4096];
-    let mut s = select(minutes, steps, &settled, count);
+    let mut changed = [1u8; 64];
+    let mut least = [0usize; 64];
+    let mut s = selection::select(minutes, steps, &settled, &mut changed, &mut least, count);
     while s < count {
         settled[s] = 1;
+        changed[s / 64] = 1;
         steps_to::settle(
             minutes,
             steps,
+            &mut changed,
             sizes,
             &weights,
             costs,
@@ -133,7 +96,7 @@ pub fn search(
             actions,
             s,
         );
-        s = select(minutes, steps, &settled, count);
+        s = selection::select(minutes, steps, &settled, &mut changed, &mut least, count);
     }
     states::start_number(sizes, starts, variables)
 }

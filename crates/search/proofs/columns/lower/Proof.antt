@@ -1,8 +1,13 @@
 use borrow.Author.Needs.{needs}
 use denote.Ref.{now}
+use native.Mathlib.Omega.{arith}
+use Rattle.search.proofs.Blocks.{block-few, unchanged-none, unchanged-set}
 use Rattle.search.proofs.ColumnLaws.{lower-yes, lower-no}
 use Rattle.search.proofs.columns.lower.Statement.{statement}
 use Rattle.search.proofs.columns.lower.Tie as tie
+
+abbrev to-start : tie.After-less → tie.Start
+to-start x = x .before .before .before .before .before .before
 
 mul-less : tie.Need-mul-less
 mul-less c = search needs
@@ -31,24 +36,31 @@ mul-steps c = search needs
 slice-write-steps : tie.Need-slice-write-steps
 slice-write-steps c = search needs
 
+slice-write-changed : tie.Need-slice-write-changed
+slice-write-changed c = let start = c .before .before .before .before .before .before .before in omega (arith, block-few _ (start .pre .2), start .pre .3)
+
 same-length : tie.Need-same-length
 same-length c = search needs
 
 same-length-2 : tie.Need-same-length-2
 same-length-2 c = search needs
 
-abbrev to-start : tie.After-less → tie.Start
-to-start x = x .before .before .before .before .before
+same-length-3 : tie.Need-same-length-3
+same-length-3 c = search needs
 
 returns : tie.Need-returns
 returns c =
-    let start = to-start (c .before) in
-    lower-yes (now (start .args .minutes)) (now (start .args .steps)) _ _ _ _ (c .before .less .ensures) (c .if1 .taken) (start .pre .0) (start .pre .1)
+    let start = to-start (c .before) in (
+      lower-yes (now (start .args .minutes)) (now (start .args .steps)) _ _ _ _ (c .before .less .ensures) (c .if1 .taken) (start .pre .0) (start .pre .1),
+      unchanged-set (now (start .args .changed)) (now (start .args .minutes)) (now (start .args .steps)) _ _ _ (omega (arith, block-few _ (start .pre .2), start .pre .3)),
+    )
 
 returns-2 : tie.Need-returns-2
 returns-2 c =
-    let start = to-start (c .before) in
-    lower-no (now (start .args .minutes)) (now (start .args .steps)) _ _ _ _ (c .before .less .ensures) (c .if1 .left)
+    let start = to-start (c .before) in (
+      lower-no (now (start .args .minutes)) (now (start .args .steps)) _ _ _ _ (c .before .less .ensures) (c .if1 .left),
+      unchanged-none (now (start .args .changed)) (now (start .args .minutes)) (now (start .args .steps)),
+    )
 
 pub lower-spec : {M : Type 1} → statement M
 lower-spec =
@@ -63,7 +75,9 @@ lower-spec =
     slice-write-minutes
     mul-steps
     slice-write-steps
+    slice-write-changed
     same-length
     same-length-2
+    same-length-3
     returns
     returns-2)
