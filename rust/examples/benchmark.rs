@@ -4,7 +4,7 @@
 use std::hint::black_box;
 use std::time::{Duration, Instant};
 
-use shortest_check::answers::{Buffers, Entry, Marked, Outcome, Planned, Reduced};
+use shortest_check::answers::{Buffers, Mark, Outcome, Plan, Reduce};
 use shortest_check::reference::files::{Action, Fact, Task, Variable};
 use shortest_check::reference::generate::{self, task_file, Random};
 use shortest_check::{library, reference};
@@ -36,11 +36,8 @@ fn tasks() -> [(&'static str, Task); 7] {
 fn with_plan(random: &mut Random, family: fn(&mut Random) -> Task) -> Task {
     loop {
         let task = family(random);
-        if Calls::LIBRARY
-            .plan(&task_file(&task), &mut Buffers::long())
-            .steps
-            > 1
-        {
+        let planned = Buffers::long().plan(library::plan, &task_file(&task), 1);
+        if planned.steps > 1 {
             return task;
         }
     }
@@ -94,13 +91,9 @@ fn crowded_counter(random: &mut Random) -> Task {
     task
 }
 
-type Reduce = fn(&[u8], u32, u32, &mut [u8], &mut [u8], &mut [u8], &mut [u8]) -> Reduced;
-type Plan =
-    fn(&[u8], u32, &mut [u8], &mut [u8], &mut [u8], &mut [u8], &mut [Entry], &mut [u8]) -> Planned;
-
 struct Calls {
     check: fn(&[u8]) -> Outcome,
-    mark: fn(&[u8], u32, &mut [u8], &mut [u8]) -> Marked,
+    mark: Mark,
     reduce: Reduce,
     plan: Plan,
 }
@@ -118,37 +111,12 @@ impl Calls {
         reduce: reference::reduce,
         plan: reference::plan,
     };
-
-    fn reduce(&self, file: &[u8], lent: &mut Buffers) -> Reduced {
-        (self.reduce)(
-            file,
-            4,
-            1,
-            &mut lent.action_marks,
-            &mut lent.fact_marks,
-            &mut lent.reduced,
-            &mut lent.origin,
-        )
-    }
-
-    fn plan(&self, file: &[u8], lent: &mut Buffers) -> Planned {
-        (self.plan)(
-            file,
-            1,
-            &mut lent.action_marks,
-            &mut lent.fact_marks,
-            &mut lent.reduced,
-            &mut lent.origin,
-            &mut lent.table,
-            &mut lent.plan,
-        )
-    }
 }
 
 fn measure(name: &str, file: &[u8]) {
     let lent = &mut Buffers::long();
-    let planned = Calls::LIBRARY.plan(file, lent);
-    let reduced = Calls::LIBRARY.reduce(file, lent);
+    let planned = lent.plan(library::plan, file, 1);
+    let reduced = lent.reduce(library::reduce, file, 4, 1);
     println!(
         "\n{name}: {} bytes, {} rounds, outcome {}, {} states, {} steps",
         file.len(),
@@ -179,11 +147,11 @@ fn measure(name: &str, file: &[u8]) {
         print(&format!("mark, level {level}"), mark);
     }
     let reduce = pair(&mut |calls| {
-        black_box(calls.reduce(black_box(file), lent));
+        black_box(lent.reduce(calls.reduce, black_box(file), 4, 1));
     });
     print("reduce", reduce);
     let plan = pair(&mut |calls| {
-        black_box(calls.plan(black_box(file), lent));
+        black_box(lent.plan(calls.plan, black_box(file), 1));
     });
     if planned.outcome.is_done() {
         let search = [0, 1].map(|side| plan[side].saturating_sub(reduce[side]));

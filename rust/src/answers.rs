@@ -90,6 +90,11 @@ impl Entry {
     };
 }
 
+pub type Mark = fn(&[u8], u32, &mut [u8], &mut [u8]) -> Marked;
+pub type Reduce = fn(&[u8], u32, u32, &mut [u8], &mut [u8], &mut [u8], &mut [u8]) -> Reduced;
+pub type Plan =
+    fn(&[u8], u32, &mut [u8], &mut [u8], &mut [u8], &mut [u8], &mut [Entry], &mut [u8]) -> Planned;
+
 /// The planner's buffers.
 pub struct Buffers {
     pub action_marks: Vec<u8>,
@@ -111,6 +116,31 @@ impl Buffers {
             table: vec![Entry::NONE; 4_096],
             plan: vec![0; 8_206],
         }
+    }
+
+    pub fn reduce(&mut self, reduce: Reduce, task: &[u8], level: u32, signer: u32) -> Reduced {
+        reduce(
+            task,
+            level,
+            signer,
+            &mut self.action_marks,
+            &mut self.fact_marks,
+            &mut self.reduced,
+            &mut self.origin,
+        )
+    }
+
+    pub fn plan(&mut self, plan: Plan, task: &[u8], signer: u32) -> Planned {
+        plan(
+            task,
+            signer,
+            &mut self.action_marks,
+            &mut self.fact_marks,
+            &mut self.reduced,
+            &mut self.origin,
+            &mut self.table,
+            &mut self.plan,
+        )
     }
 
     /// The action of each step of a plan file of so many steps.

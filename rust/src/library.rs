@@ -2,7 +2,7 @@
 
 use std::mem::take;
 
-use crate::answers::{Buffers, Entry, Marked, Outcome, PlanCheck, Planned, Reduced};
+use crate::answers::{Entry, Marked, Outcome, PlanCheck, Planned, Reduced};
 
 /// The calls as `include/shortest.h` declares them: each buffer is a pointer
 /// and a length, and `out` is where the twelve numbers of the answer go.
@@ -192,20 +192,6 @@ pub fn plan(
             out,
         );
     })
-}
-
-/// `plan` with all its buffers.
-pub fn plan_into(task: &[u8], signer: u32, lent: &mut Buffers) -> Planned {
-    plan(
-        task,
-        signer,
-        &mut lent.action_marks,
-        &mut lent.fact_marks,
-        &mut lent.reduced,
-        &mut lent.origin,
-        &mut lent.table,
-        &mut lent.plan,
-    )
 }
 
 /// The twelve numbers that a call writes.

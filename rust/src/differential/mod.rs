@@ -5,17 +5,12 @@ pub mod cases;
 
 use std::collections::BTreeMap;
 
-use crate::answers::{Entry, Marked, Outcome, Planned, Reduced};
+use crate::answers::{Entry, Mark, Outcome, Plan, Reduce};
 use crate::{library, reference};
 
 /// Lengths lent: action marks, fact marks, reduced, origin, table, plan. A
 /// call takes as many of the first as it has buffers.
 pub type Lengths = [usize; 6];
-
-type Mark = fn(&[u8], u32, &mut [u8], &mut [u8]) -> Marked;
-type Reduce = fn(&[u8], u32, u32, &mut [u8], &mut [u8], &mut [u8], &mut [u8]) -> Reduced;
-type Plan =
-    fn(&[u8], u32, &mut [u8], &mut [u8], &mut [u8], &mut [u8], &mut [Entry], &mut [u8]) -> Planned;
 
 /// Counts of the calls compared so far. The first differences are printed.
 #[derive(Debug, Default)]
