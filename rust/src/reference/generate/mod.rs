@@ -1,0 +1,34 @@
+//! Random accepted tasks, origins and plans, and damage to files. The same
+//! seed gives the same.
+
+mod files;
+mod large;
+mod random;
+mod shaped;
+mod small;
+
+use super::files::Task;
+
+pub use super::files::{
+    write_origin as origin_file, write_plan as plan_file, write_task as task_file,
+};
+pub use files::{byte_changed, cut, damaged, fields_exchanged, lengthened, origin, plan};
+pub use large::{few_kept, largest, largest_searched};
+pub use random::Random;
+pub use shaped::{chain, counter, counter_of, switches};
+pub use small::{many_alike, small, small_with_plan};
+
+/// A task of any of the families below, the large ones rarely.
+pub fn any(random: &mut Random) -> Task {
+    match random.below(100) {
+        0..20 => small(random),
+        20..60 => small_with_plan(random),
+        60..70 => chain(random),
+        70..76 => many_alike(random),
+        76..82 => switches(random),
+        82..90 => counter(random),
+        90..97 => few_kept(random),
+        97..99 => largest_searched(random),
+        _ => largest(random),
+    }
+}
