@@ -1,6 +1,8 @@
 //! The worked examples of the specification.
 
-use shortest_check::answers::{Entry, Marked, Outcome, PlanCheck, Planned, Reduced};
+use std::ops::Deref;
+
+use shortest_check::answers::{Buffers, Entry, Marked, Outcome, PlanCheck, Planned, Reduced};
 use shortest_check::reference::files::{
     read_origin, read_task, write_plan, write_task, Action, Fact, Origin, Plan, Task, Variable,
     VariableOrigin,
@@ -54,13 +56,14 @@ fn check_steps(steps: &[u16]) -> PlanCheck {
 }
 
 /// Buffers longer than any result, filled with 0xAA.
-struct Buffers {
-    action_marks: Vec<u8>,
-    fact_marks: Vec<u8>,
-    reduced: Vec<u8>,
-    origin: Vec<u8>,
-    table: Vec<Entry>,
-    plan: Vec<u8>,
+struct Prefilled(Buffers);
+
+impl Deref for Prefilled {
+    type Target = Buffers;
+
+    fn deref(&self) -> &Buffers {
+        &self.0
+    }
 }
 
 const UNTOUCHED: u8 = 0xAA;
@@ -69,54 +72,37 @@ const UNTOUCHED_ENTRY: Entry = Entry {
     steps: 0xAA,
 };
 
-impl Buffers {
-    fn of(lengths: [usize; 6]) -> Buffers {
-        Buffers {
+impl Prefilled {
+    fn of(lengths: [usize; 6]) -> Prefilled {
+        Prefilled(Buffers {
             action_marks: vec![UNTOUCHED; lengths[0]],
             fact_marks: vec![UNTOUCHED; lengths[1]],
             reduced: vec![UNTOUCHED; lengths[2]],
             origin: vec![UNTOUCHED; lengths[3]],
             table: vec![UNTOUCHED_ENTRY; lengths[4]],
             plan: vec![UNTOUCHED; lengths[5]],
-        }
+        })
     }
 
-    fn long() -> Buffers {
-        Buffers::of([600, 2_100, 65_600, 6_000, 4_100, 8_300])
+    fn long() -> Prefilled {
+        Prefilled::of([600, 2_100, 65_600, 6_000, 4_100, 8_300])
     }
 
     fn mark(&mut self, task: &Task, level: u32) -> Marked {
         mark(
             &write_task(task),
             level,
-            &mut self.action_marks,
-            &mut self.fact_marks,
+            &mut self.0.action_marks,
+            &mut self.0.fact_marks,
         )
     }
 
     fn reduce(&mut self, task: &Task, level: u32, signer: u32) -> Reduced {
-        reduce(
-            &write_task(task),
-            level,
-            signer,
-            &mut self.action_marks,
-            &mut self.fact_marks,
-            &mut self.reduced,
-            &mut self.origin,
-        )
+        self.0.reduce(reduce, &write_task(task), level, signer)
     }
 
     fn plan(&mut self, task: &Task, signer: u32) -> Planned {
-        plan(
-            &write_task(task),
-            signer,
-            &mut self.action_marks,
-            &mut self.fact_marks,
-            &mut self.reduced,
-            &mut self.origin,
-            &mut self.table,
-            &mut self.plan,
-        )
+        self.0.plan(plan, &write_task(task), signer)
     }
 
     fn marks_untouched(&self) -> bool {
@@ -183,7 +169,7 @@ fn marks_at_each_level() {
         (4, [1, 1, 0, 0, 0, 0, 0], [0, 0, 0, 0, 2, 0, 1, 0], 2),
     ];
     for (level, actions, facts, rounds) in expected {
-        let mut buffers = Buffers::long();
+        let mut buffers = Prefilled::long();
         let marked = buffers.mark(&task_e(), level);
         assert_eq!(
             marked,
@@ -204,7 +190,7 @@ fn marks_at_each_level() {
 #[test]
 fn levels_outside_1_to_4() {
     for level in [0, 5, u32::MAX] {
-        let mut buffers = Buffers::of([0; 6]);
+        let mut buffers = Prefilled::of([0; 6]);
         assert_eq!(buffers.mark(&task_e(), level).outcome, refused(8, 0));
         assert_eq!(buffers.reduce(&task_e(), level, 0).outcome, refused(8, 0));
     }
@@ -212,7 +198,7 @@ fn levels_outside_1_to_4() {
 
 #[test]
 fn reduced_file_and_origin_at_level_4() {
-    let mut buffers = Buffers::long();
+    let mut buffers = Prefilled::long();
     let reduced = buffers.reduce(&task_e(), 4, 7);
     assert_eq!(
         reduced,
@@ -291,7 +277,7 @@ fn the_second_file_is_named() {
 
 #[test]
 fn task_e_is_planned() {
-    let mut buffers = Buffers::long();
+    let mut buffers = Prefilled::long();
     let planned = buffers.plan(&task_e(), 7);
     assert_eq!(
         planned,
@@ -321,7 +307,7 @@ fn task_e_is_planned() {
 fn no_plan_without_actions_0_and_1() {
     let mut task = task_e();
     task.actions.drain(..2);
-    let mut buffers = Buffers::of([600, 2_100, 65_600, 6_000, 4_100, 0]);
+    let mut buffers = Prefilled::of([600, 2_100, 65_600, 6_000, 4_100, 0]);
     let planned = buffers.plan(&task, 7);
     assert_eq!(
         planned,
@@ -345,7 +331,7 @@ fn goal_lamp_alone() {
         goal: vec![fact(LAMP, 1)],
         ..task_e()
     };
-    let mut buffers = Buffers::long();
+    let mut buffers = Prefilled::long();
     let marked = buffers.mark(&task, 3);
     assert_eq!(marked.rounds, 1);
     assert_eq!(buffers.action_marks[..7], [0; 7]);
@@ -373,7 +359,7 @@ fn switches(count: u16) -> Task {
 
 #[test]
 fn twelve_variables_are_searched() {
-    let mut buffers = Buffers::long();
+    let mut buffers = Prefilled::long();
     let planned = buffers.plan(&switches(12), 7);
     assert_eq!(planned.outcome, Outcome::DONE);
     assert_eq!((planned.cost, planned.steps), (12, 12));
@@ -384,7 +370,7 @@ fn twelve_variables_are_searched() {
 
 #[test]
 fn thirteen_variables_are_too_many() {
-    let mut buffers = Buffers::long();
+    let mut buffers = Prefilled::long();
     let planned = buffers.plan(&switches(13), 7);
     assert_eq!(
         planned,
@@ -397,17 +383,17 @@ fn thirteen_variables_are_too_many() {
     assert_eq!(check_task(&buffers.reduced[..8]), refused(1, 8));
     assert!(buffers.table_untouched() && buffers.plan_untouched());
     // 25 stands before the table's 21.
-    buffers.table.clear();
+    buffers.0.table.clear();
     assert_eq!(buffers.plan(&switches(13), 7).outcome, refused(25, 0));
 }
 
 #[test]
 fn buffers_exactly_long_enough() {
-    let mut buffers = Buffers::of([7, 8, 80, 44, 4, 18]);
+    let mut buffers = Prefilled::of([7, 8, 80, 44, 4, 18]);
     assert_eq!(buffers.plan(&task_e(), 7).outcome, Outcome::DONE);
-    let mut buffers = Buffers::of([7, 8, 80, 44, 0, 0]);
+    let mut buffers = Prefilled::of([7, 8, 80, 44, 0, 0]);
     assert_eq!(buffers.reduce(&task_e(), 4, 7).outcome, Outcome::DONE);
-    let mut buffers = Buffers::of([7, 8, 0, 0, 0, 0]);
+    let mut buffers = Prefilled::of([7, 8, 0, 0, 0, 0]);
     assert_eq!(buffers.mark(&task_e(), 4).outcome, Outcome::DONE);
 }
 
@@ -417,7 +403,7 @@ fn buffers_too_short_end_the_row() {
     for short in 0..6 {
         let mut lengths = needed;
         lengths[short] -= 1;
-        let mut buffers = Buffers::of(lengths);
+        let mut buffers = Prefilled::of(lengths);
         let planned = buffers.plan(&task_e(), 7);
         assert_eq!(
             planned,
@@ -435,7 +421,7 @@ fn buffers_too_short_end_the_row() {
 
 #[test]
 fn reduction_alone_is_a_row_too() {
-    let mut buffers = Buffers::of([7, 8, 80, 43, 0, 0]);
+    let mut buffers = Prefilled::of([7, 8, 80, 43, 0, 0]);
     let reduced = buffers.reduce(&task_e(), 4, 7);
     assert_eq!(
         reduced,
@@ -449,7 +435,7 @@ fn reduction_alone_is_a_row_too() {
 
 #[test]
 fn signer_0_given() {
-    let mut buffers = Buffers::of([0; 6]);
+    let mut buffers = Prefilled::of([0; 6]);
     assert_eq!(buffers.reduce(&task_e(), 4, 0).outcome, refused(7, 0));
     assert_eq!(buffers.plan(&task_e(), 0).outcome, refused(7, 0));
 }
@@ -459,7 +445,7 @@ fn restoring_the_start_value_is_no_threat() {
     // Action 1 makes line=1 and puts lamp back to its start value.
     let mut task = task_e();
     task.actions[1].effects = vec![fact(LAMP, 1), fact(LINE, 1)];
-    let mut buffers = Buffers::long();
+    let mut buffers = Prefilled::long();
     buffers.mark(&task, 3);
     assert_eq!(buffers.fact_marks[4], 2);
     assert_eq!(buffers.action_marks[4], 0);
@@ -475,7 +461,7 @@ fn unlike_effects_on_a_tracked_variable_cover_nothing() {
     // Action 1 also turns the lamp off, which is tracked from round 2 on.
     let mut task = task_e();
     task.actions[1].effects = vec![fact(LAMP, 0), fact(LINE, 1)];
-    let mut buffers = Buffers::long();
+    let mut buffers = Prefilled::long();
     buffers.mark(&task, 4);
     assert_eq!(buffers.action_marks[..7], [1, 1, 1, 0, 1, 0, 0]);
     let planned = buffers.plan(&task, 7);
@@ -487,7 +473,7 @@ fn unlike_effects_on_a_tracked_variable_cover_nothing() {
 fn least_cost_before_fewest_steps() {
     let mut task = task_e();
     task.actions[1].cost = 4;
-    let mut buffers = Buffers::long();
+    let mut buffers = Prefilled::long();
     let planned = buffers.plan(&task, 7);
     assert_eq!((planned.cost, planned.steps), (3, 2));
     assert_eq!(buffers.plan[..planned.plan], plan_file(&[2, 0]));
