@@ -90,6 +90,7 @@ impl Entry {
     };
 }
 
+/// The calls that write to buffers, as both implementations have them.
 pub type Mark = fn(&[u8], u32, &mut [u8], &mut [u8]) -> Marked;
 pub type Reduce = fn(&[u8], u32, u32, &mut [u8], &mut [u8], &mut [u8], &mut [u8]) -> Reduced;
 pub type Plan =
@@ -143,9 +144,11 @@ impl Buffers {
         )
     }
 
-    /// The action of each step of a plan file of so many steps.
+    /// The action of each step of a plan file of so many steps, which follow
+    /// the head of its record.
     pub fn steps(&self, count: usize) -> impl Iterator<Item = u16> + '_ {
-        let numbers = self.plan[4..].chunks_exact(2).take(count);
+        let numbers = self.plan.get(4..).unwrap_or_default();
+        let numbers = numbers.chunks_exact(2).take(count);
         numbers.map(|bytes| u16::from_le_bytes([bytes[0], bytes[1]]))
     }
 }

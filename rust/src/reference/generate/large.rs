@@ -6,7 +6,7 @@ use super::super::files::{
 };
 use super::super::search::MOST_STATES;
 use super::random::{add, numbers, Random};
-use super::small::goal_reached;
+use super::small::with_goal;
 
 /// The parts variables play where few are kept: `core` ones are set and
 /// named, `still` ones are named and set at their start value only, `free`
@@ -78,13 +78,7 @@ pub fn few_kept(random: &mut Random) -> Task {
         }
         actions.push(action);
     }
-    let mut task = Task {
-        goal: Vec::new(),
-        variables,
-        actions,
-        signer: random.signer(),
-    };
-    task.goal = goal_reached(random, &task, &parts.core, 4);
+    let mut task = with_goal(random, variables, actions, &parts.core, 4);
     if random.chance(50) && !parts.still.is_empty() {
         let variable = random.one_of(&parts.still);
         let fact = start_fact(&task.variables, variable);
@@ -123,13 +117,7 @@ pub fn largest_searched(random: &mut Random) -> Task {
             effects: random.facts(&variables, &parts.core, 2),
         })
         .collect();
-    let mut task = Task {
-        goal: Vec::new(),
-        variables,
-        actions,
-        signer: random.signer(),
-    };
-    task.goal = goal_reached(random, &task, &parts.core, parts.core.len());
+    let mut task = with_goal(random, variables, actions, &parts.core, parts.core.len());
     fill(random, &mut task, |random, variables, action| {
         pad(random, variables, &parts, action)
     });

@@ -57,24 +57,31 @@ pub fn small_with_plan(random: &mut Random) -> Task {
         }
         actions.push(action);
     }
+    with_goal(random, variables, actions, &among, 3)
+}
+
+/// The task of these actions with a goal that some of them reach: facts of at
+/// most `most` of the variables in `among`.
+pub(super) fn with_goal(
+    random: &mut Random,
+    variables: Vec<Variable>,
+    actions: Vec<Action>,
+    among: &[u16],
+    most: usize,
+) -> Task {
     let mut task = Task {
         goal: Vec::new(),
         variables,
         actions,
         signer: random.signer(),
     };
-    task.goal = goal_reached(random, &task, &among, 3);
+    task.goal = goal_reached(random, &task, among, most);
     task
 }
 
-/// Facts of at most `most` of the variables in `among`, all true after some
-/// steps from the start; those that have changed come first.
-pub(super) fn goal_reached(
-    random: &mut Random,
-    task: &Task,
-    among: &[u16],
-    most: usize,
-) -> Vec<Fact> {
+/// Facts that are all true after some steps from the start; those that have
+/// changed come first.
+fn goal_reached(random: &mut Random, task: &Task, among: &[u16], most: usize) -> Vec<Fact> {
     let mut state = start(task);
     for _ in 0..random.between(5, 40) {
         let number = random.below(task.actions.len());
@@ -112,14 +119,7 @@ pub fn many_alike(random: &mut Random) -> Task {
     for _ in 0..random.below(MOST_ACTIONS - 4) {
         actions.push(alike(random, &variables, &actions));
     }
-    let mut task = Task {
-        goal: Vec::new(),
-        variables,
-        actions,
-        signer: random.signer(),
-    };
-    task.goal = goal_reached(random, &task, &among, 3);
-    task
+    with_goal(random, variables, actions, &among, 3)
 }
 
 /// One of the actions with a condition more or less, sometimes with another
