@@ -1,0 +1,32 @@
+-- A call as a row of stages, and what it answers and leaves by them.
+use mathlib.Core.Path.{_≡_}
+use mathlib.Core.Bool.{true, cond}
+use mathlib.Core.List.{List, [], _∷_}
+use Rattle.files.specs.declared.Outcome.{Outcome}
+use Rattle.files.specs.Listed.{Refusal, listed}
+use Rattle.files.specs.Outcome.{done, isDone, andThen}
+
+-- a stage: its outcome, and what the lent buffers hold once it is done
+pub record Stage (B : Type 0) : Type 0 where
+  pub outcome : Outcome
+  pub leaves : B
+
+abbrev pub stage : {B : Type 0} → Outcome → B → Stage B
+stage outcome leaves = record { outcome = outcome; leaves = leaves }
+
+-- a refusal ends the row
+abbrev pub outcomeOf : {B : Type 0} → List (Stage B) → Outcome
+outcomeOf [] = done
+outcomeOf (s ∷ stages) = andThen (s .outcome) (outcomeOf stages)
+
+-- buffers of finished stages hold their results, later ones are untouched
+abbrev pub leftBy : {B : Type 0} → List (Stage B) → B → B
+leftBy [] b = b
+leftBy (s ∷ stages) b = cond (isDone (s .outcome)) (leftBy stages (s .leaves)) b
+
+-- what a call answers and leaves: an outcome of its list; the whole answer where every stage is done, and beside a
+-- refusal nothing; and each lent buffer
+pub record Answers {A B : Type 0} (refusals : List Refusal) (stages : List (Stage B)) (whole : A) (beside : Outcome → A) (before : B) (answer : A) (now : B) : Type 0 where
+  pub outcome : listed refusals (outcomeOf stages) ≡ true
+  pub numbers : answer ≡ cond (isDone (outcomeOf stages)) whole (beside (outcomeOf stages))
+  pub buffers : now ≡ leftBy stages before
