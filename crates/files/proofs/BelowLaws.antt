@@ -2,14 +2,14 @@
 -- those that pass is its place in their list.
 use Prim.Native.Nat.{ℕ, zero, suc, _≤_, _<_}
 use mathlib.Core.Path.{_≡_, refl, sym, ap, _∙_}
-use mathlib.Core.Bool.{Bool, true, false, cond}
-use mathlib.Core.List.{List, [], _∷_, map}
+use mathlib.Core.Bool.{Bool, true, false, cond, _||_}
+use mathlib.Core.List.{List, [], _∷_, _++_, map}
 use mathlib.Core.Logic.{⊎-elim}
 use native.Mathlib.Omega.{arith}
 use native.Mathlib.Nat.{not-suc-le-zero}
 use lib.ListN.{length, getD, length-append, List·getD-append}
 use lib.Seq.{getD-at}
-use Rattle.files.specs.Below.{anyBelow, allBelow, bit, countBelow, chosenBelow}
+use Rattle.files.specs.Below.{anyBelow, allBelow, bit, countBelow, chosenBelow, anyOf}
 use Rattle.files.proofs.Logic.{clash, split, split-le, and-split, and-join, or-split, or-left, or-right}
 
 -- some number passes; every number passes
@@ -111,3 +111,8 @@ pub map-entry {ℓ ℓ′} : {A : Type ℓ} {B : Type ℓ′} (f : A → B) (l :
 map-entry f [] i e d h = absurd (not-suc-le-zero h)
 map-entry f (x ∷ xs) zero e d h = refl
 map-entry f (x ∷ xs) (suc i) e d h = map-entry f xs i e d (omega arith)
+
+-- some entry of two lists passes
+pub any-append : {A : Type 0} (f : A → Bool) (xs ys : List A) → anyOf f (xs ++ ys) ≡ anyOf f xs || anyOf f ys
+any-append f [] ys = refl
+any-append f (x ∷ xs) ys = split (f x) (λ e. rw e) (λ e. rw e (any-append f xs ys))

@@ -1,4 +1,4 @@
--- A check is done exactly where each of its tests passes, and is then `done` itself.
+-- A check is done exactly where each of its tests passes.
 use Prim.Native.Nat.{ℕ, _≤_}
 use mathlib.Core.Path.{_≡_, refl, sym, ap, _∙_}
 use mathlib.Core.Logic.{_↔_}
@@ -7,7 +7,7 @@ use native.Mathlib.Omega.{arith}
 use lib.Dec.{leb, ltb, eqb}
 use borrow.Author.Tests.{leb-true, ltb-true, eqb-true, le-leb, eq-eqb}
 use Rattle.files.specs.declared.Outcome.{Outcome}
-use Rattle.files.specs.Outcome.{done, guard, andThen}
+use Rattle.files.specs.Outcome.{guard, andThen}
 use Rattle.files.proofs.Guards.{guard-passes, goes-on, passed, both-done}
 
 pub guard-iff : (t : Bool) (n p : ℕ) (rest : Outcome) → ltb 0 n ≡ true → (guard t n p rest .number ≡ 0) ↔ ((t ≡ true) × (rest .number ≡ 0))
@@ -35,29 +35,3 @@ eqb-iff a b = (eqb-true a b, eq-eqb a b)
 
 -- takes a check that is done, and a test that passes, to the facts about numbers that it stands for
 pub ruleset facts = (guard-iff, both-iff, and-iff, leb-iff, eqb-iff)
-
--- an outcome that is `done` itself where its number says so
-pub record Whole (o : Outcome) : Type 0 where
-  pub itself : o .number ≡ 0 → o ≡ done
-
-pub whole-done : Whole done
-whole-done = record { itself = λ e. refl }
-
-pub whole-guard : (t : Bool) (n p : ℕ) (rest : Outcome) → ltb 0 n ≡ true → Whole rest → Whole (guard t n p rest)
-whole-guard t n p rest h w = record { itself = itself }
-  where
-    itself : guard t n p rest .number ≡ 0 → guard t n p rest ≡ done
-    itself e =
-        let both = passed t n p rest (ltb-true 0 n h) e in
-        sym (guard-passes t n p rest done (both .0) (sym (w .itself (both .1))))
-
-pub whole-both : (a b : Outcome) → Whole a → Whole b → Whole (andThen a b)
-whole-both a b v w = record { itself = itself }
-  where
-    itself : andThen a b .number ≡ 0 → andThen a b ≡ done
-    itself e =
-        let both = both-done a b e in
-        sym (goes-on a b done a refl (both .0) (sym (w .itself (both .1))))
-
--- answers that a check is whole
-pub ruleset wholes = (whole-done, whole-guard, whole-both)

@@ -5,7 +5,8 @@ pub mod Computes
 pub mod Logic
 pub mod Guards
 pub mod Done
-pub mod Whole
+pub mod Stages
+pub mod Listed
 pub mod ReadAs
 pub mod Countdown
 pub mod ReaderCall
@@ -37,4 +38,5 @@ pub mod TaskChecked
 pub mod TaskRoundTrip
 pub mod OriginRoundTrip
 pub mod PlanRoundTrip
+pub mod KindsRight
 pub mod HeldLaws

@@ -12,7 +12,7 @@ use Rattle.files.specs.OriginFile.{Origin, variableOriginsAt, actionOrig
 use Rattle.files.specs.Reading.{under, readOrigin}
 use Rattle.files.specs.Accepted.{validSigner, acceptedOrigin}
 use Rattle.files.proofs.Done.{facts}
-use Rattle.files.proofs.Whole.{origin-check-done}
+use Rattle.files.proofs.Listed.{origin-check-done}
 use Rattle.files.proofs.ReadAs.{reads-as, read-as}
 use Rattle.files.proofs.Lengths.{number-bytes-length, record-bytes-length, number-record-length, signed-length}
 use Rattle.files.proofs.Stands.{stands-left, stands-right, stands-join}

@@ -12,7 +12,7 @@ use Rattle.files.specs.PlanFile.{stepsIn, checkPlanFile, planOf, planFil
 use Rattle.files.specs.Reading.{under, readPlan}
 use Rattle.files.specs.Accepted.{validSigner, acceptedPlan}
 use Rattle.files.proofs.Done.{facts}
-use Rattle.files.proofs.Whole.{plan-check-done}
+use Rattle.files.proofs.Listed.{plan-check-done}
 use Rattle.files.proofs.ReadAs.{reads-as, read-as}
 use Rattle.files.proofs.Lengths.{number-bytes-length, record-bytes-length, number-record-length, signed-length}
 use Rattle.files.proofs.RecordStands.{Recorded, recorded, record-stands}
@@ -88,13 +88,13 @@ module _ (actions : ℕ) (plan : List ℕ) (signer : ℕ) (few : actions ≤ 655
       (signed-signer signer records (omega (arith, steps-few, number-record-length 8 plan)) v)
 
 -- a file whose check is done
-module _ (actions : ℕ) (f : List ℕ) (o : Octets f) (e : checkPlanFile actions f .number ≡ 0) where
-  pub plan-accepted : acceptedPlan actions (planOf f) ≡ true
-  unfolding checkPlanFile sizeFits headAt bodyFits bodyRule acceptedPlan planOf stepsIn
-  plan-accepted =
-      let found = simp facts at e in
-      simp facts (omega (arith, plan-length f), numbers-under actions f 4 (stepsIn f) (found .1 .1 .0))
+pub plan-accepted : (actions : ℕ) (f : List ℕ) → checkPlanFile actions f .number ≡ 0 → acceptedPlan actions (planOf f) ≡ true
+unfolding checkPlanFile sizeFits headAt bodyFits bodyRule acceptedPlan planOf stepsIn
+plan-accepted actions f e =
+    let found = simp facts at e in
+    simp facts (omega (arith, plan-length f), numbers-under actions f 4 (stepsIn f) (found .1 .1 .0))
 
+module _ (actions : ℕ) (f : List ℕ) (o : Octets f) (e : checkPlanFile actions f .number ≡ 0) where
   pub plan-signer-valid : validSigner (signerOf f) ≡ true
   unfolding checkPlanFile sizeFits
   plan-signer-valid = let found = simp facts at e in signed-off f (recordEnd f 0) o (found .1 .1 .1) .valid

@@ -12,7 +12,7 @@ use Rattle.files.specs.Task.{Task}
 use Rattle.files.specs.TaskFile.{checkTask, taskOf, taskRecords, taskFile}
 use Rattle.files.specs.Reading.{under, readTask}
 use Rattle.files.specs.Accepted.{validSigner, acceptedTask}
-use Rattle.files.proofs.Whole.{task-check-done}
+use Rattle.files.proofs.Listed.{task-check-done}
 use Rattle.files.proofs.ReadAs.{reads-as, read-as}
 use Rattle.files.proofs.Lengths.{signed-length}
 use Rattle.files.proofs.SignOff.{records-stand, signed-signer, signed-done}

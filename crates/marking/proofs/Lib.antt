@@ -32,3 +32,4 @@ pub mod RoundProgress
 pub mod RoundCount
 pub mod Rounding
 pub mod MarkLaws
+pub mod Answers

@@ -65,8 +65,8 @@ zero-add : (n : ℕ) → 0 + n ≡ n
 zero-add n = omega arith
 
 -- facts are few
-pub facts-few : (d : Arrays) → Valid (held d) → factCount (held d) ≤ 2048
-facts-few d ok = omega (arith, sum-order (variableCount (held d)) (sizeOf (held d)) (λ v. 32) (λ v l. ok .size-most v), thirty-twos (variableCount (held d)), ok .variables-few)
+pub facts-few : (t : Task) → Valid t → factCount t ≤ 2048
+facts-few t ok = omega (arith, sum-order (variableCount t) (sizeOf t) (λ v. 32) (λ v l. ok .size-most v), thirty-twos (variableCount t), ok .variables-few)
   where
     thirty-twos : (n : ℕ) → sumBelow n (λ v. 32) ≡ 32 * n
     thirty-twos zero = refl
@@ -154,7 +154,7 @@ module _ (d : Arrays) (ok : Valid (held d)) (level : ℕ) where
     left = omega (arith, w .few, markCount-most (held d) (heldMarks (held d) actions facts))
 
     pub rounds-few : rounds ≤ 2560
-    rounds-few = omega (arith, w .few, markCount-most (held d) (heldMarks (held d) actions facts), facts-few d ok, ok .actions-few)
+    rounds-few = omega (arith, w .few, markCount-most (held d) (heldMarks (held d) actions facts), facts-few (held d) ok, ok .actions-few)
 
     pub rounding-less : limit d - (rounds + 1) < limit d - rounds
     rounding-less = omega (arith, left)

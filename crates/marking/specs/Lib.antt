@@ -4,5 +4,6 @@ pub mod Links
 pub mod Covering
 pub mod Rounds
 pub mod Mark
+pub mod Answers
 pub mod Dense
 pub mod Examples

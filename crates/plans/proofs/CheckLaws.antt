@@ -1,6 +1,5 @@
 -- The plan checker's answer by its three stages: the task file, the plan file, the walk; and what the plan file's check gives
 -- the walk.
-use Rattle.files.specs.Bytes.{Octets}
 use Prim.Native.Nat.{ℕ, _≤_, _<_}
 use mathlib.Core.Path.{_≡_, refl, sym, ap, _∙_}
 use mathlib.Core.Bool.{Bool, cond}
@@ -25,15 +24,15 @@ use Rattle.plans.specs.Check.{takeSteps, planOutcome, withTotal, answer,
 use Rattle.plans.specs.declared.Checked.{Checked}
 
 -- an accepted plan file: few steps, each an action of the task
-pub file-steps-few : (actions : ℕ) (plan : List ℕ) → Octets plan → checkPlanFile actions plan .number ≡ 0 → length (planOf plan) ≤ 4096
+pub file-steps-few : (actions : ℕ) (plan : List ℕ) → checkPlanFile actions plan .number ≡ 0 → length (planOf plan) ≤ 4096
 unfolding acceptedPlan
-file-steps-few actions plan octets z = leb-true (length (planOf plan)) 4096 (and-split (leb (length (planOf plan)) 4096) _ (plan-accepted actions plan octets z) .0)
+file-steps-few actions plan z = leb-true (length (planOf plan)) 4096 (and-split (leb (length (planOf plan)) 4096) _ (plan-accepted actions plan z) .0)
 
-pub file-steps-known : (actions : ℕ) (plan : List ℕ) → Octets plan → checkPlanFile actions plan .number ≡ 0 → (i : ℕ) → i < length (planOf plan) → stepOf (planOf plan) i < actions
+pub file-steps-known : (actions : ℕ) (plan : List ℕ) → checkPlanFile actions plan .number ≡ 0 → (i : ℕ) → i < length (planOf plan) → stepOf (planOf plan) i < actions
 unfolding acceptedPlan
-file-steps-known actions plan octets z i h =
+file-steps-known actions plan z i h =
     ltb-true (stepOf (planOf plan) i) actions
-    (all-at (λ n. ltb n actions) (planOf plan) 0 i (and-split (leb (length (planOf plan)) 4096) _ (plan-accepted actions plan octets z) .1) h)
+    (all-at (λ n. ltb n actions) (planOf plan) 0 i (and-split (leb (length (planOf plan)) 4096) _ (plan-accepted actions plan z) .1) h)
 
 pub answer-refused : (o : Outcome) (t : Task) (plan : List ℕ) → (o .number ≡ 0 → ⊥) → withTotal o noSteps ≡ answer o t plan
 unfolding answer
@@ -67,8 +66,8 @@ module _ (task plan : List ℕ) (first : Outcome) (one : first ≡ checkTask tas
     unfolding inSecond
     read-done z = ap (λ (o : Outcome). o .number) (sym two) ∙ ap (λ (o : Outcome). o .number) (sym three) ∙ z
 
-    pub steps-few : Octets plan → second .number ≡ 0 → length (planOf plan) ≤ 4096
-    steps-few octets z = file-steps-few actions plan octets (read-done z)
+    pub steps-few : second .number ≡ 0 → length (planOf plan) ≤ 4096
+    steps-few z = file-steps-few actions plan (read-done z)
 
-    pub steps-known : Octets plan → second .number ≡ 0 → (i : ℕ) → i < length (planOf plan) → stepOf (planOf plan) i < actions
-    steps-known octets z = file-steps-known actions plan octets (read-done z)
+    pub steps-known : second .number ≡ 0 → (i : ℕ) → i < length (planOf plan) → stepOf (planOf plan) i < actions
+    steps-known z = file-steps-known actions plan (read-done z)

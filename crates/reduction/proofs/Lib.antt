@@ -19,3 +19,5 @@ pub mod ReducedHeld
 pub mod Filled
 pub mod ReduceRow
 pub mod StretchLaws
+pub mod StretchRight
+pub mod Answers

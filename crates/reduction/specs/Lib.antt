@@ -5,4 +5,5 @@ pub mod Task
 pub mod Reduce
 pub mod Preserved
 pub mod Stretch
+pub mod Answers
 pub mod Dense

@@ -38,6 +38,16 @@ pub record Rooms : Type 0 where
 abbrev pub rooms : ℕ → ℕ → ℕ → ℕ → Rooms
 rooms actions facts reduced origin = record { actions = actions; facts = facts; reduced = reduced; origin = origin }
 
+-- the four lent buffers
+pub record Buffers : Type 0 where
+  pub actions : List ℕ
+  pub facts : List ℕ
+  pub reduced : List ℕ
+  pub origin : List ℕ
+
+abbrev pub roomsOf : Buffers → Rooms
+roomsOf b = rooms (length (b .actions)) (length (b .facts)) (length (b .reduced)) (length (b .origin))
+
 -- the stages check and marking: the file, the level, the signer, the room for the marks
 unfoldable pub markStage : List ℕ → ℕ → ℕ → Rooms → Outcome
 markStage task level signer room =
@@ -86,3 +96,13 @@ reducedBuffer task level signer room old = after (reduceStage task level signer 
 
 unfoldable pub originBuffer : List ℕ → ℕ → ℕ → Rooms → List ℕ → List ℕ
 originBuffer task level signer room old = after (reduceStage task level signer room) (originsFile (taskOf task) level signer) old
+
+-- the four buffers after the call
+abbrev pub reduceAfter : List ℕ → ℕ → ℕ → Buffers → Buffers
+reduceAfter task level signer b =
+    record {
+      actions = reducedActionMarks task level signer (roomsOf b) (b .actions);
+      facts = reducedFactMarks task level signer (roomsOf b) (b .facts);
+      reduced = reducedBuffer task level signer (roomsOf b) (b .reduced);
+      origin = originBuffer task level signer (roomsOf b) (b .origin);
+    }

@@ -32,8 +32,5 @@ pub mod Filling
 pub mod EntryDistances
 pub mod FirstPlanLaws
 pub mod PlanWriting
-pub mod Listed
-pub mod Demand1
-pub mod Demand2
-pub mod Demand3
-pub mod Examples
+pub mod Answers
+pub mod PlannerRight

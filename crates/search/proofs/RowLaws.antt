@@ -22,7 +22,7 @@ use Rattle.files.proofs.Logic.{split, split-option, and-join}
 use Rattle.files.proofs.OriginRoundTrip.{origin-read-as}
 use Rattle.files.proofs.TaskChecked.{task-accepted}
 use Rattle.files.proofs.TaskRoundTrip.{task-read-as}
-use Rattle.files.proofs.Whole.{task-check-done}
+use Rattle.files.proofs.Listed.{task-check-done}
 use Rattle.files.proofs.Valid.{Valid, task-valid}
 use Rattle.plans.specs.Plan.{IsPlan, Total, totalOf}
 use Rattle.marking.specs.Rounds.{marking}

@@ -7,6 +7,5 @@ pub mod Columns
 pub mod Settling
 pub mod Planner
 pub mod Found
-pub mod Demands
-pub mod Listing
-pub mod Examples
+pub mod Answers
+pub mod PlannerRight

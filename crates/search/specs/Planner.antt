@@ -13,7 +13,7 @@ use Rattle.files.specs.PlanFile.{planFile}
 use Rattle.plans.specs.Plan.{totalOf}
 use Rattle.marking.specs.Rounds.{marking}
 use Rattle.reduction.specs.Task.{reducedTask, byOriginal}
-use Rattle.reduction.specs.Reduce.{Rooms, reducedFile, originsFile, reduceStage, reducedActionMarks, reducedFactMarks, reducedBuffer, originBuffer}
+use Rattle.reduction.specs.Reduce.{Rooms, Buffers, roomsOf, reducedFile, originsFile, reduceStage, reducedActionMarks, reducedFactMarks, reducedBuffer, originBuffer}
 use Rattle.search.specs.States.{stateCount}
 use Rattle.search.specs.Table.{tableOf}
 use Rattle.search.specs.FirstPlan.{firstPlan}
@@ -43,6 +43,18 @@ pub record PlanRooms : Type 0 where
 
 abbrev pub planRooms : Rooms → ℕ → ℕ → PlanRooms
 planRooms reduction table plan = record { reduction = reduction; table = table; plan = plan }
+
+-- the six lent buffers
+pub record Lent : Type 0 where
+  pub buffers : Buffers
+  pub table : List Entry
+  pub plan : List ℕ
+
+abbrev pub lent : Buffers → List Entry → List ℕ → Lent
+lent buffers table plan = record { buffers = buffers; table = table; plan = plan }
+
+abbrev pub lentRooms : Lent → PlanRooms
+lentRooms b = planRooms (roomsOf (b .buffers)) (length (b .table)) (length (b .plan))
 
 -- at most 4,096 states, and the room for the table
 unfoldable pub statesFit : Task → ℕ → Outcome
@@ -128,3 +140,18 @@ plannedTable task signer room old = after (searchStage task signer room) (tableO
 
 unfoldable pub plannedPlan : List ℕ → ℕ → PlanRooms → List ℕ → List ℕ
 plannedPlan task signer room old = after (planStage task signer room) (planFile (planMade task) signer) old
+
+-- the six buffers after the call
+abbrev pub planAfter : List ℕ → ℕ → Lent → Lent
+planAfter task signer b =
+    record {
+      buffers =
+          record {
+            actions = plannedActionMarks task signer (lentRooms b) (b .buffers .actions);
+            facts = plannedFactMarks task signer (lentRooms b) (b .buffers .facts);
+            reduced = plannedReduced task signer (lentRooms b) (b .buffers .reduced);
+            origin = plannedOrigin task signer (lentRooms b) (b .buffers .origin);
+          };
+      table = plannedTable task signer (lentRooms b) (b .table);
+      plan = plannedPlan task signer (lentRooms b) (b .plan);
+    }

@@ -41,14 +41,12 @@ returns-2 c = check-second _ _ _ (c .before .before .before .before .before .bef
 take-steps-requires : tie.Need-take-steps-requires
 take-steps-requires c κs =
     let task = now (c .before .before .before .before .before .before .before .before .before .before .before .before .before .before .before .before .before .before .before .before .before .before .args .task) in
-    let plan = now (c .before .before .before .before .before .before .before .before .before .before .before .before .before .before .before .before .before .before .before .before .before .before .args .plan) in
     let octets : Octets task = λ i. omega (arith, c .before .before .before .before .before .before .before .before .before .before .before .before .before .before .before .before .before .before .before .before .before .shared-slice-known .given i) in
-    let others : Octets plan = λ i. omega (arith, c .before .before .before .before .before .before .before .before .before .before .before .before .before .before .before .before .before .before .before .before .shared-slice-known2 .given i) in
     let passes : checkTask task .number ≡ 0 = ap (λ (o : Outcome). o .number) (sym (c .before .before .before .before .before .before .before .before .before .before .before .before .before .read-task .ensures .0)) ∙ c .before .before .before .before .before .before .before .before .before .before .before .if1 .left in (
       omega (arith, variables-in-few task octets passes, c .before .before .before .before .before .before .before .before .before .before .variables-in .ensures .0),
       omega (arith, actions-in-few task octets passes, c .before .before .before .before .before .before .before .before .before .actions-in .ensures .0),
-      steps-few _ _ _ (c .before .before .before .before .before .before .before .before .before .before .before .before .before .read-task .ensures .0) (c .before .before .before .before .before .before .before .before .before .before .before .if1 .left) _ (c .before .before .before .before .before .before .before .before .before .actions-in .ensures .0) _ _ (c .before .before .before .before .before .before .before .before .check .ensures) (c .before .before .before .before .before .before .before .in-second .ensures) others (c .before .before .before .before .before .if2 .left),
-      steps-known _ _ _ (c .before .before .before .before .before .before .before .before .before .before .before .before .before .read-task .ensures .0) (c .before .before .before .before .before .before .before .before .before .before .before .if1 .left) _ (c .before .before .before .before .before .before .before .before .before .actions-in .ensures .0) _ _ (c .before .before .before .before .before .before .before .before .check .ensures) (c .before .before .before .before .before .before .before .in-second .ensures) others (c .before .before .before .before .before .if2 .left),
+      steps-few _ _ _ (c .before .before .before .before .before .before .before .before .before .before .before .before .before .read-task .ensures .0) (c .before .before .before .before .before .before .before .before .before .before .before .if1 .left) _ (c .before .before .before .before .before .before .before .before .before .actions-in .ensures .0) _ _ (c .before .before .before .before .before .before .before .before .check .ensures) (c .before .before .before .before .before .before .before .in-second .ensures) (c .before .before .before .before .before .if2 .left),
+      steps-known _ _ _ (c .before .before .before .before .before .before .before .before .before .before .before .before .before .read-task .ensures .0) (c .before .before .before .before .before .before .before .before .before .before .before .if1 .left) _ (c .before .before .before .before .before .before .before .before .before .actions-in .ensures .0) _ _ (c .before .before .before .before .before .before .before .before .check .ensures) (c .before .before .before .before .before .before .before .in-second .ensures) (c .before .before .before .before .before .if2 .left),
     )
 
 returns-3 : tie.Need-returns-3

@@ -1,4 +1,5 @@
--- Demand 3: the striking is harmless, and the planner is right.
+-- The planner is right for every accepted task: "no plan" where there is none, else the first of the best plans of the full
+-- task; and each entry of its table is least.
 use Prim.Native.Nat.{ℕ, suc, _≤_, _<_}
 use mathlib.Core.Path.{_≡_, refl, sym, ap, ap₂, subst, _∙_}
 use mathlib.Core.Bool.{true}
@@ -6,7 +7,7 @@ use mathlib.Core.List.{List, [], _∷_}
 use mathlib.Core.Option.{none, some}
 use native.Mathlib.Omega.{arith}
 use lib.Dec.{leb, ltb}
-use lib.ListN.{length, take, length-map}
+use lib.ListN.{length, take, getD, length-map, List·getD-append}
 use lib.Seq.{take-append-seam}
 use borrow.Author.Tests.{le-leb, lt-ltb}
 use Rattle.files.specs.declared.Outcome.{Outcome}
@@ -18,54 +19,90 @@ use Rattle.files.specs.PlanFile.{planFile}
 use Rattle.files.specs.Reading.{readPlan, under}
 use Rattle.files.specs.Task.{Task, actionCount}
 use Rattle.files.specs.TaskFile.{checkTask, taskOf}
+use Rattle.files.proofs.BelowLaws.{map-entry}
 use Rattle.files.proofs.Guards.{guard-passes}
 use Rattle.files.proofs.Logic.{split-option, and-join}
 use Rattle.files.proofs.PlanRoundTrip.{plan-reads-back}
+use Rattle.files.proofs.Stages.{is-yes, fits-in}
 use Rattle.files.proofs.TaskChecked.{task-accepted}
 use Rattle.files.proofs.Valid.{Valid, task-valid}
-use Rattle.plans.specs.Plan.{IsPlan, totalOf, FirstBest, stepOf}
+use Rattle.plans.specs.Plan.{IsPlan, Total, totalOf, Best, FirstBest, stepOf}
 use Rattle.plans.proofs.OrderLaws.{total-steps}
+use Rattle.plans.proofs.PlanChecker.{all-below}
 use Rattle.reduction.specs.Task.{reducedTask, byOriginal}
-use Rattle.reduction.specs.Reduce.{reduceStage}
+use Rattle.reduction.specs.Reduce.{roomsOf, reduceStage}
 use Rattle.reduction.specs.Preserved.{Preserves}
-use Rattle.reduction.proofs.FilesPreserved.{reduction-of-files}
+use Rattle.reduction.proofs.Answers.{row-fits}
 use Rattle.reduction.proofs.Preservation.{reduction-preserves, reduction-accepted}
+use Rattle.search.specs.declared.Entry.{Entry}
 use Rattle.search.specs.States.{stateCount}
 use Rattle.search.specs.FirstPlan.{firstPlan}
-use Rattle.search.specs.Least.{PlanFirst}
-use Rattle.search.specs.Planner.{searched, planFound, statesFit, planFits, planStage, planMade, planAnswer}
-use Rattle.search.specs.Demands.{Lent, roomsOf, lentRooms, planAfter, PlanLongEnough, HandedBack, PlannerRight, Demand3}
-use Rattle.search.proofs.Demand1.{whole-outcome, whole-is, rest-done, level-four}
-use Rattle.search.proofs.Demand2.{is-yes, fits-in, row-fits}
+use Rattle.search.specs.Least.{startedAt, DistanceLeast, PlanFirst}
+use Rattle.search.specs.Planner.{planLevel, searched, planFound, statesFit, planFits, planStage, planMade, planAnswer, Lent, lentRooms, planAfter}
+use Rattle.search.specs.PlannerRight.{PlanLongEnough, HandedBack, EntryRight, PlannerRight, PlannerPromise}
+use Rattle.search.specs.Table.{Distance, distances, entryOf, tableOf}
+use Rattle.search.proofs.Answers.{whole-outcome, whole-is, plan-written, table-filled}
+use Rattle.search.proofs.Distances.{distances-length, steps-few, minutes-few}
 use Rattle.search.proofs.LeastPlans.{search-least}
 
--- a plan in few steps is one that a file can hold
-all-known : (limit : ℕ) (plan : List ℕ) → ((i : ℕ) → i < length plan → stepOf plan i < limit) → allOf (λ n. ltb n limit) plan ≡ true
-all-known limit [] f = refl
-all-known limit (a ∷ plan) f = and-join (lt-ltb a limit (f 0 (omega arith))) (all-known limit plan (λ i h. f (suc i) (omega arith)))
+-- an entry of the table of a task
+module _ (u : Task) (valid : Valid u) (few : stateCount (u .variables) ≤ 4096) (n : ℕ) (h : n < stateCount (u .variables)) where
+  entry-is : getD (tableOf u) n (entryOf none) ≡ entryOf (getD (distances u) n none)
+  unfolding tableOf
+  entry-is = map-entry entryOf (distances u) n (entryOf none) none (omega (arith, distances-length u))
 
-module _ (task : List ℕ) (signer : ℕ) (b : Lent) (octets : Octets task) (e : checkTask task ≡ done) (s : validSigner signer ≡ true) (few : stateCount (reducedTask (taskOf task) 4 .variables) ≤ 4096) (long : PlanLongEnough task signer b) where
+  least : DistanceLeast (startedAt u n) (getD (distances u) n none)
+  least = search-least u valid .entries n h
+
+  entry-none : getD (distances u) n none ≡ none → EntryRight (startedAt u n) (entryOf none)
+  entry-none q =
+      record {
+        no-plan = (λ e. subst (DistanceLeast (startedAt u n)) q least, λ e. refl);
+        otherwise = λ d. absurd (d refl);
+      }
+
+  entry-some : (x : Total) → getD (distances u) n none ≡ some x → EntryRight (startedAt u n) (entryOf (some x))
+  unfolding entryOf
+  entry-some x q =
+      let w = subst (DistanceLeast (startedAt u n)) q least in
+      record {
+        no-plan = (
+          λ e. absurd (omega (arith, ap (λ (y : Entry). y .minutes) e, steps-few u valid n x h q, minutes-few u valid n x h q)),
+          λ none-there. absurd (none-there (w .0) (w .1 .isPlan)),
+        );
+        otherwise =
+            λ d. (
+              w .0,
+              w .1,
+              ap (λ (y : Total). y .minutes) (sym (w .2)),
+              ap (λ (y : Total). y .steps) (sym (w .2)) ∙ total-steps (startedAt u n) (w .0),
+            );
+      }
+
+  pub entry-right : EntryRight (startedAt u n) (getD (tableOf u) n (entryOf none))
+  entry-right =
+      split-option (getD (distances u) n none)
+      (λ q. subst (EntryRight (startedAt u n)) (sym (entry-is ∙ ap entryOf q)) (entry-none q))
+      (λ x q. subst (EntryRight (startedAt u n)) (sym (entry-is ∙ ap entryOf q)) (entry-some x q))
+
+module _ (task : List ℕ) (signer : ℕ) (b : Lent) (octets : Octets task) (e : checkTask task ≡ done) (s : validSigner signer ≡ true) (few : stateCount (reducedTask (taskOf task) planLevel .variables) ≤ 4096) (long : PlanLongEnough task signer b) where
   abbrev t : Task
   t = taskOf task
 
   abbrev u : Task
-  u = reducedTask t 4
+  u = reducedTask t planLevel
 
   accepted : acceptedTask t ≡ true
   accepted = task-accepted task octets (ap (λ (o : Outcome). o .number) e)
 
   valid : Valid u
-  valid = task-valid u (reduction-accepted t 4 accepted)
+  valid = task-valid u (reduction-accepted t planLevel accepted)
 
-  same : searched task ≡ u
-  unfolding searched
-  same = refl
+  preserved : Preserves t u (byOriginal t planLevel)
+  preserved = reduction-preserves t planLevel accepted
 
-  preserved : Preserves t u (byOriginal t 4)
-  preserved = reduction-preserves t 4 accepted
-
-  reduced-done : isDone (reduceStage task 4 signer (roomsOf (b .buffers))) ≡ true
-  reduced-done = is-yes _ (row-fits task 4 signer (b .buffers) e level-four s (long .buffers) .0)
+  reduced-done : isDone (reduceStage task planLevel signer (roomsOf (b .buffers))) ≡ true
+  reduced-done = is-yes _ (row-fits task planLevel signer (b .buffers) e refl s (long .buffers))
 
   states-done : isDone (statesFit (searched task) (length (b .table))) ≡ true
   unfolding statesFit searched
@@ -92,13 +129,27 @@ module _ (task : List ℕ) (signer : ℕ) (b : Lent) (octets : Octets task) (e :
       let r = preserved .solvable .0 (plan, p) in
       w (r .0) (r .1)
 
+  -- the table is filled, with a plan or without
+  entries : (n : ℕ) → n < stateCount (u .variables) → EntryRight (startedAt u n) (getD (planAfter task signer b .table) n (entryOf none))
+  unfolding overwrite searched
+  entries n h =
+      subst (EntryRight (startedAt u n))
+      (sym
+      (ap (λ (l : List Entry). getD l n (entryOf none)) (table-filled task signer b reduced-done states-done)
+      ∙ List·getD-append (tableOf u) _ (entryOf none) n (omega (arith, table-length))))
+      (entry-right u valid few n h)
+    where
+      table-length : length (tableOf u) ≡ stateCount (u .variables)
+      unfolding tableOf
+      table-length = length-map (distances u) _ ∙ distances-length u
+
   -- where the reduced task has a plan
   module _ (q : List ℕ) (f : firstPlan u ≡ some q) where
     first : PlanFirst u (some q)
     first = subst (PlanFirst u) f (search-least u valid .plan)
 
     abbrev p : List ℕ
-    p = byOriginal t 4 q
+    p = byOriginal t planLevel q
 
     full : FirstBest t p
     full = preserved .first-back q (first .0)
@@ -117,7 +168,7 @@ module _ (task : List ℕ) (signer : ℕ) (b : Lent) (octets : Octets task) (e :
 
     held : acceptedPlan (actionCount t) p ≡ true
     unfolding acceptedPlan
-    held = and-join (le-leb (length p) 4096 (omega (arith, same-length, first .1))) (all-known (actionCount t) p (full .best .isPlan .numbers))
+    held = and-join (le-leb (length p) 4096 (omega (arith, same-length, first .1))) (all-below (actionCount t) p (full .best .isPlan .numbers))
 
     answer-is : planAnswer task signer (lentRooms b) .outcome ≡ done
     answer-is = outcome ∙ found-some
@@ -135,7 +186,7 @@ module _ (task : List ℕ) (signer : ℕ) (b : Lent) (octets : Octets task) (e :
         )
 
     buffer : planAfter task signer b .plan ≡ overwrite (b .plan) (planFile p signer)
-    buffer = rest-done task signer b reduced-done states-done (is-yes _ found-some) ∙ ap (λ (l : List ℕ). overwrite (b .plan) (planFile l signer)) made
+    buffer = plan-written task signer b reduced-done states-done (is-yes _ found-some) ∙ ap (λ (l : List ℕ). overwrite (b .plan) (planFile l signer)) made
 
     file : readPlan (actionCount t) (take (planAnswer task signer (lentRooms b) .plan) (planAfter task signer b .plan)) ≡ under p signer
     unfolding overwrite
@@ -159,19 +210,21 @@ module _ (task : List ℕ) (signer : ℕ) (b : Lent) (octets : Octets task) (e :
     not-none : planAnswer task signer (lentRooms b) .outcome ≡ refusal 24 0 → ⊥
     not-none z = absurd (let k : _≡_ {A = ℕ} 24 0 = ap (λ (o : Outcome). o .number) (sym z ∙ answer-is) in omega arith)
 
-  planner-right : PlannerRight task signer b
+  planner-right : PlannerRight task signer (planAnswer task signer (lentRooms b)) (planAfter task signer b)
   planner-right =
       split-option (firstPlan u)
       (λ q.
       record {
         no-plan = (λ z. none-there q, λ n. outcome ∙ found-none q);
         otherwise = λ n. absurd (n (outcome ∙ found-none q));
+        entries = entries;
       })
       (λ q f.
       record {
         no-plan = (λ z. absurd (not-none q f z), λ n. absurd (n (p q f) (full q f .best .isPlan)));
         otherwise = λ n. handed q f;
+        entries = entries;
       })
 
-pub demand-3 : Demand3
-demand-3 = record { preserves = reduction-preserves; files = reduction-of-files; planner = planner-right }
+pub planner-promise : (task : List ℕ) (signer : ℕ) (b : Lent) → PlannerPromise task signer b (planAnswer task signer (lentRooms b)) (planAfter task signer b)
+planner-promise task signer b octets e s few long = planner-right task signer b octets e s few long

@@ -1,56 +1,20 @@
 -- The cases that document 01 marks P, and its listing of task E: what the definitions find, and what the document says.
 use Prim.Native.Nat.{ℕ}
-use mathlib.Core.Bool.{Bool}
 use mathlib.Core.List.{List, [], _∷_, _++_}
-use lib.Dec.{eqb}
 use lib.ListN.{replicate}
-use Rattle.files.specs.declared.Outcome.{Outcome}
-use Rattle.files.specs.Below.{sameList}
 use Rattle.files.specs.Bytes.{u16Bytes}
+use Rattle.files.specs.Examples.{fileE, fileWithoutLine, fileLampAlone, outcomeNumbers, Case, case}
 use Rattle.files.specs.Records.{recordBytes}
-use Rattle.files.specs.Task.{Pair, Variable, Action, pair, variable, action}
-use Rattle.files.specs.TaskFile.{checkTask, taskFile}
+use Rattle.files.specs.TaskFile.{checkTask}
 use Rattle.files.specs.PlanFile.{planFile}
 use Rattle.plans.specs.declared.Checked.{Checked}
 use Rattle.plans.specs.Check.{checkPlan}
 use Rattle.marking.specs.Mark.{mark, markedActions}
 use Rattle.reduction.specs.Reduce.{reducedBuffer}
 use Rattle.search.specs.Planner.{planAnswer, plannedPlan}
-use Rattle.search.specs.Listing.{ascii, ample, listing}
+use Rattle.search.specs.PlannerRight.{ample}
 use Rattle.search.specs.declared.Planned.{Planned}
-
--- task E: station, lamp and line
-abbrev pub variablesE : List Variable
-variablesE = variable 3 0 ∷ variable 2 1 ∷ variable 3 0 ∷ []
-
-abbrev pub goalE : List Pair
-goalE = pair 1 1 ∷ pair 2 1 ∷ []
-
--- actions 0 and 1, and the others
-abbrev pub lineActions : List Action
-lineActions =
-    action 2 (pair 0 1 ∷ []) (pair 2 1 ∷ [])
-    ∷ action 2 [] (pair 2 1 ∷ [])
-    ∷ []
-
-abbrev pub otherActions : List Action
-otherActions =
-    action 1 [] (pair 0 1 ∷ [])
-    ∷ action 0 [] (pair 2 2 ∷ [])
-    ∷ action 1 [] (pair 1 1 ∷ [])
-    ∷ action 1 [] (pair 1 0 ∷ [])
-    ∷ action 1 (pair 0 1 ∷ []) (pair 0 2 ∷ [])
-    ∷ []
-
--- the file of E, of E without actions 0 and 1, and of E with the goal lamp=1 alone
-abbrev pub fileE : List ℕ
-fileE = taskFile (record { variables = variablesE; goal = goalE; actions = lineActions ++ otherActions }) 7
-
-abbrev pub fileWithoutLine : List ℕ
-fileWithoutLine = taskFile (record { variables = variablesE; goal = goalE; actions = otherActions }) 7
-
-abbrev pub fileLampAlone : List ℕ
-fileLampAlone = taskFile (record { variables = variablesE; goal = pair 1 1 ∷ []; actions = lineActions ++ otherActions }) 7
+use Rattle.demands.specs.Listing.{ascii, listing}
 
 -- a header record alone
 abbrev pub headerOf : ℕ → List ℕ
@@ -71,9 +35,6 @@ reducedE =
     ∷ []
 
 -- answers as numbers
-abbrev pub outcomeNumbers : Outcome → List ℕ
-outcomeNumbers o = o .number ∷ o .file ∷ o .place ∷ []
-
 abbrev pub checkNumbers : Checked → List ℕ
 checkNumbers c = outcomeNumbers (c .outcome) ++ (c .cost .0 ∷ c .steps .0 ∷ [])
 
@@ -89,14 +50,6 @@ abbrev pub keptNumbers : List ℕ → ℕ → List ℕ
 keptNumbers file level =
     let m = mark file level 7 8 in
     outcomeNumbers (m .outcome) ++ (m .rounds ∷ []) ++ markedActions file level (used 7) (used 8)
-
--- a row of the table
-pub record Case : Type 0 where
-  pub found : List ℕ
-  pub expected : List ℕ
-
-abbrev pub case : List ℕ → List ℕ → Case
-case found expected = record { found = found; expected = expected }
 
 unfoldable pub cases : List Case
 cases =
@@ -127,7 +80,3 @@ cases =
     -- what `shortest` prints for E
     ∷ case (listing fileE) (ascii "task 3 7\nkept 2 2\nstep 1\ncost 2 steps 1\n")
     ∷ []
-
--- the definitions find what the document says
-unfoldable pub asExpected : Case → Bool
-asExpected c = sameList eqb (c .found) (c .expected)

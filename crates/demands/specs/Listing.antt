@@ -10,8 +10,9 @@ use Rattle.files.specs.Outcome.{isDone}
 use Rattle.files.specs.Records.{signerOf}
 use Rattle.files.specs.Task.{variableCount, actionCount}
 use Rattle.files.specs.TaskFile.{taskOf}
-use Rattle.search.specs.Planner.{PlanRooms, searched, planMade, planAnswer}
+use Rattle.search.specs.Planner.{searched, planMade, planAnswer}
+use Rattle.search.specs.PlannerRight.{ample}
 use Rattle.search.specs.declared.Planned.{Planned}
 
 -- the bytes of an ASCII text
 unfoldable pub ascii : String → List ℕ
@@ -36,15 +37,6 @@ line first m second n = ascii first ++ decimal m ++ ascii second ++ decimal n ++
 unfoldable pub stepLines : List ℕ → List ℕ
 stepLines [] = []
 stepLines (a ∷ steps) = ascii "step " ++ decimal a ++ ascii "\n" ++ stepLines steps
-
--- buffers long enough for every task
-unfoldable pub ample : PlanRooms
-ample =
-    record {
-      reduction = record { actions = 512; facts = 2048; reduced = 65536; origin = 5520 };
-      table = 4096;
-      plan = 8206;
-    }
 
 -- counts of variables and actions, those of the kept, the steps, cost and steps
 unfoldable pub planLines : List ℕ → Planned → List ℕ

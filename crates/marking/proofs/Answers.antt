@@ -1,0 +1,47 @@
+-- Marking called alone answers by its stage, with an outcome of its list.
+use Prim.Native.Nat.{ℕ}
+use mathlib.Core.Path.{_≡_, refl, sym, ap, _∙_}
+use mathlib.Core.Bool.{true}
+use mathlib.Core.List.{List, [], _∷_}
+use lib.ListN.{length}
+use Rattle.files.specs.declared.Outcome.{Outcome}
+use Rattle.files.specs.Listed.{listed, short, fileRefusals}
+use Rattle.files.specs.Outcome.{done, isDone, andThen, fits}
+use Rattle.files.specs.Task.{Task, actionCount, factCount}
+use Rattle.files.specs.TaskFile.{checkTask, taskOf}
+use Rattle.files.proofs.Listed.{listed-done, listed-front, listed-behind, listed-guard, listed-both, listed-itself, listed-at, listed-later, task-listed}
+use Rattle.files.proofs.Logic.{split}
+use Rattle.files.proofs.Stages.{both-last, answer-by, after-yes, after-no}
+use Rattle.marking.specs.Mark.{marksFit, markOutcome, noMarks, markAnswer, mark, markedActions, markedFacts, actionMarksOf, factMarksOf}
+use Rattle.marking.specs.Answers.{MarkBuffers, markRefusals, markedBuffers, markWhole, markAfter, MarkAnswers}
+
+pub marks-listed : (t : Task) (a f : ℕ) → listed (short (actionCount t) ∷ short (factCount t) ∷ []) (marksFit t a f) ≡ true
+unfolding marksFit fits
+marks-listed t a f =
+    listed-guard _ _ 21 _ _ (listed-at 21 _ _ refl)
+    (λ _. listed-guard _ _ 21 _ _ (listed-later _ _ _ (listed-at 21 _ _ refl)) (λ _. listed-done _))
+
+module _ (task : List ℕ) (level : ℕ) (b : MarkBuffers) where
+  abbrev o : Outcome
+  o = markOutcome task level (length (b .actions)) (length (b .facts))
+
+  mark-listed : listed (markRefusals task) o ≡ true
+  unfolding markOutcome
+  mark-listed =
+      listed-both _ _ _ (listed-front _ _ _ (task-listed task))
+      (λ _. listed-behind _ _ _ (listed-guard _ _ 8 0 _ (listed-at 8 0 _ refl) (λ _. listed-later _ _ _ (marks-listed (taskOf task) (length (b .actions)) (length (b .facts))))))
+
+  row-is : o ≡ andThen o done
+  row-is = sym (both-last o (listed-itself _ o mark-listed))
+
+  pub mark-answers : MarkAnswers task level b
+  unfolding mark markAnswer markedActions markedFacts
+  mark-answers =
+      record {
+        outcome = ap (listed (markRefusals task)) (sym row-is) ∙ mark-listed;
+        numbers = answer-by _ _ _ (markWhole (taskOf task) level) noMarks row-is (λ e. λ i. record { outcome = listed-itself _ o mark-listed e i; actions = _; facts = _; rounds = _ });
+        buffers =
+            split (isDone o)
+            (λ e. rw e (λ i. record { actions = after-yes o (actionMarksOf (taskOf task) level) (b .actions) e i; facts = after-yes o (factMarksOf (taskOf task) level) (b .facts) e i }))
+            (λ e. rw e (λ i. record { actions = after-no o (actionMarksOf (taskOf task) level) (b .actions) e i; facts = after-no o (factMarksOf (taskOf task) level) (b .facts) e i }));
+      }

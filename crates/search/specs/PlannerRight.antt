@@ -1,0 +1,84 @@
+-- What the planner promises of the full task: the plan that it hands back is best, and "no plan" is given where there is none.
+use Prim.Native.Nat.{ℕ, _≤_, _<_}
+use mathlib.Core.Path.{_≡_}
+use mathlib.Core.Bool.{true}
+use mathlib.Core.List.{List}
+use mathlib.Core.Logic.{_↔_}
+use mathlib.Core.Option.{none}
+use lib.ListN.{length, take, getD}
+use Rattle.files.specs.Accepted.{validSigner}
+use Rattle.files.specs.Bytes.{Octets}
+use Rattle.files.specs.Outcome.{done, refusal}
+use Rattle.files.specs.PlanFile.{planFile}
+use Rattle.files.specs.Reading.{readPlan, under}
+use Rattle.files.specs.Task.{Task, actionCount}
+use Rattle.files.specs.TaskFile.{checkTask, taskOf}
+use Rattle.plans.specs.Plan.{IsPlan, totalOf, Best, FirstBest}
+use Rattle.reduction.specs.Task.{reducedTask}
+use Rattle.reduction.specs.Answers.{LongEnough}
+use Rattle.search.specs.States.{stateCount}
+use Rattle.search.specs.Table.{entryOf}
+use Rattle.search.specs.Least.{startedAt}
+use Rattle.search.specs.Planner.{planLevel, PlanRooms, Lent, lentRooms, planStage}
+use Rattle.search.specs.declared.Entry.{Entry}
+use Rattle.search.specs.declared.Planned.{Planned}
+
+-- the buffers are long enough for the planner: where no plan exists, every plan buffer is
+pub record PlanLongEnough (task : List ℕ) (signer : ℕ) (b : Lent) : Type 0 where
+  pub buffers : LongEnough task planLevel signer (b .buffers)
+  pub table : stateCount (reducedTask (taskOf task) planLevel .variables) ≤ length (b .table)
+  pub plan : (plan : List ℕ) → Best (taskOf task) plan → length (planFile plan signer) ≤ length (b .plan)
+
+-- a plan of the full task: the one in the plan file, of which the numbers handed back are
+pub record HandedBack (t : Task) (signer : ℕ) (answer : Planned) (buffer : List ℕ) : Type 0 where
+  pub outcome : answer .outcome ≡ done
+  pub plan : List ℕ
+  pub file : readPlan (actionCount t) (take (answer .plan) buffer) ≡ under plan signer
+  pub isPlan : IsPlan t plan
+  pub cost : answer .cost .0 ≡ totalOf t plan .minutes
+  pub steps : answer .steps .0 ≡ length plan
+  -- every other plan, of whatever length, costs more, or costs the same with at least as many steps
+  pub best : Best t plan
+  -- and it is the first of the best by comparing action numbers
+  pub first : FirstBest t plan
+
+-- an entry for a task: none exactly where there is no plan; else cost and steps of a cheapest plan of fewest steps, of all
+-- lists of any length
+pub record EntryRight (t : Task) (e : Entry) : Type 0 where
+  pub no-plan : (e ≡ entryOf none) ↔ ((plan : List ℕ) → IsPlan t plan → ⊥)
+  pub otherwise : (e ≡ entryOf none → ⊥) → (plan : List ℕ) × Best t plan × (e .minutes ≡ totalOf t plan .minutes) × (e .steps ≡ length plan)
+
+pub record PlannerRight (task : List ℕ) (signer : ℕ) (answer : Planned) (now : Lent) : Type 0 where
+  -- "no plan" is given exactly when the full task has none
+  pub no-plan : (answer .outcome ≡ refusal 24 0) ↔ ((plan : List ℕ) → IsPlan (taskOf task) plan → ⊥)
+  pub otherwise : (answer .outcome ≡ refusal 24 0 → ⊥) → HandedBack (taskOf task) signer answer (now .plan)
+  -- each entry of the table is that of the level 4 reduced task from its state on, after 24 too
+  pub entries : (n : ℕ) → n < stateCount (reducedTask (taskOf task) planLevel .variables)
+      → EntryRight (startedAt (reducedTask (taskOf task) planLevel) n) (getD (now .table) n (entryOf none))
+
+-- the planner is right for every accepted task: what it answers, and what the buffers that it is lent hold now
+abbrev pub PlannerPromise : List ℕ → ℕ → Lent → Planned → Lent → Type 0
+PlannerPromise task signer b answer now =
+    Octets task → checkTask task ≡ done → validSigner signer ≡ true
+    → stateCount (reducedTask (taskOf task) planLevel .variables) ≤ 4096
+    → PlanLongEnough task signer b
+    → PlannerRight task signer answer now
+
+-- buffers of the header's largest lengths
+unfoldable pub ample : PlanRooms
+ample =
+    record {
+      reduction = record { actions = 512; facts = 2048; reduced = 65536; origin = 5520 };
+      table = 4096;
+      plan = 8206;
+    }
+
+-- they are long enough for every accepted task that is searched
+abbrev pub AmpleSuffices : Type 0
+AmpleSuffices = (task : List ℕ) (signer : ℕ) (b : Lent) → Octets task → checkTask task ≡ done
+    → stateCount (reducedTask (taskOf task) planLevel .variables) ≤ 4096
+    → lentRooms b ≡ ample → PlanLongEnough task signer b
+
+-- and with them no file is refused with 21
+abbrev pub NeverShort : Type 0
+NeverShort = (task : List ℕ) (signer : ℕ) → Octets task → planStage task signer ample .number ≡ 21 → ⊥
