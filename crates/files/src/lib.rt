@@ -5,7 +5,7 @@ pub mod decode;
 pub mod origin;
 pub mod outcomes;
 pub mod plan;
-pub mod reader;
+mod reader;
 pub mod records;
 pub mod task;
 pub mod write;
