@@ -11,10 +11,12 @@ use Rattle.files.specs.Outcome.{done}
 use Rattle.files.specs.PlanFile.{checkPlanFile, planOf, planFile}
 use Rattle.files.specs.Reading.{readTask, readOrigin, readPlan}
 use Rattle.files.specs.TaskFile.{checkTask, taskOf, taskFile}
-use Rattle.files.proofs.OriginRoundTrip.{origin-accepted, origin-signer-valid, origin-reads-back, origin-read-as, origin-file-unique}
-use Rattle.files.proofs.PlanRoundTrip.{plan-accepted, plan-signer-valid, plan-reads-back, plan-read-as, plan-file-unique}
+use Rattle.files.proofs.Listed.{task-check-done, origin-check-done, plan-check-done}
+use Rattle.files.proofs.OriginRoundTrip.{origin-accepted, origin-signer-valid, origin-reads-back, origin-file-unique}
+use Rattle.files.proofs.PlanRoundTrip.{plan-accepted, plan-signer-valid, plan-reads-back, plan-file-unique}
+use Rattle.files.proofs.ReadAs.{read-as}
 use Rattle.files.proofs.TaskChecked.{task-accepted, task-signer-valid}
-use Rattle.files.proofs.TaskRoundTrip.{task-reads-back, task-read-as, task-file-unique}
+use Rattle.files.proofs.TaskRoundTrip.{task-reads-back, task-file-unique}
 
 number : {o : Outcome} → o ≡ done → o .number ≡ 0
 number e = ap (λ (o : Outcome). o .number) e
@@ -25,7 +27,7 @@ tasks-right =
     record {
       held = λ f octets e. task-accepted f octets (number e);
       signed = λ f octets e. task-signer-valid f octets (number e);
-      passes = λ t signer a v. task-read-as (taskFile t signer) t signer (task-reads-back t signer a v) .0;
+      passes = λ t signer a v. task-check-done _ (read-as _ _ _ t signer (task-reads-back t signer a v) .0);
       back = task-reads-back;
       one = task-file-unique;
     }
@@ -36,7 +38,7 @@ origins-right =
     record {
       held = λ f octets e. origin-accepted f octets (number e);
       signed = λ f octets e. origin-signer-valid f octets (number e);
-      passes = λ o signer a v. origin-read-as (originFile o signer) o signer (origin-reads-back o signer a v) .0;
+      passes = λ o signer a v. origin-check-done _ (read-as _ _ _ o signer (origin-reads-back o signer a v) .0);
       back = origin-reads-back;
       one = origin-file-unique;
     }
@@ -47,7 +49,7 @@ plans-right actions few =
     record {
       held = λ f octets e. plan-accepted actions f (number e);
       signed = λ f octets e. plan-signer-valid actions f octets (number e);
-      passes = λ plan signer a v. plan-read-as actions (planFile plan signer) plan signer (plan-reads-back actions plan signer few a v) .0;
+      passes = λ plan signer a v. plan-check-done _ actions (read-as _ _ _ plan signer (plan-reads-back actions plan signer few a v) .0);
       back = λ plan signer a v. plan-reads-back actions plan signer few a v;
       one = plan-file-unique actions;
     }

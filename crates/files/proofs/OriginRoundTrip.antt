@@ -1,7 +1,7 @@
 -- An origin file that is written reads back, and a file that reads as origins is the one written for them.
 use Rattle.files.specs.Bytes.{Octets}
 use Prim.Native.Nat.{ℕ, _+_, _*_, _/_, _≤_}
-use mathlib.Core.Path.{_≡_, refl, sym, ap, _∙_}
+use mathlib.Core.Path.{_≡_, sym, ap, _∙_}
 use mathlib.Core.Bool.{true}
 use mathlib.Core.List.{List, _++_}
 use native.Mathlib.Omega.{arith}
@@ -21,20 +21,12 @@ use Rattle.files.proofs.Numbers.{numbers-length, numbers-read, numbers-
 use Rattle.files.proofs.ValidOrigin.{ValidOrigin, origin-valid}
 use Rattle.files.proofs.Rising.{rising-under, action-origins-checked, action-origins-pass}
 use Rattle.files.proofs.SignOff.{records-stand, signed-signer, signed-done, signed-off, file-signed}
-use Rattle.files.proofs.Origins.{OriginsRead, origins-read, origins-length, origin-bytes-few, origins-checked, origins-rise, origins-end, origins-stand}
+use Rattle.files.proofs.Origins.{OriginsRead, origins-read, origin-bytes-few, origins-checked, origins-rise, origins-end, origins-stand}
 
 module _ (f : List ℕ) where
-  pub origin-variable-count : length (originOf f .variables) ≡ originVariablesIn f
-  unfolding originOf
-  origin-variable-count = origins-length f 0 (originVariablesIn f)
-
   pub origin-action-count : length (originOf f .actions) ≡ bodyLength f (originActionsPlace f) / 2
   unfolding originOf
   origin-action-count = numbers-length f (originActionsPlace f + 4) (bodyLength f (originActionsPlace f) / 2)
-
-  pub read-origin-done : checkOrigin f .number ≡ 0 → readOrigin f ≡ under (originOf f) (signerOf f)
-  unfolding readOrigin
-  read-origin-done e = reads-as (checkOrigin f) (originOf f) (signerOf f) (originOf f) (signerOf f) e refl refl
 
   pub origin-read-as : (o : Origin) (signer : ℕ) → readOrigin f ≡ under o signer → (checkOrigin f ≡ done) × (originOf f ≡ o) × (signerOf f ≡ signer)
   unfolding readOrigin

@@ -22,11 +22,6 @@ use Rattle.files.proofs.Numbers.{numbers-length, numbers-read, numbers-
 abbrev originRead : List ℕ → ℕ → VariableOrigin
 originRead f at = record { variable = u16At f (at + 4); values = numbersFrom f (at + 6) (valuesIn f at) }
 
-pub origins-length : (s : List ℕ) (at count : ℕ) → length (originsFrom s at count) ≡ count
-unfolding originsFrom
-origins-length s at zero = refl
-origins-length s at (suc count) = ap suc (origins-length s (recordEnd s at) count)
-
 -- each record has at most 32 values
 pub origin-bytes-few : (vs : List VariableOrigin) → allOf validValues vs ≡ true → length (variableOriginBytes vs) ≤ 70 * length vs
 unfolding variableOriginBytes validValues

@@ -1,18 +1,16 @@
 -- A plan file that is written reads back, and a file that reads as a plan is the one written for it.
 use Rattle.files.specs.Bytes.{Octets}
 use Prim.Native.Nat.{ℕ, _/_, _≤_}
-use mathlib.Core.Path.{_≡_, refl, _∙_}
+use mathlib.Core.Path.{_≡_, _∙_}
 use mathlib.Core.Bool.{true}
 use mathlib.Core.List.{List}
 use native.Mathlib.Omega.{arith}
 use lib.ListN.{length}
-use Rattle.files.specs.Outcome.{done}
 use Rattle.files.specs.Records.{bodyLength, recordEnd, bodyRule, bodyFits, headAt, sizeFits, signerOf, numberBytes, recordBytes}
 use Rattle.files.specs.PlanFile.{stepsIn, checkPlanFile, planOf, planFile}
 use Rattle.files.specs.Reading.{under, readPlan}
 use Rattle.files.specs.Accepted.{validSigner, acceptedPlan}
 use Rattle.files.proofs.Done.{facts}
-use Rattle.files.proofs.Listed.{plan-check-done}
 use Rattle.files.proofs.ReadAs.{reads-as, read-as}
 use Rattle.files.proofs.Lengths.{number-bytes-length, record-bytes-length, number-record-length, signed-length}
 use Rattle.files.proofs.RecordStands.{Recorded, recorded, record-stands}
@@ -22,18 +20,6 @@ use Rattle.files.proofs.SignOff.{records-stand, signed-signer, signed-d
 pub plan-length : (f : List ℕ) → length (planOf f) ≡ stepsIn f
 unfolding planOf
 plan-length f = numbers-length f 4 (stepsIn f)
-
--- a file that is read, and what it is read as
-module _ (actions : ℕ) (f : List ℕ) where
-  pub read-plan-done : checkPlanFile actions f .number ≡ 0 → readPlan actions f ≡ under (planOf f) (signerOf f)
-  unfolding readPlan
-  read-plan-done e = reads-as (checkPlanFile actions f) (planOf f) (signerOf f) (planOf f) (signerOf f) e refl refl
-
-  pub plan-read-as : (plan : List ℕ) (signer : ℕ) → readPlan actions f ≡ under plan signer → (checkPlanFile actions f ≡ done) × (planOf f ≡ plan) × (signerOf f ≡ signer)
-  unfolding readPlan
-  plan-read-as plan signer e =
-      let parts = read-as (checkPlanFile actions f) (planOf f) (signerOf f) plan signer e in
-      (plan-check-done f actions (parts .0), parts .1, parts .2)
 
 -- a plan that is written
 module _ (actions : ℕ) (plan : List ℕ) (signer : ℕ) (few : actions ≤ 65536) (a : acceptedPlan actions plan ≡ true) (v : validSigner signer ≡ true) where

@@ -55,14 +55,6 @@ unfolding filled
 filled-length row base [] = refl
 filled-length row base (p ∷ ps) = filled-length (stored row base (p .variable) (p .value)) base ps ∙ stored-length row base (p .variable) (p .value)
 
-pub filledRows-length : (rows : List ℕ) (base : ℕ) (lists : List (List Pair)) → length (filledRows rows base lists) ≡ length rows
-unfolding filledRows
-filledRows-length rows base [] = refl
-filledRows-length rows base (ps ∷ rest) =
-    filledRows-length (filled (cleared rows base 64) base ps) (base + 64) rest
-    ∙ filled-length (cleared rows base 64) base ps
-    ∙ cleared-length rows base 64
-
 -- entries before what is written
 cleared-before : (row : List ℕ) (at count i : ℕ) → i < at → getD (cleared row at count) i 0 ≡ getD row i 0
 unfolding cleared

@@ -89,10 +89,6 @@ module _ {f : List ℕ} {at : ℕ} where
       omega arith
 
 module _ (f : List ℕ) (o : Octets f) (at : ℕ) where
-  pub u16-below : u16At f at < 65536
-  unfolding u16At
-  u16-below = omega (arith, o at, o (at + 1))
-
   pub u32-below : u32At f at < 4294967296
   unfolding u32At u16At
   u32-below = omega (arith, o at, o (at + 1), o (at + 2), o (at + 3))

@@ -21,10 +21,6 @@ use Rattle.files.proofs.TaskLaid.{records-laid, laid-task, laid-done}
 use Rattle.files.proofs.TaskChecked.{task-written}
 
 module _ (f : List ℕ) where
-  pub read-task-done : checkTask f .number ≡ 0 → readTask f ≡ under (taskOf f) (signerOf f)
-  unfolding readTask
-  read-task-done e = reads-as (checkTask f) (taskOf f) (signerOf f) (taskOf f) (signerOf f) e refl refl
-
   pub task-read-as : (t : Task) (signer : ℕ) → readTask f ≡ under t signer → (checkTask f ≡ done) × (taskOf f ≡ t) × (signerOf f ≡ signer)
   unfolding readTask
   task-read-as t signer e =

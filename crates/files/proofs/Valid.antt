@@ -33,38 +33,6 @@ pub record ValidPair (t : Task) (low : ℕ) (p : Pair) : Type 0 where
   pub inside : p .value < sizeOf t (p .variable)
 
 module _ (t : Task) where
-  -- the pairs of a list, by place
-  pub pair-valid : (low : ℕ) (ps : List Pair) (i : ℕ) → validPairs t low ps ≡ true → i < length ps → ValidPair t low (getD ps i (pair 0 0))
-  unfolding validPairs
-  pair-valid low [] i h l = absurd (omega arith)
-  pair-valid low (p ∷ ps) zero h l =
-      let first = simp facts at h in
-      record { above = first .0; known = first .1 .0; inside = first .1 .1 .0 }
-  pair-valid low (p ∷ ps) (suc i) h l =
-      let first = simp facts at h in
-      let rest = pair-valid (p .variable + 1) ps i (first .1 .1 .1) (omega arith) in
-      record { above = omega (arith, rest .above); known = rest .known; inside = rest .inside }
-
-  -- their variables strictly rise
-  pub pairs-rise : (low : ℕ) (ps : List Pair) (i j : ℕ) → validPairs t low ps ≡ true → i < j → j < length ps → getD ps i (pair 0 0) .variable < getD ps j (pair 0 0) .variable
-  unfolding validPairs
-  pairs-rise low [] i j h k l = absurd (omega arith)
-  pairs-rise low (p ∷ ps) i zero h k l = absurd (omega arith)
-  pairs-rise low (p ∷ ps) zero (suc j) h k l =
-      let first = simp facts at h in
-      omega (arith, pair-valid (p .variable + 1) ps j (first .1 .1 .1) (omega arith) .above)
-  pairs-rise low (p ∷ ps) (suc i) (suc j) h k l =
-      let first = simp facts at h in
-      pairs-rise (p .variable + 1) ps i j (first .1 .1 .1) (omega arith) (omega arith)
-
-  -- so there are at most as many as variables from `low` on
-  pub pairs-few : (low : ℕ) (ps : List Pair) → low ≤ variableCount t → validPairs t low ps ≡ true → low + length ps ≤ variableCount t
-  unfolding validPairs
-  pairs-few low [] l h = omega arith
-  pairs-few low (p ∷ ps) l h =
-      let first = simp facts at h in
-      omega (arith, pairs-few (p .variable + 1) ps (omega arith) (first .1 .1 .1))
-
   -- the value that a list gives a variable
   pub value-valid : (low : ℕ) (ps : List Pair) (v x : ℕ) → validPairs t low ps ≡ true → valueIn ps v ≡ some x → ValidPair t low (pair v x)
   unfolding validPairs

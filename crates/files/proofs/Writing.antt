@@ -3,12 +3,10 @@ use Prim.Native.Nat.{ℕ, _+_, _-_, _/_, _%_, _≤_, _<_}
 use mathlib.Core.Path.{_≡_, refl, sym, ap, _∙_}
 use mathlib.Core.List.{List, [], _∷_, _++_}
 use native.Mathlib.Omega.{arith}
-use native.Mathlib.Numerals.{add-one}
-use lib.ListN.{length, getD, set, drop, drop-of-length-le}
-use lib.Seq.{drop-cons}
+use lib.ListN.{length, set}
 use Rattle.files.specs.Below.{tabulateFrom}
 use Rattle.files.specs.Bytes.{u16Bytes, u32Bytes, placed}
-use Rattle.files.specs.Records.{recordBytes, numberBytes, signed}
+use Rattle.files.specs.Records.{recordBytes, signed}
 use Rattle.files.proofs.Tabulate.{tabulateFrom-none, tabulateFrom-next}
 use Rattle.files.proofs.Placed.{placed-then}
 use Rattle.files.proofs.Lengths.{u16-bytes-length, u32-bytes-length}
@@ -69,19 +67,3 @@ module _ {A : Type 0} (bytes : List A → List ℕ) (f : ℕ → A) (b : List �
   placed-next one c next h e p q =
       placed-then b c at next (one (f i)) (bytes (tabulateFrom (i + 1) (left - 1) f)) p q
       ∙ sym (ap (λ (l : List A). placed b at (bytes l)) (tabulateFrom-next f i left h) ∙ ap (placed b at) e)
-
--- a loop that writes the entries of a list of numbers, from entry i on
-pub placed-numbers-none : (b : List ℕ) (at : ℕ) (ns : List ℕ) (i : ℕ) → length ns ≤ i → b ≡ placed b at (numberBytes (drop i ns))
-unfolding placed numberBytes
-placed-numbers-none b at ns i h = sym (ap (λ (l : List ℕ). placed b at (numberBytes l)) (drop-of-length-le ns h))
-
-pub placed-numbers-next : (b c : List ℕ) (at next : ℕ) (ns : List ℕ) (i : ℕ)
-    → i < length ns
-    → c ≡ placed b at (u16Bytes (getD ns i 0))
-    → next ≡ at + 2
-    → placed c next (numberBytes (drop (i + 1) ns)) ≡ placed b at (numberBytes (drop i ns))
-unfolding numberBytes
-placed-numbers-next b c at next ns i h e f =
-    placed-u16-then b c at next (getD ns i 0) (numberBytes (drop (i + 1) ns)) e f
-    ∙ ap (λ (n : ℕ). placed b at (u16Bytes (getD ns i 0) ++ numberBytes (drop n ns))) (add-one i)
-    ∙ sym (ap (λ (l : List ℕ). placed b at (numberBytes l)) (drop-cons ns i 0 h))

@@ -31,7 +31,7 @@ pub fn u32_at(s: &[u8], at: usize) -> usize
 }
 
 // Writes the lower 16 bits of a number.
-pub fn put_u16(buffer: &mut [u8], at: usize, n: usize)
+pub(crate) fn put_u16(buffer: &mut [u8], at: usize, n: usize)
     requires { ⌜ at + 2 ≤ length (now buffer) ⌝ }
     ensures { λ r. ⌜ now (buffer .exit) ≡ placed (now (buffer .entry)) at (u16Bytes n) ⌝ }
 {
@@ -40,7 +40,7 @@ pub fn put_u16(buffer: &mut [u8], at: usize, n: usize)
 }
 
 // Writes the lower 32 bits of a number.
-pub fn put_u32(buffer: &mut [u8], at: usize, n: usize)
+pub(crate) fn put_u32(buffer: &mut [u8], at: usize, n: usize)
     requires { ⌜ at + 4 ≤ length (now buffer) ⌝ }
     ensures { λ r. ⌜ now (buffer .exit) ≡ placed (now (buffer .entry)) at (u32Bytes n) ⌝ }
 {

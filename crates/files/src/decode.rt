@@ -123,7 +123,8 @@ fn read_effects(rows: &mut [u8], s: &[u8], at: usize, count: usize)
     }
 }
 
-// Checks a task file and, where it is accepted, reads its task into arrays.
+// Checks a task file and, where it is accepted, reads its task into arrays; where it is refused, they
+// are left as they were.
 pub fn read_task(
     file: &[u8],
     sizes: &mut [u8; 64],
@@ -135,6 +136,7 @@ pub fn read_task(
 ) -> Outcome
     ensures outcome { λ r. ⌜ r ≡ checkTask (now (file .entry)) ⌝ }
     ensures task { λ r. ⌜ (r .number ≡ 0 → held (arrays (variablesIn (now (file .entry))) (actionsIn (now (file .entry))) (now (sizes .exit)) (now (starts .exit)) (now (goal .exit)) (now (costs .exit)) (now (conditions .exit)) (now (effects .exit))) ≡ taskOf (now (file .entry))) ⌝ }
+    ensures untouched { λ r. ⌜ ((r .number ≡ 0 → ⊥) → (now (sizes .exit) ≡ now (sizes .entry)) × (now (starts .exit) ≡ now (starts .entry)) × (now (goal .exit) ≡ now (goal .entry)) × (now (costs .exit) ≡ now (costs .entry)) × (now (conditions .exit) ≡ now (conditions .entry)) × (now (effects .exit) ≡ now (effects .entry))) ⌝ }
 {
     let checked = crate::check_task(file);
     if checked.number != 0 {

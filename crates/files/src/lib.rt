@@ -1,11 +1,11 @@
 // Signed files: tasks, origins and plans as bytes, read with refusals and written under a signer.
-// The calls open to callers are check_task and check_origin; the modules serve the layers above.
+// The calls open to callers are check_task and check_origin; the public modules serve the layers above.
 pub mod bytes;
 pub mod decode;
 pub mod origin;
 pub mod outcomes;
 pub mod plan;
-pub mod reader;
+mod reader;
 pub mod records;
 pub mod task;
 pub mod write;

@@ -13,11 +13,11 @@ fn values_in(s: &[u8], at: usize) -> usize
     requires { ⌜ at < 274877906944 ⌝ }
     ensures { λ r. ⌜ (r ≡ valuesIn (now (s .entry)) at) × (r < 65536) ⌝ }
 {
-    let length = records::body_length(s, at);
-    if length < 2 {
+    let body = records::body_length(s, at);
+    if body < 2 {
         return 0;
     }
-    (length - 2) / 2
+    (body - 2) / 2
 }
 
 // The variable origin at `at`, whose variable is to be at least `low`.
@@ -40,7 +40,7 @@ fn check_variable(s: &[u8], low: usize, at: usize) -> Outcome
 }
 
 // `count` variable origins from the file's start on.
-pub fn check_variables(s: &[u8], count: usize) -> Outcome
+pub(crate) fn check_variables(s: &[u8], count: usize) -> Outcome
     requires { ⌜ count < 1000000 ⌝ }
     ensures { λ r. ⌜ r ≡ variableOriginsAt (now (s .entry)) 0 0 count ⌝ }
 {
@@ -60,7 +60,7 @@ pub fn check_variables(s: &[u8], count: usize) -> Outcome
 }
 
 // `count` rising numbers of original actions.
-pub fn check_actions(s: &[u8], at: usize, count: usize) -> Outcome
+pub(crate) fn check_actions(s: &[u8], at: usize, count: usize) -> Outcome
     requires { ⌜ at + 2 * count < 274877906944 ⌝ }
     ensures { λ r. ⌜ r ≡ actionOriginsAt (now (s .entry)) 0 at count ⌝ }
 {
@@ -83,7 +83,7 @@ pub fn check_actions(s: &[u8], at: usize, count: usize) -> Outcome
 }
 
 // How many records of kind 6 stand in a row at the file's start, counted up to 65.
-pub fn variables_in(s: &[u8]) -> usize
+pub(crate) fn variables_in(s: &[u8]) -> usize
     ensures { λ r. ⌜ (r ≡ originVariablesIn (now (s .entry))) × (r ≤ 65) ⌝ }
 {
     let mut found: usize = 0;

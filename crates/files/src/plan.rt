@@ -4,9 +4,7 @@ ghost use mathlib.Core.List.{_++_};
 ghost use Prim.Native.Nat.{_+_, _*_, _<_, _≤_};
 ghost use lib.ListN.{length, getD};
 ghost use Rattle.files.specs.Bytes.{u16Bytes, placed};
-ghost use Rattle.files.specs.Outcome.{overwrite};
-ghost use Rattle.files.specs.PlanFile.{checkPlanFile, planOf, planFile};
-ghost use Rattle.files.specs.Records.{numberBytes};
+ghost use Rattle.files.specs.PlanFile.{checkPlanFile, planOf};
 use crate::Outcome;
 use crate::bytes;
 use crate::outcomes;
@@ -68,27 +66,4 @@ pub fn put_step(buffer: &mut [u8], i: usize, action: usize)
     ensures { λ r. ⌜ now (buffer .exit) ≡ placed (now (buffer .entry)) (4 + 2 * i) (u16Bytes action) ⌝ }
 {
     bytes::put_u16(buffer, 4 + 2 * i, action);
-}
-
-// Writes the numbers of a plan's steps behind the head.
-fn put_steps(buffer: &mut [u8], plan: &[u16])
-    requires { ⌜ (length (now plan) ≤ 4096) × (4 + 2 * length (now plan) ≤ length (now buffer)) ⌝ }
-    ensures { λ r. ⌜ now (buffer .exit) ≡ placed (now (buffer .entry)) 4 (numberBytes (now (plan .entry))) ⌝ }
-{
-    let mut i: usize = 0;
-    while i < plan.len() {
-        put_step(buffer, i, plan[i] as usize);
-        i += 1;
-    }
-}
-
-// Writes the file of a plan under a signer.
-pub fn write(buffer: &mut [u8], plan: &[u16], signer: usize)
-    requires { ⌜ (length (now plan) ≤ 4096) × (16 + 2 * length (now plan) ≤ length (now buffer)) ⌝ }
-    ensures { λ r. ⌜ now (buffer .exit) ≡ overwrite (now (buffer .entry)) (planFile (now (plan .entry)) signer) ⌝ }
-{
-    let steps = plan.len();
-    put_head(buffer, steps);
-    put_steps(buffer, plan);
-    records::put_sign_off(buffer, 4 + 2 * steps, signer);
 }

@@ -5,13 +5,13 @@ ghost use Rattle.files.specs.Records.{recordEnd, recordsEnd};
 use crate::records;
 
 // The file being read and the offset reached.
-pub struct Reader<'a> {
-    pub file: &'a [u8],
-    pub at: usize,
+pub(crate) struct Reader<'a> {
+    file: &'a [u8],
+    at: usize,
 }
 
 // The reader behind the record at its offset.
-pub fn past<'a>(reader: Reader<'a>) -> Reader<'a>
+pub(crate) fn past<'a>(reader: Reader<'a>) -> Reader<'a>
     requires { ⌜ reader .at < 1099511627776 ⌝ }
     ensures { λ r. ⌜ (r .file ≡ reader .entry .file) × (r .at ≡ recordEnd (now (reader .entry .file)) (reader .entry .at)) × (r .at < reader .entry .at + 65540) ⌝ }
 {

@@ -10,10 +10,10 @@ use crate::bytes;
 use crate::outcomes;
 
 // The body length rule of a kind: at least `least`, in steps of `step`, at most `limit`.
-pub struct Rule {
-    pub least: usize,
-    pub step: usize,
-    pub limit: usize,
+struct Rule {
+    least: usize,
+    step: usize,
+    limit: usize,
 }
 
 fn lengths(least: usize, step: usize, limit: usize) -> Rule
@@ -27,7 +27,7 @@ fn lengths(least: usize, step: usize, limit: usize) -> Rule
 }
 
 // The body length rule of each kind; no body fits an unknown one.
-pub fn body_rule(kind: usize) -> Rule
+fn body_rule(kind: usize) -> Rule
     ensures { λ r. ⌜ (r ≡ bodyRule kind) × (0 < r .step) ⌝ }
 {
     match kind {
@@ -43,14 +43,14 @@ pub fn body_rule(kind: usize) -> Rule
     }
 }
 
-pub fn body_length(s: &[u8], at: usize) -> usize
+pub(crate) fn body_length(s: &[u8], at: usize) -> usize
     requires { ⌜ at < 1099511627776 ⌝ }
     ensures { λ r. ⌜ (r ≡ bodyLength (now (s .entry)) at) × (r < 65536) ⌝ }
 {
     bytes::u16_at(s, at)
 }
 
-pub fn kind_at(s: &[u8], at: usize) -> usize
+pub(crate) fn kind_at(s: &[u8], at: usize) -> usize
     requires { ⌜ at < 549755813888 ⌝ }
     ensures { λ r. ⌜ r ≡ kindAt (now (s .entry)) at ⌝ }
 {
@@ -58,33 +58,33 @@ pub fn kind_at(s: &[u8], at: usize) -> usize
 }
 
 // Where the record at `at` ends.
-pub fn record_end(s: &[u8], at: usize) -> usize
+pub(crate) fn record_end(s: &[u8], at: usize) -> usize
     requires { ⌜ at < 1099511627776 ⌝ }
     ensures { λ r. ⌜ (r ≡ recordEnd (now (s .entry)) at) × (r < at + 65540) ⌝ }
 {
     at + 4 + body_length(s, at)
 }
 
-// Whether a body of `length` bytes fits its kind's rule.
-fn check_body(rule: Rule, length: usize, at: usize) -> Outcome
-    requires { ⌜ 0 < rule .step ⌝ }
-    ensures { λ r. ⌜ r ≡ bodyFits rule length at ⌝ }
+// Whether a body of `body` bytes fits the rule of its kind.
+fn check_body(allowed: Rule, body: usize, at: usize) -> Outcome
+    requires { ⌜ 0 < allowed .step ⌝ }
+    ensures { λ r. ⌜ r ≡ bodyFits allowed body at ⌝ }
 {
-    if length < rule.least {
+    if body < allowed.least {
         return outcomes::refuse(3, at);
     }
-    let broken = (length - rule.least) % rule.step;
+    let broken = (body - allowed.least) % allowed.step;
     if broken != 0 {
         return outcomes::refuse(3, at);
     }
-    if rule.limit < length {
+    if allowed.limit < body {
         return outcomes::refuse(4, at);
     }
     outcomes::done()
 }
 
 // The head of the record at `at`, where `kind` is due.
-pub fn check_head(s: &[u8], at: usize, kind: usize) -> Outcome
+pub(crate) fn check_head(s: &[u8], at: usize, kind: usize) -> Outcome
     requires { ⌜ at < 549755813888 ⌝ }
     ensures { λ r. ⌜ r ≡ headAt (now (s .entry)) at kind ⌝ }
 {
@@ -103,7 +103,7 @@ pub fn check_head(s: &[u8], at: usize, kind: usize) -> Outcome
 }
 
 // `count` numbers of 2 bytes, each below the limit.
-pub fn check_numbers(limit: usize, s: &[u8], at: usize, count: usize) -> Outcome
+pub(crate) fn check_numbers(limit: usize, s: &[u8], at: usize, count: usize) -> Outcome
     requires { ⌜ at + 2 * count < 549755813888 ⌝ }
     ensures { λ r. ⌜ r ≡ numbersAt limit (now (s .entry)) at count ⌝ }
 {
@@ -121,7 +121,7 @@ pub fn check_numbers(limit: usize, s: &[u8], at: usize, count: usize) -> Outcome
 }
 
 // The sign-off at `at`, behind which nothing stands.
-pub fn check_sign_off(s: &[u8], at: usize) -> Outcome
+pub(crate) fn check_sign_off(s: &[u8], at: usize) -> Outcome
     requires { ⌜ at < 549755813888 ⌝ }
     ensures { λ r. ⌜ r ≡ signOffAt (now (s .entry)) at ⌝ }
 {
@@ -154,12 +154,12 @@ pub fn signer(s: &[u8]) -> usize
     bytes::u32_at(s, s.len() - 8)
 }
 
-// Writes a record's head.
-pub fn put_head(buffer: &mut [u8], at: usize, kind: usize, length: usize)
-    requires { ⌜ at + 4 ≤ lib.ListN.length (now buffer) ⌝ }
-    ensures { λ r. ⌜ now (buffer .exit) ≡ placed (now (buffer .entry)) at (u16Bytes length ++ u16Bytes kind) ⌝ }
+// Writes the head of a record with a body of `body` bytes.
+pub(crate) fn put_head(buffer: &mut [u8], at: usize, kind: usize, body: usize)
+    requires { ⌜ at + 4 ≤ length (now buffer) ⌝ }
+    ensures { λ r. ⌜ now (buffer .exit) ≡ placed (now (buffer .entry)) at (u16Bytes body ++ u16Bytes kind) ⌝ }
 {
-    bytes::put_u16(buffer, at, length);
+    bytes::put_u16(buffer, at, body);
     bytes::put_u16(buffer, at + 2, kind);
 }
 

@@ -1,7 +1,6 @@
 // Task files: the check of each record in the order of refusals.
 ghost use mathlib.Core.Path.{_≡_};
 ghost use Prim.Native.Nat.{_+_, _*_, _<_, _≤_};
-ghost use lib.ListN.{length};
 ghost use Rattle.files.specs.Bytes.{u16At};
 ghost use Rattle.files.specs.TaskFile.{headerAt, variablesIn, actionsIn, variableAt, variablesAt, sizeAt, pairAt, pairsAt, goalAt, conditionsIn, effectsIn, actionLength, effectsPlace, actionFormAt, actionAt, actionsAt, goalPlace, actionsPlace, actionPlace};
 use crate::Outcome;
@@ -23,7 +22,7 @@ pub fn actions_in(s: &[u8]) -> usize
     bytes::u16_at(s, 6)
 }
 
-pub fn check_header(s: &[u8]) -> Outcome
+pub(crate) fn check_header(s: &[u8]) -> Outcome
     ensures { λ r. ⌜ r ≡ headerAt (now (s .entry)) ⌝ }
 {
     let head = records::check_head(s, 0, 1);
@@ -63,7 +62,7 @@ fn check_variable(s: &[u8], at: usize) -> Outcome
     outcomes::done()
 }
 
-pub fn check_variables(s: &[u8], at: usize, count: usize) -> Outcome
+pub(crate) fn check_variables(s: &[u8], at: usize, count: usize) -> Outcome
     requires { ⌜ at + 8 * count < 274877906944 ⌝ }
     ensures { λ r. ⌜ r ≡ variablesAt (now (s .entry)) at count ⌝ }
 {
@@ -130,7 +129,7 @@ fn check_pairs(s: &[u8], at: usize, count: usize) -> Outcome
     outcomes::done()
 }
 
-pub fn check_goal(s: &[u8], at: usize) -> Outcome
+pub(crate) fn check_goal(s: &[u8], at: usize) -> Outcome
     requires { ⌜ at < 137438953472 ⌝ }
     ensures { λ r. ⌜ r ≡ goalAt (now (s .entry)) at ⌝ }
 {
@@ -149,7 +148,7 @@ pub fn conditions_in(s: &[u8], at: usize) -> usize
     bytes::u16_at(s, at + 8)
 }
 
-pub fn effects_in(s: &[u8], at: usize) -> usize
+pub(crate) fn effects_in(s: &[u8], at: usize) -> usize
     requires { ⌜ at < 274877906944 ⌝ }
     ensures { λ r. ⌜ (r ≡ effectsIn (now (s .entry)) at) × (r < 65536) ⌝ }
 {
@@ -157,7 +156,7 @@ pub fn effects_in(s: &[u8], at: usize) -> usize
 }
 
 // Where the effects of the action record at `at` stand.
-pub fn effects_place(s: &[u8], at: usize) -> usize
+pub(crate) fn effects_place(s: &[u8], at: usize) -> usize
     requires { ⌜ at < 274877906944 ⌝ }
     ensures { λ r. ⌜ (r ≡ effectsPlace (now (s .entry)) at) × (r ≤ at + 262152) ⌝ }
 {
@@ -189,9 +188,9 @@ fn check_action_form(s: &[u8], at: usize) -> Outcome
     if 64 < effects {
         return outcomes::refuse(4, at + 10);
     }
-    let length = records::body_length(s, at);
+    let body = records::body_length(s, at);
     let due = action_length(s, at);
-    if length != due {
+    if body != due {
         return outcomes::refuse(3, at);
     }
     outcomes::done()
@@ -217,7 +216,7 @@ fn check_action(s: &[u8], at: usize) -> Outcome
 }
 
 // `count` actions from `at` on, and the sign-off behind them.
-pub fn check_actions(s: &[u8], at: usize, count: usize) -> Outcome
+pub(crate) fn check_actions(s: &[u8], at: usize, count: usize) -> Outcome
     requires { ⌜ at + 65540 * count < 137438953472 ⌝ }
     ensures { λ r. ⌜ r ≡ actionsAt (now (s .entry)) at count ⌝ }
 {
@@ -235,13 +234,13 @@ pub fn check_actions(s: &[u8], at: usize, count: usize) -> Outcome
 }
 
 // Where the goal, the first action and action `a` stand.
-pub fn goal_place(s: &[u8]) -> usize
+pub(crate) fn goal_place(s: &[u8]) -> usize
     ensures { λ r. ⌜ (r ≡ goalPlace (now (s .entry))) × (r < 600000) ⌝ }
 {
     8 * variables_in(s) + 8
 }
 
-pub fn actions_place(s: &[u8]) -> usize
+pub(crate) fn actions_place(s: &[u8]) -> usize
     ensures { λ r. ⌜ (r ≡ actionsPlace (now (s .entry))) × (r < 700000) ⌝ }
 {
     reader::record_after(s, goal_place(s))

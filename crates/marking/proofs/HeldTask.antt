@@ -1,26 +1,25 @@
 -- The task that arrays hold, by their entries; and the marks that arrays hold.
-use Prim.Native.Nat.{ℕ, _+_, _*_, _≤_, _<_}
+use Prim.Native.Nat.{ℕ, _+_, _*_, _<_}
 use mathlib.Core.Path.{_≡_, refl, sym, ap, ap₂, _∙_}
-use mathlib.Core.Bool.{Bool, true, false, not, cond, _&&_, _||_}
+use mathlib.Core.Bool.{Bool, true, false, cond, _&&_}
 use mathlib.Core.List.{List}
-use mathlib.Core.Option.{Option, none, some}
+use mathlib.Core.Option.{none, some}
 use native.Mathlib.Omega.{arith}
 use lib.Dec.{eqb}
-use lib.ListN.{length, getD}
+use lib.ListN.{getD}
 use Rattle.files.specs.Below.{anyBelow}
-use Rattle.files.specs.Task.{Pair, Variable, Action, Task, variable, variableCount, actionCount, actionOf, sizeOf, startOf, valueIn}
+use Rattle.files.specs.Task.{Pair, Variable, Action, Task, variable, variableCount, actionCount, actionOf, sizeOf, startOf}
 use Rattle.files.specs.Accepted.{validPairs}
 use Rattle.files.specs.Dense.{Arrays, rowPairs, rowVariable, rowAction, held}
 use Rattle.files.proofs.RowValues.{rowPairs-value}
 use Rattle.files.proofs.Tabulate.{tabulateFrom-length, tabulate-entry}
 use Rattle.files.proofs.Valid.{Valid, value-valid}
-use Rattle.plans.specs.State.{hasFact}
 use Rattle.plans.proofs.WalkLaws.{held-action}
 use Rattle.marking.specs.Marks.{Marks, kept, relevant, actionMarks, factMarks}
 use Rattle.marking.specs.Links.{setsOther, threatened}
 use Rattle.marking.specs.Dense.{isMarked, otherThan}
 use Rattle.marking.proofs.MarkTables.{marksOf, marksOf-kept, marksOf-relevant, marksOf-inside, Shaped, marksOf-shaped}
-use Rattle.marking.proofs.RowTests.{row-fact, row-other, row-mentions}
+use Rattle.marking.proofs.RowTests.{row-other}
 use Rattle.marking.proofs.Truth.{any-same}
 
 -- the marks that arrays hold: a byte per action, 32 per variable

@@ -1,16 +1,15 @@
 -- The answer of marking and its buffers: refused for want of room, or done with the bytes of the last round's marks.
 use Prim.Native.Nat.{ℕ, zero, suc, _+_, _*_, _≤_, _<_}
 use mathlib.Core.Path.{_≡_, refl, sym, ap, ap₂, _∙_}
-use mathlib.Core.Bool.{Bool, true, false, cond}
-use mathlib.Core.List.{List, [], map, _++_}
+use mathlib.Core.Bool.{true, false}
+use mathlib.Core.List.{List, map, _++_}
 use native.Mathlib.Omega.{arith}
-use lib.Dec.{leb}
 use lib.ListN.{length, getD, length-map}
 use Rattle.files.specs.declared.Outcome.{Outcome}
 use Rattle.files.specs.Below.{tabulate, bit, joinBelow, sumBelow}
-use Rattle.files.specs.Bytes.{Octets, placed}
+use Rattle.files.specs.Bytes.{placed}
 use Rattle.files.specs.Dense.{Arrays, held, arrays}
-use Rattle.files.specs.Outcome.{done, refusal, isDone, guard, andThen, fits, overwrite, after}
+use Rattle.files.specs.Outcome.{done, refusal, isDone, fits, after}
 use Rattle.files.specs.Task.{Task, variableCount, actionCount, factCount, sizeOf}
 use Rattle.files.specs.TaskFile.{checkTask, taskOf}
 use Rattle.files.proofs.BelowLaws.{map-entry}
@@ -20,9 +19,9 @@ use Rattle.files.proofs.Placed.{placed-overwrite}
 use Rattle.files.proofs.Tabulate.{tabulateFrom-length, tabulate-is}
 use Rattle.files.proofs.Valid.{Valid}
 use Rattle.marking.specs.declared.Marked.{Marked}
-use Rattle.marking.specs.Marks.{Marks, kept}
-use Rattle.marking.specs.Rounds.{nextActions, nextMarks, marking}
-use Rattle.marking.specs.Mark.{actionMarksOf, factMark, factMarksOf, validLevel, marksFit, markOutcome, noMarks, markAnswer, mark, markedActions, markedFacts}
+use Rattle.marking.specs.Marks.{Marks}
+use Rattle.marking.specs.Rounds.{nextActions, marking}
+use Rattle.marking.specs.Mark.{actionMarksOf, factMark, factMarksOf, validLevel, marksFit, markOutcome, noMarks, markAnswer, mark}
 use Rattle.marking.specs.Dense.{sumOf, entryMark, entryMarks, Final}
 use Rattle.marking.proofs.HeldTask.{variables-held, actions-held, size-held}
 use Rattle.marking.proofs.MarkTables.{tabulate-same}

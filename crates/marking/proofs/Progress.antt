@@ -1,14 +1,14 @@
 -- What the arrays hold before each round: marks, and what earlier rounds have looked at.
 use Prim.Native.Nat.{ℕ, _+_, _*_, _≤_, _<_}
 use mathlib.Core.Path.{_≡_}
-use mathlib.Core.Bool.{Bool, true, false}
+use mathlib.Core.Bool.{true, false}
 use mathlib.Core.List.{List}
 use lib.Dec.{eqb}
 use lib.ListN.{length, getD}
 use Rattle.files.specs.Below.{bit}
 use Rattle.files.specs.Dense.{Arrays, held}
 use Rattle.files.specs.Task.{actionOf, sizeOf}
-use Rattle.marking.specs.Marks.{Marks, names}
+use Rattle.marking.specs.Marks.{names}
 use Rattle.marking.specs.Links.{threatened, unlinked}
 use Rattle.marking.specs.Dense.{isMarked}
 use Rattle.marking.proofs.HeldTask.{heldMarks, effectAt}

@@ -1,16 +1,16 @@
 -- The actions that a round gains from the facts that became unlinked are those that it gains from all unlinked facts.
-use Prim.Native.Nat.{ℕ, _+_, _*_, _/_, _%_, _≤_, _<_}
+use Prim.Native.Nat.{ℕ, _+_, _*_, _/_, _%_, _<_}
 use mathlib.Core.Path.{_≡_, refl, sym, ap, ap₂, subst, _∙_}
 use mathlib.Core.Bool.{Bool, true, false, not, cond, _&&_, _||_}
 use mathlib.Core.List.{List}
 use mathlib.Core.Logic.{_⊎_, inl, inr, ⊎-elim}
 use native.Mathlib.Omega.{arith}
-use lib.Dec.{eqb, leb, ltb}
-use lib.ListN.{length, getD}
-use borrow.Author.Tests.{eqb-true, eqb-false, eq-eqb, ne-eqb, lt-ltb}
+use lib.Dec.{eqb, ltb}
+use lib.ListN.{getD}
+use borrow.Author.Tests.{eqb-true, eq-eqb, ne-eqb, lt-ltb}
 use Rattle.files.specs.Below.{anyBelow, bit, anyOf}
 use Rattle.files.specs.Dense.{Arrays, held}
-use Rattle.files.specs.Task.{Pair, actionOf, sizeOf}
+use Rattle.files.specs.Task.{Pair, sizeOf}
 use Rattle.files.proofs.BelowLaws.{anyBelow-intro, anyBelow-elim, bit-most}
 use Rattle.files.proofs.Logic.{clash, split, and-split, and-join, or-split, or-left, or-right}
 use Rattle.files.proofs.Valid.{Valid}
@@ -18,7 +18,7 @@ use Rattle.plans.specs.State.{hasFact}
 use Rattle.marking.specs.Marks.{Marks, kept, relevant}
 use Rattle.marking.specs.Links.{linked, unlinked, hasRelevant, gainsAction}
 use Rattle.marking.specs.Dense.{SetWhere, isMarked, differ, sets, achieves}
-use Rattle.marking.proofs.HeldTask.{heldMarks, variables-held, actions-held, effectAt, effects-held, effect-valid, kept-held, relevant-held, relevant-inside}
+use Rattle.marking.proofs.HeldTask.{heldMarks, actions-held, effectAt, effects-held, effect-valid, kept-held, relevant-held, relevant-inside}
 use Rattle.marking.proofs.LinkLaws.{unlinked-intro, gainsAction-intro}
 use Rattle.marking.proofs.Progress.{Progress}
 use Rattle.marking.proofs.RoundLinks.{differ-new, new-differs}

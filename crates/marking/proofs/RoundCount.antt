@@ -8,12 +8,12 @@ use lib.Dec.{eqb}
 use lib.ListN.{length, getD}
 use Rattle.files.specs.Below.{bit, sumBelow}
 use Rattle.files.specs.Dense.{Arrays, held}
-use Rattle.files.specs.Task.{actionCount, variableCount, sizeOf}
+use Rattle.files.specs.Task.{sizeOf}
 use Rattle.files.proofs.Valid.{Valid}
 use Rattle.marking.specs.Marks.{Marks, kept, relevant}
 use Rattle.marking.specs.Dense.{SetWhere, isMarked, sumOf}
 use Rattle.marking.proofs.CountOrder.{sum-order, sum-same}
-use Rattle.marking.proofs.HeldTask.{heldMarks, variables-held, actions-held, factAt, marks-held, kept-held, relevant-held}
+use Rattle.marking.proofs.HeldTask.{heldMarks, actions-held, factAt, marks-held, kept-held, relevant-held}
 use Rattle.marking.proofs.MarkTables.{marksOf-same}
 use Rattle.marking.proofs.Progress.{Progress}
 use Rattle.marking.proofs.Truth.{same-truth, marked-bit}

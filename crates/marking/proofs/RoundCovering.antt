@@ -1,25 +1,24 @@
 -- What covers what, by the entries of the arrays and the table of nested pairs; and the actions whose conditions count.
-use Prim.Native.Nat.{ℕ, _+_, _*_, _≤_, _<_}
+use Prim.Native.Nat.{ℕ, _+_, _*_, _<_}
 use mathlib.Core.Path.{_≡_, refl, sym, ap, ap₂, _∙_}
-use mathlib.Core.Bool.{Bool, true, false, not, cond, _&&_, _||_}
+use mathlib.Core.Bool.{Bool, true, false, not, _&&_, _||_}
 use mathlib.Core.List.{List}
-use mathlib.Core.Option.{Option, none, some}
 use native.Mathlib.Omega.{arith}
 use lib.Dec.{eqb}
-use lib.ListN.{length, getD}
+use lib.ListN.{getD}
 use borrow.Author.Tests.{eqb-true, eqb-false, eq-eqb, ne-eqb}
-use Rattle.files.specs.Below.{anyBelow, allBelow, bit, anyOf}
+use Rattle.files.specs.Below.{anyBelow, allBelow, bit}
 use Rattle.files.specs.Dense.{Arrays, rowPairs, held}
-use Rattle.files.specs.Task.{Pair, Action, actionOf, actionCount, variableCount, valueIn}
-use Rattle.files.proofs.Logic.{clash, split}
+use Rattle.files.specs.Task.{Pair, actionOf, actionCount, variableCount, valueIn}
+use Rattle.files.proofs.Logic.{split}
 use Rattle.files.proofs.RowValues.{entryValue, rowPairs-value}
 use Rattle.files.proofs.Tabulate.{tabulate-entry}
 use Rattle.plans.specs.State.{hasFact}
-use Rattle.marking.specs.Marks.{Marks, kept}
+use Rattle.marking.specs.Marks.{Marks}
 use Rattle.marking.specs.Links.{tracked}
 use Rattle.marking.specs.Covering.{sameEffect, within, covers, covered}
 use Rattle.marking.specs.Rounds.{marked, nextActions, trackedMarks, countedActions}
-use Rattle.marking.specs.Dense.{isMarked, otherThan, missing, nested, unlike, trackedAt, coversAt, coveredAt, countedAt}
+use Rattle.marking.specs.Dense.{isMarked, otherThan, missing, nested, unlike, coversAt, coveredAt, countedAt}
 use Rattle.marking.proofs.HeldTask.{variables-held, actions-held, cost-held, conditions-held, effectAt, effects-held}
 use Rattle.marking.proofs.RoundLaws.{trackedMarks-at}
 use Rattle.marking.proofs.RowTests.{any-row, row-fact}

@@ -1,16 +1,16 @@
 -- The facts that a round gains from the actions that came to count are those that it gains from all that count.
 use Prim.Native.Nat.{ℕ, _+_, _*_, _/_, _%_, _≤_, _<_}
-use mathlib.Core.Path.{_≡_, refl, sym, ap, ap₂, subst, _∙_}
+use mathlib.Core.Path.{_≡_, refl, sym, ap, ap₂, _∙_}
 use mathlib.Core.Bool.{Bool, true, false, not, cond, _&&_, _||_}
 use mathlib.Core.List.{List}
 use mathlib.Core.Logic.{⊎-elim}
 use native.Mathlib.Omega.{arith}
 use lib.Dec.{eqb, ltb}
-use lib.ListN.{length, getD}
-use borrow.Author.Tests.{eqb-true, eqb-false, eq-eqb, ne-eqb, lt-ltb, ltb-true}
+use lib.ListN.{getD}
+use borrow.Author.Tests.{eqb-true, eq-eqb, lt-ltb, ltb-true}
 use Rattle.files.specs.Below.{anyBelow, bit}
 use Rattle.files.specs.Dense.{Arrays, rowPairs, held}
-use Rattle.files.specs.Task.{Pair, actionOf, actionCount, sizeOf, mentions}
+use Rattle.files.specs.Task.{Pair, actionOf, sizeOf, mentions}
 use Rattle.files.proofs.BelowLaws.{anyBelow-intro, anyBelow-elim, bit-most}
 use Rattle.files.proofs.Logic.{clash, split, and-split, and-join, or-split, or-left, or-right}
 use Rattle.files.proofs.Valid.{Valid}
@@ -22,7 +22,7 @@ use Rattle.marking.proofs.HeldTask.{heldMarks, variables-held, actions-
 use Rattle.marking.proofs.Progress.{Progress}
 use Rattle.marking.proofs.RoundLinks.{differ-new, new-differs}
 use Rattle.marking.proofs.RowTests.{row-fact, row-mentions}
-use Rattle.marking.proofs.Truth.{same-truth, any-same, bit-marked, marked-bit, cond-bit}
+use Rattle.marking.proofs.Truth.{same-truth, bit-marked, marked-bit, cond-bit}
 
 -- the facts that a row of an accepted task names, by their places
 module _ (d : Arrays) (ok : Valid (held d)) (level : ℕ) (row : List ℕ) (base : ℕ) (valid : (v : ℕ) → v < d .variables → eqb (getD row (base + v) 0) 255 ≡ false → getD row (base + v) 0 < sizeOf (held d) v) where

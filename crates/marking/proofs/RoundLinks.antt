@@ -6,18 +6,18 @@ use mathlib.Core.List.{List}
 use mathlib.Core.Logic.{⊎-elim}
 use native.Mathlib.Omega.{arith}
 use lib.Dec.{eqb, leb, ltb}
-use lib.ListN.{length, getD}
-use borrow.Author.Tests.{eqb-true, eqb-false, eq-eqb, ne-eqb, lt-ltb}
+use lib.ListN.{getD}
+use borrow.Author.Tests.{eqb-true, eq-eqb, lt-ltb}
 use Rattle.files.specs.Below.{anyBelow, bit}
 use Rattle.files.specs.Dense.{Arrays, held}
-use Rattle.files.specs.Task.{sizeOf, startOf}
+use Rattle.files.specs.Task.{sizeOf}
 use Rattle.files.proofs.BelowLaws.{anyBelow-intro, anyBelow-elim}
-use Rattle.files.proofs.Logic.{clash, split, split-le, and-split, and-join, or-split, or-left, or-right}
+use Rattle.files.proofs.Logic.{clash, split, and-split, and-join, or-split, or-left, or-right}
 use Rattle.files.proofs.Valid.{Valid}
 use Rattle.marking.specs.Marks.{Marks, kept, relevant}
 use Rattle.marking.specs.Links.{threatened, linked, unlinked, tracked}
 use Rattle.marking.specs.Dense.{SetWhere, isMarked, differ, otherThan, threatens, threatensAnew, linkedEntry, unlinkedAt, trackedAt}
-use Rattle.marking.proofs.HeldTask.{heldMarks, variables-held, actions-held, size-held, start-held, effectAt, threatened-held, kept-held, relevant-held, relevant-inside, factAt}
+use Rattle.marking.proofs.HeldTask.{heldMarks, variables-held, start-held, effectAt, threatened-held, kept-held, relevant-held, relevant-inside}
 use Rattle.marking.proofs.Progress.{Progress}
 use Rattle.marking.proofs.Truth.{same-truth, any-same, any-bound, bit-marked, bit-empty, marked-bit, cond-bit}
 

@@ -1,14 +1,13 @@
 -- A round of the code: its marks are those after the round, and what it has looked at serves the next.
-use Prim.Native.Nat.{ℕ, _+_, _*_, _≤_, _<_}
-use mathlib.Core.Path.{_≡_, refl, sym, ap, ap₂, _∙_}
-use mathlib.Core.Bool.{Bool, true, false, not, cond, _&&_, _||_}
+use Prim.Native.Nat.{ℕ, _+_, _*_, _<_}
+use mathlib.Core.Path.{_≡_, refl, sym, ap, _∙_}
+use mathlib.Core.Bool.{Bool, true, false, not, _&&_, _||_}
 use mathlib.Core.List.{List}
 use mathlib.Core.Logic.{⊎-elim}
 use native.Mathlib.Omega.{arith}
 use lib.Dec.{eqb, leb}
-use lib.ListN.{length, getD}
-use borrow.Author.Tests.{eqb-true, eqb-false}
-use Rattle.files.specs.Below.{anyBelow, bit}
+use lib.ListN.{getD}
+use Rattle.files.specs.Below.{bit}
 use Rattle.files.specs.Dense.{Arrays, held}
 use Rattle.files.specs.Task.{Pair, Task, actionOf, actionCount, variableCount, sizeOf, startOf}
 use Rattle.files.proofs.BelowLaws.{anyBelow-intro, anyBelow-elim, bit-most}
@@ -19,13 +18,13 @@ use Rattle.marking.specs.Marks.{Marks, kept, relevant, names}
 use Rattle.marking.specs.Links.{setsOther, threatened, linked, unlinked, tracked, gainsAction}
 use Rattle.marking.specs.Rounds.{marked, nextActions, trackedMarks, countedActions, gainsFact, nextMarks}
 use Rattle.marking.specs.Dense.{SetWhere, isMarked, threatensAnew, unlinkedAt, achieves, trackedAt, nested, coveredAt, countedAt, namesAnew}
-use Rattle.marking.proofs.HeldTask.{heldMarks, variables-held, actions-held, effectAt, effect-valid, factAt, marks-held, kept-held, relevant-held, relevant-inside}
+use Rattle.marking.proofs.HeldTask.{heldMarks, variables-held, actions-held, effectAt, effect-valid, factAt, marks-held, kept-held, relevant-held}
 use Rattle.marking.proofs.MarkCount.{Among}
-use Rattle.marking.proofs.MarkTables.{marksOf, marksOf-same}
+use Rattle.marking.proofs.MarkTables.{marksOf-same}
 use Rattle.marking.proofs.Progress.{Progress}
 use Rattle.marking.proofs.RoundActions.{unlinked-says, achieves-gains, actions-now}
 use Rattle.marking.proofs.RoundBound.{round-adds}
-use Rattle.marking.proofs.RoundCovering.{counts, counted-now}
+use Rattle.marking.proofs.RoundCovering.{counted-now}
 use Rattle.marking.proofs.RoundFacts.{count-marked, count-bit, facts-bit, facts-now, facts-known}
 use Rattle.marking.proofs.RoundLaws.{roundActions, roundFacts, round-marks, setAside}
 use Rattle.marking.proofs.RoundLinks.{threats-now, unlinked-now, unlinked-marked, tracked-now}

@@ -2,14 +2,14 @@
 -- the marks that it ends with.
 use Prim.Native.Nat.{ℕ, zero, suc, _+_, _*_, _-_, _≤_, _<_}
 use mathlib.Core.Path.{_≡_, refl, sym, ap, ap₂, _∙_}
-use mathlib.Core.Bool.{Bool, true, false, not, cond, _&&_, _||_}
+use mathlib.Core.Bool.{Bool, true, false, not, cond, _&&_}
 use mathlib.Core.List.{List}
 use native.Mathlib.Omega.{arith}
 use lib.Dec.{eqb}
-use lib.ListN.{length, getD, replicate, length-replicate}
+use lib.ListN.{getD, replicate, length-replicate}
 use Rattle.files.specs.Below.{bit, sumBelow, anyBelow}
 use Rattle.files.specs.Dense.{Arrays, held}
-use Rattle.files.specs.Task.{Task, actionCount, variableCount, factCount, sizeOf, startOf}
+use Rattle.files.specs.Task.{Task, actionCount, variableCount, factCount, sizeOf}
 use Rattle.files.proofs.BelowLaws.{bit-most}
 use Rattle.files.proofs.Countdown.{one-more}
 use Rattle.files.proofs.Filling.{zeros-entry}
@@ -20,7 +20,7 @@ use Rattle.marking.specs.Links.{threatened, linked, unlinked}
 use Rattle.marking.specs.Rounds.{nextMarks, Marking, markFrom, marking}
 use Rattle.marking.specs.Mark.{factMark}
 use Rattle.marking.specs.Dense.{SetWhere, isMarked, otherThan, rowNames, sumOf, entryMark, Final}
-use Rattle.marking.proofs.HeldTask.{heldMarks, variables-held, actions-held, goal-held, goal-valid, factAt, marks-held, kept-held, relevant-held, relevant-inside, held-shaped, effectAt, threatened-held}
+use Rattle.marking.proofs.HeldTask.{heldMarks, variables-held, actions-held, goal-held, goal-valid, factAt, marks-held, kept-held, relevant-held, held-shaped, effectAt, threatened-held}
 use Rattle.marking.proofs.CountOrder.{sum-order}
 use Rattle.marking.proofs.MarkCount.{markCount, markCount-most}
 use Rattle.marking.proofs.MarkTables.{marksOf-same}

@@ -1,15 +1,15 @@
 -- Tests over the pairs of a row, as tests of its entries.
 use Prim.Native.Nat.{ℕ, zero, suc, _+_, _≤_, _<_}
 use mathlib.Core.Path.{_≡_, refl, sym, ap, fun-ext, _∙_}
-use mathlib.Core.Bool.{Bool, true, false, not, cond, _&&_, _||_}
-use mathlib.Core.List.{List, [], _∷_}
+use mathlib.Core.Bool.{Bool, true, false, not, _&&_, _||_}
+use mathlib.Core.List.{List}
 use mathlib.Core.Logic.{⊎-elim}
 use native.Mathlib.Omega.{arith}
 use lib.Dec.{eqb}
 use lib.ListN.{getD}
-use borrow.Author.Tests.{eqb-true, eqb-false, eq-eqb, ne-eqb}
+use borrow.Author.Tests.{eqb-true, eqb-false, eq-eqb}
 use Rattle.files.specs.Below.{anyOf, anyBelow}
-use Rattle.files.specs.Task.{Pair, pair, mentions}
+use Rattle.files.specs.Task.{Pair, mentions}
 use Rattle.files.specs.Dense.{rowPairs}
 use Rattle.files.proofs.BelowLaws.{anyBelow-intro, anyBelow-elim}
 use Rattle.files.proofs.Logic.{clash, split, split-le, and-split, and-join, or-split, or-left, or-right}

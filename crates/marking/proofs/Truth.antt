@@ -1,22 +1,19 @@
 -- Tests that pass at the same times are the same test; tests and counts below a bound, from one another.
 use Prim.Native.Nat.{ℕ, zero, suc, _+_, _≤_, _<_}
 use mathlib.Core.Path.{_≡_, refl, sym, ap, ap₂, _∙_}
-use mathlib.Core.Bool.{Bool, true, false, not, cond, _&&_, _||_}
+use mathlib.Core.Bool.{Bool, true, false, not, cond, _||_}
 use mathlib.Core.List.{List, [], _∷_}
 use native.Mathlib.Omega.{arith}
 use lib.Dec.{eqb}
-use borrow.Author.Tests.{eq-eqb, ne-eqb, eqb-true}
+use borrow.Author.Tests.{ne-eqb}
 use Rattle.files.specs.Below.{anyBelow, allBelow, bit, countBelow, anyOf, allOf}
 use Rattle.files.proofs.BelowLaws.{anyBelow-intro, anyBelow-elim, bit-true, bit-false}
-use Rattle.files.proofs.Logic.{clash, split}
+use Rattle.files.proofs.Logic.{split}
 
 pub same-truth : (a b : Bool) → (a ≡ true → b ≡ true) → (b ≡ true → a ≡ true) → a ≡ b
 same-truth true b f g = sym (f refl)
 same-truth false true f g = g refl
 same-truth false false f g = refl
-
-pub not-both : (b : Bool) → b ≡ true → not b ≡ true → ⊥
-not-both b e f = clash f (ap not e)
 
 -- tests that agree below the bound
 pub any-same : (n : ℕ) (f g : ℕ → Bool) → ((i : ℕ) → i < n → f i ≡ g i) → anyBelow n f ≡ anyBelow n g

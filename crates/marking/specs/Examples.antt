@@ -1,11 +1,10 @@
 -- A task that tells a threat from an action that only restores the start value: what level 3 marks.
-use Prim.Native.Nat.{ℕ}
 use mathlib.Core.Bool.{Bool, _&&_}
-use mathlib.Core.List.{List, [], _∷_}
+use mathlib.Core.List.{[], _∷_}
 use lib.Dec.{eqb}
 use Rattle.files.specs.Below.{sameList}
-use Rattle.files.specs.Task.{Pair, Variable, Action, Task, pair, variable, action}
-use Rattle.marking.specs.Rounds.{Marking, marking}
+use Rattle.files.specs.Task.{Task, pair, variable, action}
+use Rattle.marking.specs.Rounds.{marking}
 use Rattle.marking.specs.Mark.{actionMarksOf, factMarksOf}
 
 -- action 0 asks the start value of variable 0, action 1 restores it on the way to the goal, action 2 does nothing else

@@ -1,9 +1,8 @@
 // The actions and the facts that a round gains.
-ghost use mathlib.Core.Path.{_≡_};
 ghost use mathlib.Core.Bool.{_&&_, not};
-ghost use Prim.Native.Nat.{ℕ, _+_, _*_, _/_, _%_, _≤_, _<_};
+ghost use Prim.Native.Nat.{_+_, _*_, _/_, _%_, _≤_, _<_};
 ghost use lib.Dec.{eqb, ltb};
-ghost use lib.ListN.{length, getD};
+ghost use lib.ListN.{length};
 ghost use Rattle.marking.specs.Dense.{SetWhere, sets, achieves, namesAt, rowNames, namesAnew};
 use crate::entries;
 use crate::rounds::Scope;
@@ -39,7 +38,7 @@ fn keep_anew(
 
 // Keeps the actions with an effect that is relevant and not linked, where those with an effect
 // that was so before are kept.
-pub fn gain_actions(
+pub(crate) fn gain_actions(
     kept: &mut [u8],
     scope: Scope,
     effects: &[u8; 32768],

@@ -4,8 +4,8 @@ ghost use mathlib.Core.Bool.{_&&_, not};
 ghost use Prim.Native.Nat.{ℕ, _+_, _*_, _≤_, _<_};
 ghost use lib.Dec.{eqb};
 ghost use lib.ListN.{length, getD};
-ghost use Rattle.files.specs.Below.{anyBelow, bit};
-ghost use Rattle.marking.specs.Dense.{SetWhere, isMarked, threatens, threatensAnew, linkedEntry, unlinkedAt, trackedAt};
+ghost use Rattle.files.specs.Below.{bit};
+ghost use Rattle.marking.specs.Dense.{SetWhere, threatens, threatensAnew, linkedEntry, unlinkedAt, trackedAt};
 use crate::entries;
 use crate::rounds::Scope;
 
@@ -98,7 +98,7 @@ fn is_unlinked(
 }
 
 // The facts that are relevant and not linked.
-pub fn unlinked(
+pub(crate) fn unlinked(
     scope: Scope,
     facts: &[u8; 2048],
     starts: &[u8; 64],
@@ -134,7 +134,7 @@ fn has_unlinked(unlinked: &[u8; 2048], v: usize) -> bool
 }
 
 // The tracked variables.
-pub fn tracked(scope: Scope, unlinked: &[u8; 2048]) -> [u8; 64]
+pub(crate) fn tracked(scope: Scope, unlinked: &[u8; 2048]) -> [u8; 64]
     requires { ⌜ scope .variables ≤ 64 ⌝ }
     ensures { λ r. ⌜ ((v : ℕ) → v < scope .variables → getD r v 0 ≡ bit (trackedAt (now (unlinked .entry)) v)) ⌝ }
 {

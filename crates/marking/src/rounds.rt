@@ -22,11 +22,11 @@ pub struct Scope {
 }
 
 // The marks after the last round: kept actions, relevant facts, and of those the unlinked ones.
-pub struct Marks {
-    pub kept: [u8; 512],
-    pub facts: [u8; 2048],
-    pub unlinked: [u8; 2048],
-    pub rounds: usize,
+struct Marks {
+    kept: [u8; 512],
+    facts: [u8; 2048],
+    unlinked: [u8; 2048],
+    rounds: usize,
 }
 
 // The rounds up to the first that changes nothing. Each looks at the actions kept and the facts
@@ -92,7 +92,7 @@ pub fn valid_level(level: u32) -> bool
 }
 
 // Beside a refusal there are no lengths and no rounds.
-pub fn refused(outcome: files::Outcome) -> Marked
+pub(crate) fn refused(outcome: files::Outcome) -> Marked
     ensures { λ r. ⌜ r ≡ noMarks outcome ⌝ }
 {
     Marked {

@@ -1,8 +1,8 @@
 -- The order on cost and steps is total, and adding a step keeps it and reflects it.
-use Prim.Native.Nat.{ℕ, _+_, _≤_, _<_}
+use Prim.Native.Nat.{ℕ, _≤_, _<_}
 use mathlib.Core.Path.{_≡_, refl}
 use mathlib.Core.Bool.{true, false}
-use mathlib.Core.List.{List, [], _∷_, _++_}
+use mathlib.Core.List.{List, [], _∷_}
 use mathlib.Core.Logic.{_⊎_, inl, inr, ⊎-elim}
 use native.Mathlib.Omega.{arith}
 use lib.Dec.{eqb, ltb, leb}
@@ -102,16 +102,11 @@ unfolding addStep
 addStep-reflects a x y e =
     atMost-holds x y (⊎-elim (λ l. inl (omega arith)) (λ r. inr (omega arith)) (atMost-says (addStep a x) (addStep a y) e))
 
--- the total of a list: its steps are its length, and one list behind another adds up
+-- the total of a list: its steps are its length
 pub total-steps : (t : Task) (plan : List ℕ) → totalOf t plan .steps ≡ length plan
 unfolding totalOf addStep noSteps
 total-steps t [] = refl
 total-steps t (a ∷ plan) = omega (arith, total-steps t plan)
-
-pub total-append : (t : Task) (p q : List ℕ) → totalOf t (p ++ q) .minutes ≡ totalOf t p .minutes + totalOf t q .minutes
-unfolding totalOf addStep noSteps
-total-append t [] q = omega arith
-total-append t (a ∷ p) q = omega (arith, total-append t p q)
 
 -- one action in place of another that costs no less
 abbrev pub NoDearer : Action → Action → Type 0

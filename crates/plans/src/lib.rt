@@ -1,7 +1,7 @@
 // Plans: states, applicability, the tally of a plan and the plan checker.
-// The call open to callers is check_plan; the modules serve the layers above.
+// The call open to callers is check_plan; the module rows serves the layers above.
 pub mod rows;
-pub mod tally;
+mod tally;
 mod walk;
 
 ghost use mathlib.Core.Path.{_≡_};

@@ -9,7 +9,7 @@ ghost use Rattle.plans.specs.State.{allHold};
 ghost use Rattle.plans.specs.Tally.{listState, meetsEntry, afterEntry};
 
 // The first `count` entries of the row at `base`; no pair for the other variables.
-pub fn row_at(rows: &[u8], base: usize, count: usize) -> [u8; 64]
+pub(crate) fn row_at(rows: &[u8], base: usize, count: usize) -> [u8; 64]
     requires { ⌜ (base + count ≤ length (now rows)) × (count ≤ 64) ⌝ }
     ensures { λ r. ⌜ rowPairs r 0 0 64 ≡ rowPairs (now (rows .entry)) base 0 count ⌝ }
 {
@@ -23,7 +23,7 @@ pub fn row_at(rows: &[u8], base: usize, count: usize) -> [u8; 64]
 }
 
 // The first `count` values; 0 for the other variables.
-pub fn state_of(values: &[u8; 64], count: usize) -> [u8; 64]
+pub(crate) fn state_of(values: &[u8; 64], count: usize) -> [u8; 64]
     requires { ⌜ count ≤ 64 ⌝ }
     ensures { λ r. ⌜ ((v : ℕ) → v < count → getD r v 0 ≡ getD (now (values .entry)) v 0) × ((v : ℕ) → count ≤ v → getD r v 0 ≡ 0) ⌝ }
 {
@@ -37,7 +37,7 @@ pub fn state_of(values: &[u8; 64], count: usize) -> [u8; 64]
 }
 
 // Whether all conditions of a row hold in a state.
-pub fn all_hold(row: [u8; 64], state: [u8; 64]) -> bool
+pub(crate) fn all_hold(row: [u8; 64], state: [u8; 64]) -> bool
     ensures { λ r. ⌜ r ≡ allHold (rowPairs row 0 0 64) (listState state) ⌝ }
 {
     let mut v: usize = 0;
@@ -63,7 +63,7 @@ pub fn meets(condition: u8, value: u8) -> bool
 }
 
 // The state after the effects of a row.
-pub fn applied(row: [u8; 64], state: [u8; 64]) -> [u8; 64]
+pub(crate) fn applied(row: [u8; 64], state: [u8; 64]) -> [u8; 64]
     ensures { λ r. ⌜ ((v : ℕ) → getD r v 0 ≡ Option·getD (valueIn (rowPairs row 0 0 64) v) (getD state v 0)) ⌝ }
 {
     let mut next = state;

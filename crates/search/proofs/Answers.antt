@@ -45,7 +45,7 @@ module _ (task : List ℕ) (signer : ℕ) (b : Lent) where
   abbrev search-row : Outcome
   search-row = searchStage task signer (lentRooms b)
 
-  pub abbrev whole : Outcome
+  abbrev pub whole : Outcome
   whole = planStage task signer (lentRooms b)
 
   -- the stages' outcomes are of the list

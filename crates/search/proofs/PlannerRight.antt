@@ -131,7 +131,7 @@ module _ (task : List ℕ) (signer : ℕ) (b : Lent) (octets : Octets task) (e :
 
   -- the table is filled, with a plan or without
   entries : (n : ℕ) → n < stateCount (u .variables) → EntryRight (startedAt u n) (getD (planAfter task signer b .table) n (entryOf none))
-  unfolding overwrite searched
+  unfolding overwrite searched tableOf
   entries n h =
       subst (EntryRight (startedAt u n))
       (sym
@@ -140,7 +140,6 @@ module _ (task : List ℕ) (signer : ℕ) (b : Lent) (octets : Octets task) (e :
       (entry-right u valid few n h)
     where
       table-length : length (tableOf u) ≡ stateCount (u .variables)
-      unfolding tableOf
       table-length = length-map (distances u) _ ∙ distances-length u
 
   -- where the reduced task has a plan

@@ -82,7 +82,7 @@ mark-task-requires c κs =
     let passes = to-level a .before .if1 .left in
     let octets : Octets file = λ i. omega (arith, d .before .before .before .before .before .before .before .before .before .shared-slice-known .given i) in
     let checked : checkTask file .number ≡ 0 = ap (λ (o : Outcome). o .number) (sym (d .read-task .ensures .0)) ∙ passes in
-    ap acceptedTask (held-by _ _ _ _ _ _ _ _ _ _ _ (a .before .variables-in .ensures .0) (a .actions-in .ensures .0) (d .read-task .ensures .1 passes)) ∙ task-accepted file octets checked
+    ap acceptedTask (held-by _ _ _ _ _ _ _ _ _ _ _ (a .before .variables-in .ensures .0) (a .actions-in .ensures .0) (d .read-task .ensures .1 .0 passes)) ∙ task-accepted file octets checked
 
 same-length : tie.Need-same-length
 same-length c = search needs
@@ -100,7 +100,7 @@ returns-3 c =
     let read = d .read-task .ensures .0 in
     let passes = v .before .if1 .left in
     let level = sym (v .valid-level .ensures) ∙ not-false _ (a .before .before .if2 .left) in
-    let is = held-by _ _ _ _ _ _ _ _ _ _ _ (a .before .variables-in .ensures .0) (a .actions-in .ensures .0) (d .read-task .ensures .1 passes) in (
+    let is = held-by _ _ _ _ _ _ _ _ _ _ _ (a .before .variables-in .ensures .0) (a .actions-in .ensures .0) (d .read-task .ensures .1 .0 passes) in (
       marks-answer _ _ _ _ _ read passes level _ is _ (k .mark-task .ensures .0),
       (
         marks-buffer _ _ _ _ _ read passes level _ is _ (k .mark-task .ensures .0) actionMarksOf _ _ (k .mark-task .ensures .1 .0),

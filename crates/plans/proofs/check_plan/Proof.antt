@@ -51,7 +51,7 @@ take-steps-requires c κs =
 
 returns-3 : tie.Need-returns-3
 returns-3 c =
-    let held = c .before .before .before .before .before .before .before .before .before .before .before .before .before .before .read-task .ensures .1 (c .before .before .before .before .before .before .before .before .before .before .before .before .if1 .left) in
+    let held = c .before .before .before .before .before .before .before .before .before .before .before .before .before .before .read-task .ensures .1 .0 (c .before .before .before .before .before .before .before .before .before .before .before .before .if1 .left) in
     check-walks _ _ _ (c .before .before .before .before .before .before .before .before .before .before .before .before .before .before .read-task .ensures .0) (c .before .before .before .before .before .before .before .before .before .before .before .before .if1 .left) _ (c .before .before .before .before .before .before .before .before .before .before .actions-in .ensures .0) _ _ (c .before .before .before .before .before .before .before .before .before .check .ensures) (c .before .before .before .before .before .before .before .before .in-second .ensures) _ _ (c .before .before .before .before .before .before .if2 .left) held (rw (← c .before .before .before .before .before .before .before .before .before .before .before .variables-in .ensures .0, ← c .before .before .before .before .before .before .before .before .before .before .actions-in .ensures .0) (c .take-steps .ensures _))
 
 pub check-plan-spec : {M : Type 1} → statement M

@@ -109,7 +109,7 @@ reduce-task-requires c κs =
     let passes = to-level a .before .if1 .left in
     let octets : Octets file = λ i. omega (arith, d .before .before .before .before .before .before .before .before .before .before .before .shared-slice-known .given i) in
     let checked : checkTask file .number ≡ 0 = ap (λ (o : Outcome). o .number) (sym (d .read-task .ensures .0)) ∙ passes in
-    ap acceptedTask (held-by _ _ _ _ _ _ _ _ _ _ _ (a .before .variables-in .ensures .0) (a .actions-in .ensures .0) (d .read-task .ensures .1 passes)) ∙ task-accepted file octets checked
+    ap acceptedTask (held-by _ _ _ _ _ _ _ _ _ _ _ (a .before .variables-in .ensures .0) (a .actions-in .ensures .0) (d .read-task .ensures .1 .0 passes)) ∙ task-accepted file octets checked
 
 same-length : tie.Need-same-length
 same-length c = search needs
@@ -133,7 +133,7 @@ returns-4 c =
     let passes = v .before .if1 .left in
     let level = sym (v .valid-level .ensures) ∙ not-false _ (a .before .before .before .if2 .left) in
     let signed = a .before .before .if3 .left in
-    let is = held-by _ _ _ _ _ _ _ _ _ _ _ (a .before .variables-in .ensures .0) (a .actions-in .ensures .0) (d .read-task .ensures .1 passes) in (
+    let is = held-by _ _ _ _ _ _ _ _ _ _ _ (a .before .variables-in .ensures .0) (a .actions-in .ensures .0) (d .read-task .ensures .1 .0 passes) in (
       alone-answer _ _ _ _ _ _ _ _ read passes level signed _ is _ (k .reduce-task .ensures .0),
       (
         alone-actions _ _ _ _ _ _ _ _ read passes level signed _ is _ (k .reduce-task .ensures .0) _ _ (k .reduce-task .ensures .1 .0),

@@ -1,6 +1,7 @@
--- Each array is filled with its part of the task that an accepted file holds, so together they hold that task.
+-- Each array is filled with its part of the task that an accepted file holds, so together they hold that task;
+-- nothing is written before the file is accepted.
 use Rattle.files.specs.Bytes.{Octets}
-use mathlib.Core.Path.{_≡_, sym, ap, _∙_}
+use mathlib.Core.Path.{_≡_, refl, sym, ap, _∙_}
 use native.Mathlib.Omega.{arith}
 use denote.Ref.{now}
 use Rattle.files.specs.declared.Outcome.{Outcome}
@@ -14,7 +15,7 @@ check-task-requires : tie.Need-check-task-requires
 check-task-requires c κs = search needs
 
 returns : tie.Need-returns
-returns c = (search needs, λ z. absurd (c .if1 .taken z))
+returns c = (search needs, (λ z. absurd (c .if1 .taken z), λ refused. (refl, refl, refl, refl, refl, refl)))
 
 goal-place-requires : tie.Need-goal-place-requires
 goal-place-requires c κs = search needs
@@ -74,26 +75,31 @@ returns-2 c =
     let octets : Octets f = λ i. omega (arith, c .before .before .before .before .before .before .before .before .before .before .before .before .before .before .before .before .before .before .before .before .before .shared-slice-known .given i) in
     let passes : checkTask f .number ≡ 0 = ap (λ (o : Outcome). o .number) (sym (c .before .before .before .before .before .before .before .before .before .before .before .before .before .before .before .before .before .before .before .before .check-task .ensures)) ∙ c .before .before .before .before .before .before .before .before .before .before .before .before .before .before .before .before .before .before .if1 .left in (
       c .before .before .before .before .before .before .before .before .before .before .before .before .before .before .before .before .before .before .before .before .check-task .ensures,
-      λ z.
-          held-file f octets passes _ _ _ _ _ _ _ _ _ _ _ _ _ _ _ _ _ _
-          (c .before .before .before .before .before .before .before .before .before .before .before .before .variables-in .ensures .0)
-          (c .before .before .before .before .before .before .before .before .before .before .before .before .before .before .before .actions-in .ensures .0)
-          (c .before .before .before .before .before .before .before .before .before .before .before .before .before .before .before .before .before .goal-place .ensures .0)
-          (c .before .before .before .before .before .before .before .before .before .before .before .before .before .before .before .before .actions-place .ensures .0)
-          (c .before .before .before .before .before .before .before .body-length .ensures .0)
-          (omega arith)
-          (omega arith)
-          (omega arith)
-          (omega arith)
-          (omega arith)
-          (omega arith)
-          (c .before .before .before .before .before .before .before .before .before .before .before .read-variables .ensures .0)
-          (c .before .before .before .before .before .before .before .before .before .before .before .read-variables .ensures .1)
-          (c .before .before .before .before .before .before .before .before .before .clear-row .ensures)
-          (c .before .before .before .before .before .before .fill-row .ensures)
-          (c .before .before .before .before .read-costs .ensures)
-          (c .before .before .read-conditions .ensures)
-          (c .read-effects .ensures),
+      (
+        λ z.
+            held-file f octets passes _ _ _ _ _ _ _ _ _ _ _ _ _ _ _ _ _ _
+            (c .before .before .before .before .before .before .before .before .before .before .before .before .variables-in .ensures .0)
+            (c .before .before .before .before .before .before .before .before .before .before .before .before .before .before .before .actions-in .ensures .0)
+            (c .before .before .before .before .before .before .before .before .before .before .before .before .before .before .before .before .before .goal-place .ensures .0)
+            (c .before .before .before .before .before .before .before .before .before .before .before .before .before .before .before .before .actions-place .ensures .0)
+            (c .before .before .before .before .before .before .before .body-length .ensures .0)
+            (omega arith)
+            (omega arith)
+            (omega arith)
+            (omega arith)
+            (omega arith)
+            (omega arith)
+            (c .before .before .before .before .before .before .before .before .before .before .before .read-variables .ensures .0)
+            (c .before .before .before .before .before .before .before .before .before .before .before .read-variables .ensures .1)
+            (c .before .before .before .before .before .before .before .before .before .clear-row .ensures)
+            (c .before .before .before .before .before .before .fill-row .ensures)
+            (c .before .before .before .before .read-costs .ensures)
+            (c .before .before .read-conditions .ensures)
+            (c .read-effects .ensures),
+        λ refused.
+            let never : ⊥ = refused (c .before .before .before .before .before .before .before .before .before .before .before .before .before .before .before .before .before .before .if1 .left) in
+            (absurd never, absurd never, absurd never, absurd never, absurd never, absurd never),
+      ),
     )
 
 pub read-task-spec : {M : Type 1} → statement M

@@ -3,10 +3,9 @@ use Prim.Native.Nat.{ℕ, _≤_}
 use mathlib.Core.Path.{_≡_, sym, ap, _∙_}
 use native.Mathlib.Omega.{arith}
 use denote.Ref.{now}
-use lib.ListN.{length, getD}
 use Rattle.files.specs.declared.Outcome.{Outcome}
 use Rattle.files.specs.Dense.{Arrays, held, arrays}
-use Rattle.files.specs.Task.{actionCount, factCount}
+use Rattle.files.specs.Task.{factCount}
 use Rattle.files.proofs.Valid.{Valid, task-valid}
 use Rattle.marking.specs.Mark.{marksFit}
 use Rattle.marking.proofs.HeldTask.{variables-held, actions-held, size-held}

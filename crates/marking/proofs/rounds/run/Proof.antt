@@ -1,6 +1,6 @@
 -- The loop's invariant: what is left to mark is what the definition has left. A round adds a mark, or is the last.
-use Prim.Native.Nat.{ℕ, _+_, _-_, _≤_}
-use mathlib.Core.Path.{_≡_, ap₂}
+use Prim.Native.Nat.{_+_, _-_, _≤_}
+use mathlib.Core.Path.{ap₂}
 use native.Mathlib.Omega.{arith}
 use denote.Ref.{now}
 use borrow.Author.Needs.{needs}
@@ -8,7 +8,6 @@ use Rattle.files.specs.Dense.{Arrays, held, arrays}
 use Rattle.files.proofs.Valid.{Valid, task-valid}
 use Rattle.marking.proofs.HeldTask.{variables-held, actions-held}
 use Rattle.marking.proofs.Rounding.{limit, Rounding, rounding-begins, rounds-few, rounding-less, rounding-next, rounding-ends}
-use Rattle.marking.proofs.RoundProgress.{Round}
 use Rattle.marking.proofs.rounds.run.Statement.{statement}
 use Rattle.marking.proofs.rounds.run.Tie as tie
 

@@ -1,7 +1,6 @@
 -- The goal is tested in the state of the tally, whose minutes and steps are the plan's.
 use mathlib.Core.Path.{refl, sym, _∙_}
 use borrow.Author.Tests.{not-true, not-false}
-use Rattle.files.specs.Outcome.{done}
 use Rattle.plans.specs.Check.{withTotal}
 use Rattle.plans.specs.Tally.{stateOf, totalIn}
 use Rattle.plans.proofs.WalkLaws.{end-refuses, end-passes}

@@ -39,7 +39,7 @@ search-task-requires c κs =
     let file = now (s .args .reduced) in
     let octets : Octets file = λ i. omega (arith, to-read a .before .before .before .before .before .before .before .shared-slice-known2 .given i) in
     let checked : checkTask file .number ≡ 0 = ap (λ (o : Outcome). o .number) (s .pre .0) in
-    let is = held-by _ _ _ _ _ _ _ _ _ _ _ (a .before .variables-in .ensures .0) (a .actions-in .ensures .0) (to-read a .read-task .ensures .1 (passes (to-read a))) in (
+    let is = held-by _ _ _ _ _ _ _ _ _ _ _ (a .before .variables-in .ensures .0) (a .actions-in .ensures .0) (to-read a .read-task .ensures .1 .0 (passes (to-read a))) in (
       ap acceptedTask is ∙ task-accepted file octets checked,
       s .pre .1,
       s .pre .2,
@@ -59,7 +59,7 @@ returns : tie.Need-returns
 returns c =
     let k = c .before .before .before .before .before .before in
     let a = k .before .before .before .before .before .before .before .before .before .before in
-    let is = held-by _ _ _ _ _ _ _ _ _ _ _ (a .before .variables-in .ensures .0) (a .actions-in .ensures .0) (to-read a .read-task .ensures .1 (passes (to-read a))) in (
+    let is = held-by _ _ _ _ _ _ _ _ _ _ _ (a .before .variables-in .ensures .0) (a .actions-in .ensures .0) (to-read a .read-task .ensures .1 .0 (passes (to-read a))) in (
       answer-alike _ _ is _ _ _ _ _ (k .search-task .ensures .0),
       (table-alike _ _ is _ _ (k .search-task .ensures .1 .0), plan-alike _ _ is _ _ _ _ _ (k .search-task .ensures .1 .1)),
     )
