@@ -5,7 +5,7 @@ use mathlib.Core.Bool.{true}
 use mathlib.Core.List.{List, [], _∷_}
 use lib.ListN.{length}
 use Rattle.files.specs.declared.Outcome.{Outcome}
-use Rattle.files.specs.Listed.{listed, short, fileRefusals}
+use Rattle.files.specs.Listed.{listed, refusedAt, short, fileRefusals}
 use Rattle.files.specs.Outcome.{done, isDone, andThen, fits}
 use Rattle.files.specs.Task.{Task, actionCount, factCount}
 use Rattle.files.specs.TaskFile.{checkTask, taskOf}
@@ -18,8 +18,9 @@ use Rattle.marking.specs.Answers.{MarkBuffers, markRefusals, markedBuffe
 pub marks-listed : (t : Task) (a f : ℕ) → listed (short (actionCount t) ∷ short (factCount t) ∷ []) (marksFit t a f) ≡ true
 unfolding marksFit fits
 marks-listed t a f =
-    listed-guard _ _ 21 _ _ (listed-at 21 _ _ refl)
-    (λ _. listed-guard _ _ 21 _ _ (listed-later _ _ _ (listed-at 21 _ _ refl)) (λ _. listed-done _))
+    let rooms = short (actionCount t) ∷ short (factCount t) ∷ [] in
+    listed-guard rooms _ 21 _ _ (listed-at 21 (actionCount t) _ refl)
+    (λ _. listed-guard rooms _ 21 _ _ (listed-later (short (actionCount t)) _ _ (listed-at 21 (factCount t) _ refl)) (λ _. listed-done rooms))
 
 module _ (task : List ℕ) (level : ℕ) (b : MarkBuffers) where
   abbrev o : Outcome
@@ -28,8 +29,11 @@ module _ (task : List ℕ) (level : ℕ) (b : MarkBuffers) where
   mark-listed : listed (markRefusals task) o ≡ true
   unfolding markOutcome
   mark-listed =
-      listed-both _ _ _ (listed-front _ _ _ (task-listed task))
-      (λ _. listed-behind _ _ _ (listed-guard _ _ 8 0 _ (listed-at 8 0 _ refl) (λ _. listed-later _ _ _ (marks-listed (taskOf task) (length (b .actions)) (length (b .facts))))))
+      let own = refusedAt 8 0 ∷ short (actionCount (taskOf task)) ∷ short (factCount (taskOf task)) ∷ [] in
+      listed-both (markRefusals task) _ _ (listed-front (fileRefusals 0 task) own _ (task-listed task))
+      (λ _. listed-behind (fileRefusals 0 task) own _
+      (listed-guard own _ 8 0 _ (listed-at 8 0 _ refl)
+      (λ _. listed-later (refusedAt 8 0) _ _ (marks-listed (taskOf task) (length (b .actions)) (length (b .facts))))))
 
   row-is : o ≡ andThen o done
   row-is = sym (both-last o (listed-itself _ o mark-listed))
@@ -37,9 +41,10 @@ module _ (task : List ℕ) (level : ℕ) (b : MarkBuffers) where
   pub mark-answers : MarkAnswers task level b
   unfolding mark markAnswer markedActions markedFacts
   mark-answers =
+      let whole = markWhole (taskOf task) level in
       record {
         outcome = ap (listed (markRefusals task)) (sym row-is) ∙ mark-listed;
-        numbers = answer-by _ _ _ (markWhole (taskOf task) level) noMarks row-is (λ e. λ i. record { outcome = listed-itself _ o mark-listed e i; actions = _; facts = _; rounds = _ });
+        numbers = answer-by _ _ _ whole noMarks row-is (λ e. λ i. record { outcome = listed-itself _ o mark-listed e i; actions = whole .actions; facts = whole .facts; rounds = whole .rounds });
         buffers =
             split (isDone o)
             (λ e. rw e (λ i. record { actions = after-yes o (actionMarksOf (taskOf task) level) (b .actions) e i; facts = after-yes o (factMarksOf (taskOf task) level) (b .facts) e i }))

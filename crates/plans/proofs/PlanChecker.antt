@@ -43,13 +43,18 @@ module _ (t : Task) (plan : List ℕ) where
   )
 
 -- 22 at a step of the list, 23 behind the last
+step-listed : (whole : List ℕ) (i : ℕ) → i < length whole → listed (stepRefused whole ∷ refusedAt 23 (length whole) ∷ []) (refusal 22 i) ≡ true
+unfolding listed isDone gives
+step-listed whole i h = rw (lt-ltb i (length whole) h) refl
+
 steps-listed : (whole : List ℕ) (t : Task) (s : State) (i : ℕ) (plan : List ℕ) → i + length plan ≡ length whole
     → listed (stepRefused whole ∷ refusedAt 23 (length whole) ∷ []) (takeSteps t s i plan) ≡ true
-unfolding takeSteps listed isDone gives
+unfolding takeSteps
 steps-listed whole t s i [] e =
-    listed-guard _ _ 23 i done (eq-eqb (length whole) i (omega arith)) (λ _. refl)
+    let end : length whole ≡ i = omega arith in
+    listed-guard _ _ 23 i done (rw end (listed-later _ _ _ (listed-at 23 i [] refl))) (λ _. listed-done _)
 steps-listed whole t s i (a ∷ plan) e =
-    listed-guard _ _ 22 i _ (rw (lt-ltb i (length whole) (omega arith)) refl) (λ _. steps-listed whole t (apply (actionOf t a) s) (i + 1) plan (omega arith))
+    listed-guard _ _ 22 i _ (step-listed whole i (omega arith)) (λ _. steps-listed whole t (apply (actionOf t a) s) (i + 1) plan (omega arith))
 
 module _ (task plan : List ℕ) where
   abbrev n : ℕ
@@ -59,7 +64,7 @@ module _ (task plan : List ℕ) where
   walk = takeSteps (taskOf task) (startState (taskOf task)) 0 (planOf plan)
 
   walk-listed : listed (stepRefused (planOf plan) ∷ refusedAt 23 (length (planOf plan)) ∷ []) walk ≡ true
-  walk-listed = steps-listed (planOf plan) (taskOf task) (startState (taskOf task)) 0 (planOf plan) refl
+  walk-listed = steps-listed (planOf plan) (taskOf task) (startState (taskOf task)) 0 (planOf plan) (omega arith)
 
   row-is : planOutcome task plan ≡ andThen (checkTask task) (andThen (inSecond (checkPlanFile n plan)) (andThen walk done))
   unfolding planOutcome
@@ -67,9 +72,11 @@ module _ (task plan : List ℕ) where
 
   row-listed : listed (checkRefusals task plan) (andThen (checkTask task) (andThen (inSecond (checkPlanFile n plan)) (andThen walk done))) ≡ true
   row-listed =
-      listed-both _ _ _ (listed-front _ _ _ (listed-front _ _ _ (task-listed task)))
-      (λ _. listed-both _ _ _ (listed-front _ _ _ (listed-behind _ _ _ (listed-second plan _ (plan-listed n plan))))
-      (λ _. listed-both _ _ _ (listed-behind _ _ _ walk-listed) (λ _. listed-done _)))
+      let files = fileRefusals 0 task ++ fileRefusals 1 plan in
+      let steps = stepRefused (planOf plan) ∷ refusedAt 23 (length (planOf plan)) ∷ [] in
+      listed-both (checkRefusals task plan) _ _ (listed-front files steps _ (listed-front (fileRefusals 0 task) (fileRefusals 1 plan) _ (task-listed task)))
+      (λ _. listed-both (checkRefusals task plan) _ _ (listed-front files steps _ (listed-behind (fileRefusals 0 task) (fileRefusals 1 plan) _ (listed-second plan _ (plan-listed n plan))))
+      (λ _. listed-both (checkRefusals task plan) _ _ (listed-behind files steps _ walk-listed) (λ _. listed-done (checkRefusals task plan))))
 
   numbers-are : checkPlan task plan ≡ cond (isDone (planOutcome task plan)) (withTotal (planOutcome task plan) (totalOf (taskOf task) (planOf plan))) (withTotal (planOutcome task plan) noSteps)
   unfolding checkPlan answer

@@ -6,7 +6,7 @@ use mathlib.Core.List.{List, [], _∷_}
 use lib.Dec.{leb, ltb}
 use lib.ListN.{length}
 use Rattle.files.specs.declared.Outcome.{Outcome}
-use Rattle.files.specs.Listed.{Refusal, short, listed}
+use Rattle.files.specs.Listed.{Refusal, refusedAt, short, listed, fileRefusals}
 use Rattle.files.specs.Accepted.{validSigner}
 use Rattle.files.specs.Outcome.{done, isDone, guard, andThen, fits}
 use Rattle.files.specs.Task.{Task, actionCount, factCount}
@@ -34,10 +34,12 @@ module _ (task : List ℕ) (level signer : ℕ) (b : Buffers) where
   abbrev row : Outcome
   row = reduceStage task level signer (roomsOf b)
 
-  -- the rooms for the marks and for the files
-  abbrev rooms-short : List Refusal
-  rooms-short =
-      short (actionCount t)
+  -- the refusals behind the file's
+  abbrev own : List Refusal
+  own =
+      refusedAt 8 0
+      ∷ refusedAt 7 0
+      ∷ short (actionCount t)
       ∷ short (factCount t)
       ∷ short (length (reducedFile t level signer))
       ∷ short (length (originsFile t level signer))
@@ -46,24 +48,30 @@ module _ (task : List ℕ) (level signer : ℕ) (b : Buffers) where
   pub files-listed : (more : List Refusal) → listed (short (length (reducedFile t level signer)) ∷ short (length (originsFile t level signer)) ∷ more) files ≡ true
   unfolding filesFit fits reducedFile originsFile
   files-listed more =
-      listed-guard _ _ 21 _ _ (listed-at 21 _ _ refl)
-      (λ _. listed-guard _ _ 21 _ _ (listed-later _ _ _ (listed-at 21 _ _ refl)) (λ _. listed-done _))
+      let rooms = short (length (reducedFile t level signer)) ∷ short (length (originsFile t level signer)) ∷ more in
+      listed-guard rooms _ 21 _ _ (listed-at 21 (length (reducedFile t level signer)) _ refl)
+      (λ _. listed-guard rooms _ 21 _ _ (listed-later (short (length (reducedFile t level signer))) _ _ (listed-at 21 (length (originsFile t level signer)) _ refl)) (λ _. listed-done rooms))
 
   marks-stage-listed : listed (reduceRefusals task level signer) marks ≡ true
   unfolding markStage
   marks-stage-listed =
-      listed-both _ _ _ (listed-front _ _ _ (task-listed task))
-      (λ _. listed-behind _ _ _
-      (listed-guard _ _ 8 0 _ (listed-at 8 0 _ refl)
-      (λ _. listed-guard _ _ 7 0 _ (listed-later _ _ _ (listed-at 7 0 _ refl))
-      (λ _. listed-later _ _ _ (listed-later _ _ _ (listed-front (short (actionCount t) ∷ short (factCount t) ∷ []) _ _ (marks-listed t (length (b .actions)) (length (b .facts)))))))))
+      listed-both (reduceRefusals task level signer) _ _ (listed-front (fileRefusals 0 task) own _ (task-listed task))
+      (λ _. listed-behind (fileRefusals 0 task) own _
+      (listed-guard own _ 8 0 _ (listed-at 8 0 _ refl)
+      (λ _. listed-guard own _ 7 0 _ (listed-later (refusedAt 8 0) _ _ (listed-at 7 0 _ refl))
+      (λ _. listed-later (refusedAt 8 0) _ _
+      (listed-later (refusedAt 7 0) _ _
+      (listed-front (short (actionCount t) ∷ short (factCount t) ∷ []) (short (length (reducedFile t level signer)) ∷ short (length (originsFile t level signer)) ∷ []) _
+      (marks-listed t (length (b .actions)) (length (b .facts)))))))))
 
   files-stage-listed : listed (reduceRefusals task level signer) files ≡ true
-  files-stage-listed = listed-behind _ _ _ (listed-later _ _ _ (listed-later _ _ _ (listed-later _ _ _ (listed-later _ _ _ (files-listed [])))))
+  files-stage-listed =
+      listed-behind (fileRefusals 0 task) own _
+      (listed-later (refusedAt 8 0) _ _ (listed-later (refusedAt 7 0) _ _ (listed-later (short (actionCount t)) _ _ (listed-later (short (factCount t)) _ _ (files-listed [])))))
 
   pub row-listed : listed (reduceRefusals task level signer) row ≡ true
   unfolding reduceStage
-  row-listed = listed-both _ _ _ marks-stage-listed (λ _. files-stage-listed)
+  row-listed = listed-both (reduceRefusals task level signer) _ _ marks-stage-listed (λ _. files-stage-listed)
 
   row-is : row ≡ andThen marks (andThen files done)
   unfolding reduceStage
@@ -72,8 +80,9 @@ module _ (task : List ℕ) (level signer : ℕ) (b : Buffers) where
   numbers-are : reduce task level signer (roomsOf b) ≡ cond (isDone (andThen marks (andThen files done))) (reduceWhole t level signer) (noFiles (andThen marks (andThen files done)))
   unfolding reduce reduceAnswer
   numbers-are =
-      answer-by _ _ _ (reduceWhole t level signer) noFiles row-is
-      (λ e. λ i. record { outcome = listed-itself _ row row-listed e i; actions = _; facts = _; reduced = _; origin = _; rounds = _ })
+      let whole = reduceWhole t level signer in
+      answer-by _ _ _ whole noFiles row-is
+      (λ e. λ i. record { outcome = listed-itself _ row row-listed e i; actions = whole .actions; facts = whole .facts; reduced = whole .reduced; origin = whole .origin; rounds = whole .rounds })
 
   -- the four buffers together
   abbrev A : List ℕ

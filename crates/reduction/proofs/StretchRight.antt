@@ -2,14 +2,14 @@
 use Prim.Native.Nat.{ℕ, zero, suc, _+_, _*_, _<_, _≤_}
 use mathlib.Core.Path.{_≡_, refl, sym, ap, _∙_}
 use mathlib.Core.Bool.{true, false, cond}
-use mathlib.Core.List.{List, [], _∷_}
+use mathlib.Core.List.{List, [], _∷_, _++_}
 use native.Mathlib.Omega.{arith}
 use lib.Dec.{eqb, ltb}
 use lib.ListN.{length, take, drop, getD, length-take, length-drop}
 use lib.Seq.{ext-getD, getD-take, getD-drop}
 use Rattle.files.specs.declared.Outcome.{Outcome}
 use Rattle.files.specs.Bytes.{Octets}
-use Rattle.files.specs.Listed.{listed}
+use Rattle.files.specs.Listed.{listed, refusedAt, fileRefusals}
 use Rattle.files.specs.Outcome.{done, isDone, guard, andThen, inSecond}
 use Rattle.files.specs.Records.{recordEnd, recordsEnd}
 use Rattle.files.specs.Task.{Action, action, actionCount, actionOf}
@@ -67,13 +67,16 @@ module _ (full reduced : List ℕ) (side a : ℕ) where
   last = guard (ltb a (actionCount (taskOf (sideOf side full reduced)))) 5 0 done
 
   last-listed : listed (stretchRefusals full reduced) last ≡ true
-  last-listed = listed-behind _ _ _ (listed-guard _ _ 5 0 done (listed-at 5 0 _ refl) (λ _. listed-done _))
+  last-listed =
+      listed-behind (fileRefusals 0 full ++ fileRefusals 1 reduced) (refusedAt 5 0 ∷ []) _
+      (listed-guard (refusedAt 5 0 ∷ []) _ 5 0 done (listed-at 5 0 [] refl) (λ _. listed-done (refusedAt 5 0 ∷ [])))
 
   stretch-listed : listed (stretchRefusals full reduced) o ≡ true
   unfolding stretchOutcome
   stretch-listed =
-      listed-both _ _ _ (listed-front _ _ _ (listed-front _ _ _ (task-listed full)))
-      (λ _. listed-both _ _ _ (listed-front _ _ _ (listed-behind _ _ _ (listed-second reduced _ (task-listed reduced)))) (λ _. last-listed))
+      let files = fileRefusals 0 full ++ fileRefusals 1 reduced in
+      listed-both (stretchRefusals full reduced) _ _ (listed-front files (refusedAt 5 0 ∷ []) _ (listed-front (fileRefusals 0 full) (fileRefusals 1 reduced) _ (task-listed full)))
+      (λ _. listed-both (stretchRefusals full reduced) _ _ (listed-front files (refusedAt 5 0 ∷ []) _ (listed-behind (fileRefusals 0 full) (fileRefusals 1 reduced) _ (listed-second reduced _ (task-listed reduced)))) (λ _. last-listed))
 
   row-is : o ≡ andThen (checkTask full) (andThen (inSecond (checkTask reduced)) (andThen last done))
   unfolding stretchOutcome

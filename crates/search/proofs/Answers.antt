@@ -6,7 +6,7 @@ use mathlib.Core.List.{List, [], _∷_}
 use mathlib.Core.Option.{Option, none, some, Option·getD}
 use lib.ListN.{length}
 use Rattle.files.specs.declared.Outcome.{Outcome}
-use Rattle.files.specs.Listed.{Refusal, refusedAt, short, listed}
+use Rattle.files.specs.Listed.{Refusal, refusedAt, short, listed, fileRefusals}
 use Rattle.files.specs.Outcome.{done, isDone, guard, andThen, fits, overwrite}
 use Rattle.files.specs.PlanFile.{planFile}
 use Rattle.files.specs.Task.{actionCount, factCount}
@@ -48,42 +48,72 @@ module _ (task : List ℕ) (signer : ℕ) (b : Lent) where
   abbrev pub whole : Outcome
   whole = planStage task signer (lentRooms b)
 
+  -- the refusals behind the file's, those of the search among them
+  abbrev last : List Refusal
+  last = refusedAt 24 0 ∷ short (length (planFile (planMade task) signer)) ∷ []
+
+  abbrev later : List Refusal
+  later = refusedAt 25 0 ∷ short (searchedStates task) ∷ last
+
+  abbrev written : List Refusal
+  written =
+      short (length (reducedFile (taskOf task) planLevel signer))
+      ∷ short (length (originsFile (taskOf task) planLevel signer))
+      ∷ later
+
+  abbrev own : List Refusal
+  own = refusedAt 7 0 ∷ short (actionCount (taskOf task)) ∷ short (factCount (taskOf task)) ∷ written
+
+  -- an outcome of the search's refusals, and of the file's rooms
+  behind-marks : (o : Outcome) → listed written o ≡ true → listed (planRefusals task signer) o ≡ true
+  behind-marks o w =
+      listed-behind (fileRefusals 0 task) own o
+      (listed-later (refusedAt 7 0) _ o (listed-later (short (actionCount (taskOf task))) _ o (listed-later (short (factCount (taskOf task))) written o w)))
+
+  behind-files : (o : Outcome) → listed later o ≡ true → listed written o ≡ true
+  behind-files o w =
+      listed-later (short (length (reducedFile (taskOf task) planLevel signer))) _ o
+      (listed-later (short (length (originsFile (taskOf task) planLevel signer))) later o w)
+
   -- the stages' outcomes are of the list
   marks-stage-listed : listed (planRefusals task signer) marks ≡ true
   unfolding markStage validLevel
   marks-stage-listed =
-      listed-both _ _ _ (listed-front _ _ _ (task-listed task))
-      (λ _. listed-behind _ _ _
-      (ap (listed _) (sym (guard-passes _ 8 0 _ _ refl refl))
-      ∙ listed-guard _ _ 7 0 _ (listed-at 7 0 _ refl)
-      (λ _. listed-later _ _ _
-      (listed-front (short (actionCount (taskOf task)) ∷ short (factCount (taskOf task)) ∷ []) _ _
+      listed-both (planRefusals task signer) _ _ (listed-front (fileRefusals 0 task) own _ (task-listed task))
+      (λ _. listed-behind (fileRefusals 0 task) own _
+      (ap (listed own) (sym (guard-passes _ 8 0 _ _ refl refl))
+      ∙ listed-guard own _ 7 0 _ (listed-at 7 0 _ refl)
+      (λ _. listed-later (refusedAt 7 0) _ _
+      (listed-front (short (actionCount (taskOf task)) ∷ short (factCount (taskOf task)) ∷ []) written _
       (marks-listed (taskOf task) (length (b .buffers .actions)) (length (b .buffers .facts)))))))
 
   files-stage-listed : listed (planRefusals task signer) files ≡ true
-  files-stage-listed = listed-behind _ _ _ (listed-later _ _ _ (listed-later _ _ _ (listed-later _ _ _ (files-listed task planLevel signer (b .buffers) _))))
+  files-stage-listed = behind-marks files (files-listed task planLevel signer (b .buffers) later)
 
   states-listed : listed (planRefusals task signer) states ≡ true
   unfolding statesFit fits searchedStates
   states-listed =
-      listed-behind _ _ _
-      (listed-later _ _ _ (listed-later _ _ _ (listed-later _ _ _ (listed-later _ _ _ (listed-later _ _ _
-      (listed-guard _ _ 25 0 _ (listed-at 25 0 _ refl) (λ _. listed-guard _ _ 21 _ _ (listed-later _ _ _ (listed-at 21 _ _ refl)) (λ _. listed-done _))))))))
+      behind-marks states
+      (behind-files states
+      (listed-guard later _ 25 0 _ (listed-at 25 0 _ refl)
+      (λ _. listed-guard later _ 21 _ _ (listed-later (refusedAt 25 0) _ _ (listed-at 21 (searchedStates task) _ refl)) (λ _. listed-done later))))
 
   plan-listed : (plan : Option (List ℕ)) → listed (refusedAt 24 0 ∷ short (length (planFile (Option·getD plan []) signer)) ∷ []) (planFits plan signer (length (b .plan))) ≡ true
   unfolding planFits fits
   plan-listed none = listed-at 24 0 _ refl
-  plan-listed (some plan) = listed-guard _ _ 21 _ _ (listed-later _ _ _ (listed-at 21 _ _ refl)) (λ _. listed-done _)
+  plan-listed (some plan) =
+      let rooms = refusedAt 24 0 ∷ short (length (planFile plan signer)) ∷ [] in
+      listed-guard rooms _ 21 _ _ (listed-later (refusedAt 24 0) _ _ (listed-at 21 (length (planFile plan signer)) [] refl)) (λ _. listed-done rooms)
 
   found-listed : listed (planRefusals task signer) found ≡ true
   unfolding planMade
-  found-listed =
-      listed-behind _ _ _
-      (listed-later _ _ _ (listed-later _ _ _ (listed-later _ _ _ (listed-later _ _ _ (listed-later _ _ _ (listed-later _ _ _ (listed-later _ _ _ (plan-listed (planFound task)))))))))
+  found-listed = behind-marks found (behind-files found (listed-later (refusedAt 25 0) _ _ (listed-later (short (searchedStates task)) last _ (plan-listed (planFound task)))))
 
   whole-listed : listed (planRefusals task signer) whole ≡ true
   unfolding planStage searchStage reduceStage
-  whole-listed = listed-both _ _ _ (listed-both _ _ _ (listed-both _ _ _ marks-stage-listed (λ _. files-stage-listed)) (λ _. states-listed)) (λ _. found-listed)
+  whole-listed =
+      let all = planRefusals task signer in
+      listed-both all _ _ (listed-both all _ _ (listed-both all _ _ marks-stage-listed (λ _. files-stage-listed)) (λ _. states-listed)) (λ _. found-listed)
 
   abbrev row : Outcome
   row = andThen marks (andThen files (andThen states (andThen found done)))
@@ -98,8 +128,9 @@ module _ (task : List ℕ) (signer : ℕ) (b : Lent) where
   numbers-are : planAnswer task signer (lentRooms b) ≡ cond (isDone row) (planWhole task signer) (unplanned row)
   unfolding planAnswer
   numbers-are =
-      answer-by _ _ _ (planWhole task signer) unplanned row-is
-      (λ e. λ i. record { outcome = listed-itself _ whole whole-listed e i; actions = _; facts = _; reduced = _; origin = _; table = _; plan = _; rounds = _; cost = _; steps = _ })
+      let all = planWhole task signer in
+      answer-by _ _ _ all unplanned row-is
+      (λ e. λ i. record { outcome = listed-itself _ whole whole-listed e i; actions = all .actions; facts = all .facts; reduced = all .reduced; origin = all .origin; table = all .table; plan = all .plan; rounds = all .rounds; cost = all .cost; steps = all .steps })
 
   pub whole-outcome : planAnswer task signer (lentRooms b) .outcome ≡ whole
   unfolding planAnswer

@@ -6,9 +6,8 @@ use Rattle.search.specs.Least.{startedAt}
 use Rattle.search.specs.Columns.{entriesIn, lessEntry, lowered, afterStep, leadsTo, offered, rowStates, rowWeight, rowState, canHave, canReach, differsOnly, sameEntry}
 use Rattle.search.specs.Planner.{searched, searchedStates, planFound, statesFit, searchStage, planFits, planStage, planMade, planAnswer, plannedActionMarks, plannedFactMarks, plannedReduced, plannedOrigin, plannedTable, plannedPlan}
 use Rattle.search.specs.Found.{searchOutcome, foundPlan, foundStates, foundAnswer, bothTogether}
-use Rattle.search.specs.Demands.{listed}
-use Rattle.search.specs.Listing.{ascii, digits, decimal, line, stepLines, ample, planLines, listing}
+use Rattle.search.specs.PlannerRight.{ample}
 
 unfoldable pub computes : Unit {0}
-unfolding stateCount stateNumber stateAt less least same stepTo atGoal nextState through leastBelow distancesIn distances entryOf tableOf firstAction stepsFrom startNumber firstPlan startedAt entriesIn lessEntry lowered afterStep leadsTo offered rowStates rowWeight rowState canHave canReach differsOnly sameEntry searched searchedStates planFound statesFit searchStage planFits planStage planMade planAnswer plannedActionMarks plannedFactMarks plannedReduced plannedOrigin plannedTable plannedPlan searchOutcome foundPlan foundStates foundAnswer bothTogether listed ascii digits decimal line stepLines ample planLines listing
+unfolding stateCount stateNumber stateAt less least same stepTo atGoal nextState through leastBelow distancesIn distances entryOf tableOf firstAction stepsFrom startNumber firstPlan startedAt entriesIn lessEntry lowered afterStep leadsTo offered rowStates rowWeight rowState canHave canReach differsOnly sameEntry searched searchedStates planFound statesFit searchStage planFits planStage planMade planAnswer plannedActionMarks plannedFactMarks plannedReduced plannedOrigin plannedTable plannedPlan searchOutcome foundPlan foundStates foundAnswer bothTogether ample
 computes = tt

@@ -34,3 +34,4 @@ pub mod FirstPlanLaws
 pub mod PlanWriting
 pub mod Answers
 pub mod PlannerRight
+pub mod Ample
