@@ -18,12 +18,12 @@ pub fn plan_file(file: &[u8]) {
     );
 }
 
-// The first `length` elements of a buffer, or all where it has fewer.
-fn part(buffer: &mut [u8], length: usize) -> &mut [u8] {
-    if buffer.len() < length {
+// The first `count` elements of a buffer, or all where it has fewer.
+fn part(buffer: &mut [u8], count: usize) -> &mut [u8] {
+    if buffer.len() < count {
         return buffer;
     }
-    &mut buffer[..length]
+    &mut buffer[..count]
 }
 
 // Plans a task, and prints the answer and the five buffers.

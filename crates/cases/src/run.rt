@@ -24,8 +24,8 @@ pub fn run_line(text: &[u8], from: usize, to: usize, file: &mut [u8], written: &
         lines::print_byte(10);
         return;
     }
-    let length = hex::read(text, from, to, file);
-    run_call(letter, &file[..length], written);
+    let count = hex::read(text, from, to, file);
+    run_call(letter, &file[..count], written);
     lines::print_byte(10);
 }
 

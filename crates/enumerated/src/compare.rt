@@ -2,12 +2,12 @@
 use crate::bytes::same;
 use crate::enumerate::Found;
 
-// The first bytes of a buffer.
-fn part(buffer: &[u8], length: usize) -> &[u8] {
-    if buffer.len() < length {
+// The first `count` bytes of a buffer, or all where it has fewer.
+fn part(buffer: &[u8], count: usize) -> &[u8] {
+    if buffer.len() < count {
         return buffer;
     }
-    &buffer[..length]
+    &buffer[..count]
 }
 
 // Whether an outcome has a number, and nothing beside it.
@@ -33,7 +33,7 @@ fn is_found(cost: plans::Minutes, steps: plans::Steps, found: Found) -> bool {
 // byte anywhere in the plan buffer.
 pub fn planner_differs(
     file: &[u8; 512],
-    length: usize,
+    count: usize,
     signer: u32,
     found: Found,
     plan: &[u8; 512],
@@ -44,7 +44,7 @@ pub fn planner_differs(
     let mut origin = [0u8; 512];
     let mut lent = [171u8; 512];
     let answer = search::own_table::plan(
-        part(file, length),
+        part(file, count),
         signer,
         &mut actions,
         &mut facts,
@@ -65,8 +65,8 @@ pub fn planner_differs(
 }
 
 // Whether the plan checker gives another answer for a plan file than is found.
-pub fn checker_differs(file: &[u8; 512], length: usize, found: Found, plan: &[u8; 512]) -> bool {
-    let answer = plans::check_plan(part(file, length), part(plan, found.length));
+pub fn checker_differs(file: &[u8; 512], count: usize, found: Found, plan: &[u8; 512]) -> bool {
+    let answer = plans::check_plan(part(file, count), part(plan, found.length));
     if !is_outcome(answer.outcome, 0) {
         return true;
     }
@@ -76,7 +76,7 @@ pub fn checker_differs(file: &[u8; 512], length: usize, found: Found, plan: &[u8
 // Whether a file is not reduced at a level.
 pub fn reducer_differs(
     file: &[u8; 512],
-    length: usize,
+    count: usize,
     level: u32,
     signer: u32,
     reduced: &mut [u8; 512],
@@ -85,7 +85,7 @@ pub fn reducer_differs(
     let mut facts = [0u8; 16];
     let mut origin = [0u8; 512];
     let answer = reduction::reduce(
-        part(file, length),
+        part(file, count),
         level,
         signer,
         &mut actions,

@@ -57,27 +57,27 @@ fn add(sums: &mut [usize; 12], place: usize, number: usize) {
 // One task: generated, enumerated, planned and reduced.
 fn run_task(task: usize, state: &mut u64, sums: &mut [usize; 12]) {
     let mut file = [0u8; 512];
-    let length = generate::put_task(&mut file, task, state);
+    let count = generate::put_task(&mut file, task, state);
     let signer = 1 + task % 4096 * 1048573;
     let mut plan = [171u8; 512];
     let found = enumerate::find(&file, signer, &mut plan);
     add_found(sums, found);
-    let differs = compare::planner_differs(&file, length, signer as u32, found, &plan);
+    let differs = compare::planner_differs(&file, count, signer as u32, found, &plan);
     add_difference(sums, task, b"planned otherwise: task ", differs);
     if found.number == 0 {
-        let differs = compare::checker_differs(&file, length, found, &plan);
+        let differs = compare::checker_differs(&file, count, found, &plan);
         add_difference(sums, task, b"checked otherwise: task ", differs);
     }
-    run_level(&file, length, 1, found, task, sums);
-    run_level(&file, length, 2, found, task, sums);
-    run_level(&file, length, 3, found, task, sums);
-    run_level(&file, length, 4, found, task, sums);
+    run_level(&file, count, 1, found, task, sums);
+    run_level(&file, count, 2, found, task, sums);
+    run_level(&file, count, 3, found, task, sums);
+    run_level(&file, count, 4, found, task, sums);
 }
 
 // One task reduced at a level: what is found in the reduced task is the same.
 fn run_level(
     file: &[u8; 512],
-    length: usize,
+    count: usize,
     level: u32,
     found: Found,
     task: usize,
@@ -85,7 +85,7 @@ fn run_level(
 ) {
     let mut reduced = [0u8; 512];
     let mut plan = [0u8; 512];
-    let differs = compare::reducer_differs(file, length, level, 7, &mut reduced);
+    let differs = compare::reducer_differs(file, count, level, 7, &mut reduced);
     let again = enumerate::find(&reduced, 7, &mut plan);
     let differs = differs || compare::found_differ(again, found);
     add_difference(sums, task, b"other when reduced: task ", differs);

@@ -24,23 +24,23 @@ fn answers(answer: marking::Marked, numbers: Numbers) -> bool {
     answer.rounds == numbers.rounds
 }
 
-// Whether marking the first `length` bytes of a file gives other numbers than are expected, or leaves
+// Whether marking the first `count` bytes of a file gives other numbers than are expected, or leaves
 // another element anywhere in a lent buffer.
 pub fn differs(
     file: &[u8; 2048],
-    length: usize,
+    count: usize,
     level: u32,
     actions: &[u8; 48],
     facts: &[u8; 48],
     numbers: Numbers,
 ) -> bool {
-    if 2048 < length {
+    if 2048 < count {
         return true;
     }
     let bytes: &[u8] = file;
     let mut lent_actions = expected::lent();
     let mut lent_facts = expected::lent();
-    let answer = marking::mark(&bytes[..length], level, &mut lent_actions, &mut lent_facts);
+    let answer = marking::mark(&bytes[..count], level, &mut lent_actions, &mut lent_facts);
     if !answers(answer, numbers) {
         return true;
     }

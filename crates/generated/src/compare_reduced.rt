@@ -69,10 +69,10 @@ fn lesser(one: usize, other: usize) -> usize
     if one < other { one } else { other }
 }
 
-// Reduces the first `length` bytes of a file into the first elements of the buffers.
+// Reduces the first `count` bytes of a file into the first elements of the buffers.
 fn reduce(
     file: &[u8],
-    length: usize,
+    count: usize,
     level: u32,
     case: Case,
     actions: &mut [u8],
@@ -80,13 +80,13 @@ fn reduce(
     reduced: &mut [u8],
     origin: &mut [u8],
 ) -> reduction::Reduced {
-    let length = lesser(length, file.len());
+    let count = lesser(count, file.len());
     let actions_length = lesser(case.actions, actions.len());
     let facts_length = lesser(case.facts, facts.len());
     let reduced_length = lesser(case.reduced, reduced.len());
     let origin_length = lesser(case.origin, origin.len());
     reduction::reduce(
-        &file[..length],
+        &file[..count],
         level,
         reduced_file::SIGNER,
         &mut actions[..actions_length],
@@ -96,11 +96,11 @@ fn reduce(
     )
 }
 
-// Whether reducing the first `length` bytes of a file gives another answer than is expected, or leaves
+// Whether reducing the first `count` bytes of a file gives another answer than is expected, or leaves
 // another element anywhere in a buffer.
 pub fn differs(
     file: &[u8; 2048],
-    length: usize,
+    count: usize,
     level: u32,
     case: Case,
     actions: &[u8; 48],
@@ -114,7 +114,7 @@ pub fn differs(
     let mut lent_origin = lent_file();
     let answered = reduce(
         file,
-        length,
+        count,
         level,
         case,
         &mut lent_actions,

@@ -72,15 +72,15 @@ fn put_starts(state: &mut u64, task: &mut [u8; 416]) {
     }
 }
 
-// A chain: each action sets the fact that is the condition of the action before it. Facts are taken
-// by value, then variable, where all variables have 4 values.
-fn put_chain(task: &mut [u8; 416], length: usize) {
+// A chain of `count` actions: each sets the fact that is the condition of the action before it. Facts
+// are taken by value, then variable, where all variables have 4 values.
+fn put_chain(task: &mut [u8; 416], count: usize) {
     let variables = layout::variables(task);
     if variables == 0 {
         return;
     }
     let mut action: usize = 0;
-    while action < length {
+    while action < count {
         let fact = action + 1;
         let effects = layout::row_of(layout::EFFECTS, action);
         layout::put(task, effects, action % variables, action / variables % 4);

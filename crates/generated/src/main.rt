@@ -46,14 +46,14 @@ fn run_level(level: u32) {
 fn run_task(number: usize, level: u32, state: &mut u64, sums: &mut [usize; 10]) {
     let task = generate::task(number, state);
     let mut file = [0u8; 2048];
-    let length = encode::task_file(&task, encode::SIGNER, &mut file);
+    let count = encode::task_file(&task, encode::SIGNER, &mut file);
     let mut actions = expected::lent();
     let mut facts = expected::lent();
     let numbers = expected::mark(&task, level, &mut actions, &mut facts);
     totals::add_task(sums, &actions, &facts, numbers.rounds);
     let unlike = unlike_before(&task, level, &actions, &facts);
     totals::add(sums, totals::UNLIKE, unlike as usize);
-    let differs = compare::differs(&file, length, level, &actions, &facts, numbers);
+    let differs = compare::differs(&file, count, level, &actions, &facts, numbers);
     totals::add(sums, totals::DIFFER, differs as usize);
     print_difference(b" differs at level ", number, level, differs);
 }

@@ -53,7 +53,7 @@ pub fn run_level(level: u32) {
 fn run_task(number: usize, level: u32, state: &mut u64, sums: &mut [usize; 10]) {
     let task = generate::task(number, state);
     let mut file = [0u8; 2048];
-    let length = encode::task_file(&task, encode::SIGNER, &mut file);
+    let count = encode::task_file(&task, encode::SIGNER, &mut file);
     let mut actions = expected::lent();
     let mut facts = expected::lent();
     let numbers = expected::mark(&task, level, &mut actions, &mut facts);
@@ -64,7 +64,7 @@ fn run_task(number: usize, level: u32, state: &mut u64, sums: &mut [usize; 10]) 
     let answer = done(numbers, written);
     let differ = differs(
         &file,
-        length,
+        count,
         level,
         lengths::longer(answer),
         &actions,
@@ -79,7 +79,7 @@ fn run_task(number: usize, level: u32, state: &mut u64, sums: &mut [usize; 10]) 
             number,
             level,
             &file,
-            length,
+            count,
             answer,
             &actions,
             &facts,
@@ -95,7 +95,7 @@ fn run_lengths(
     number: usize,
     level: u32,
     file: &[u8; 2048],
-    length: usize,
+    count: usize,
     answer: reduction::Reduced,
     actions: &[u8; 48],
     facts: &[u8; 48],
@@ -104,7 +104,7 @@ fn run_lengths(
     sums: &mut [usize; 10],
 ) {
     let case = lengths::exact(answer);
-    let differ = differs(file, length, level, case, actions, facts, reduced, origin);
+    let differ = differs(file, count, level, case, actions, facts, reduced, origin);
     totals::add(sums, LENGTHS, 1);
     totals::add(sums, EXACT, differ as usize);
     print_difference(
@@ -113,7 +113,7 @@ fn run_lengths(
         level,
         differ,
     );
-    run_short(number, level, file, length, answer, actions, facts, sums);
+    run_short(number, level, file, count, answer, actions, facts, sums);
 }
 
 // Reduces a task with short buffers: the marks are written, both files are left as they are.
@@ -121,7 +121,7 @@ fn run_short(
     number: usize,
     level: u32,
     file: &[u8; 2048],
-    length: usize,
+    count: usize,
     answer: reduction::Reduced,
     actions: &[u8; 48],
     facts: &[u8; 48],
@@ -129,9 +129,9 @@ fn run_short(
 ) {
     let left = compare_reduced::lent_file();
     let case = lengths::short_reduced(answer);
-    let one = differs(file, length, level, case, actions, facts, &left, &left);
+    let one = differs(file, count, level, case, actions, facts, &left, &left);
     let case = lengths::short_both(answer);
-    let both = differs(file, length, level, case, actions, facts, &left, &left);
+    let both = differs(file, count, level, case, actions, facts, &left, &left);
     let differ = one || both;
     totals::add(sums, SHORT_REDUCED, differ as usize);
     print_difference(
@@ -141,7 +141,7 @@ fn run_short(
         differ,
     );
     let case = lengths::short_origin(answer);
-    let differ = differs(file, length, level, case, actions, facts, &left, &left);
+    let differ = differs(file, count, level, case, actions, facts, &left, &left);
     totals::add(sums, SHORT_ORIGIN, differ as usize);
     print_difference(
         b" differs with a short origin buffer at level ",

@@ -131,10 +131,6 @@ module _ (t : Task) (A : ℕ → Bool) (ok : Valid t) where
   plan-from p h = runs-from (startState t) (startState (reducedBy t A)) start-reduces p h
 
 module _ (t : Task) (A : ℕ → Bool) where
-  runs-kept : (r : State) (p : List ℕ) → Runs (reducedBy t A) r p → AllKept A (map (originalOf t A) p)
-  runs-kept r [] h = tt
-  runs-kept r (i ∷ p) h = (original-kept t A i (h .0), runs-kept (apply (actionOf (reducedBy t A) i) r) p (h .2))
-
   -- an action costs the same
   original-cost : (i : ℕ) → i < actionCount (reducedBy t A) → actionOf t (originalOf t A i) .cost ≡ actionOf (reducedBy t A) i .cost
   unfolding reducedAction
@@ -152,9 +148,6 @@ module _ (t : Task) (A : ℕ → Bool) where
   runs-back s [] h k = refl
   runs-back s (a ∷ p) h k =
       ap₂ (λ (x : ℕ) (xs : List ℕ). x ∷ xs) (original-reduced t A a (h .0) (k .0)) (runs-back (apply (actionOf t a) s) p (h .2) (k .1))
-
-  pub plan-kept : (p : List ℕ) → Runs (reducedBy t A) (startState (reducedBy t A)) p → AllKept A (map (originalOf t A) p)
-  plan-kept p h = runs-kept (startState (reducedBy t A)) p h
 
   pub plan-total : (p : List ℕ) → Runs (reducedBy t A) (startState (reducedBy t A)) p → totalOf t (map (originalOf t A) p) ≡ totalOf (reducedBy t A) p
   plan-total p h = runs-total (startState (reducedBy t A)) p h

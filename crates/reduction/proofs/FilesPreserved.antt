@@ -1,13 +1,13 @@
 -- The files that reduction writes for an accepted task file read back, and preserve its best plans.
 use Prim.Native.Nat.{ℕ, _≤_}
-use mathlib.Core.Path.{_≡_, refl, sym, ap, subst, _∙_}
+use mathlib.Core.Path.{_≡_, sym, ap, subst, _∙_}
 use mathlib.Core.Bool.{true}
 use mathlib.Core.List.{List, map}
 use native.Mathlib.Omega.{arith}
 use lib.ListN.{length, getD}
 use Rattle.files.specs.declared.Outcome.{Outcome}
 use Rattle.files.specs.Bytes.{Octets}
-use Rattle.files.specs.OriginFile.{Origin, originOf, originFile}
+use Rattle.files.specs.OriginFile.{Origin, originOf}
 use Rattle.files.specs.Outcome.{done}
 use Rattle.files.specs.Records.{signerOf}
 use Rattle.files.specs.Task.{Task}
@@ -21,7 +21,7 @@ use Rattle.files.proofs.TaskRoundTrip.{task-reads-back, task-read-as}
 use Rattle.files.proofs.Valid.{task-valid}
 use Rattle.reduction.specs.Preserved.{Preserves, byOriginFile, FilesPreserve, ReductionOfFiles}
 use Rattle.reduction.specs.Reduce.{reducedFile, originsFile}
-use Rattle.reduction.specs.Task.{keptAt, reducedBy, originBy, reducedTask, originsAt, byOriginal}
+use Rattle.reduction.specs.Task.{keptAt, originBy, reducedTask, originsAt, byOriginal}
 use Rattle.reduction.proofs.OriginAccepted.{origins-accepted}
 use Rattle.reduction.proofs.Preservation.{reduction-preserves, reduction-accepted}
 use Rattle.reduction.proofs.ReducedLength.{reduced-file-length}

@@ -1,11 +1,11 @@
 -- The arrays that the code fills hold the reduced task and its origins, for the actions that are marked.
 use Prim.Native.Nat.{ℕ, _+_, _*_, _≤_, _<_}
-use mathlib.Core.Path.{_≡_, refl, sym, ap, _∙_}
-use mathlib.Core.Bool.{Bool, true}
+use mathlib.Core.Path.{_≡_, ap, _∙_}
+use mathlib.Core.Bool.{Bool}
 use mathlib.Core.List.{List}
 use native.Mathlib.Omega.{arith}
 use lib.Dec.{eqb}
-use lib.ListN.{length, getD}
+use lib.ListN.{getD}
 use Rattle.files.specs.Below.{bit, chosenBelow}
 use Rattle.files.specs.Dense.{Arrays, rowNumbers, held, heldOrigin, arrays, originArrays}
 use Rattle.files.specs.Task.{sizeOf}
@@ -16,7 +16,7 @@ use Rattle.marking.proofs.HeldTask.{variables-held, size-held}
 use Rattle.marking.proofs.Truth.{bit-marked}
 use Rattle.reduction.specs.Dense.{namedAt, changedAt, namedValue, keepsAt, newValueAt, newSizeAt, mappedEntry}
 use Rattle.reduction.specs.Named.{named, keptVariable}
-use Rattle.reduction.specs.Renumber.{newValue, newSize}
+use Rattle.reduction.specs.Renumber.{newValue}
 use Rattle.reduction.specs.Task.{reducedBy, originBy}
 use Rattle.reduction.proofs.NamedHeld.{named-held, changed-held, keeps-held, newValue-held, newSize-held}
 use Rattle.reduction.proofs.ReducedHeld.{chosen-alike, number-known, reduced-held, origin-held}

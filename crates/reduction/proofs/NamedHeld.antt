@@ -6,21 +6,21 @@ use mathlib.Core.List.{List}
 use mathlib.Core.Logic.{⊎-elim}
 use native.Mathlib.Omega.{arith}
 use lib.Dec.{eqb, ltb}
-use lib.ListN.{getD, replicate}
+use lib.ListN.{getD}
 use borrow.Author.Tests.{eqb-true, lt-ltb, ltb-true}
 use Rattle.files.specs.Below.{anyBelow, allBelow, bit, countBelow}
 use Rattle.files.specs.Dense.{Arrays, held}
-use Rattle.files.specs.Task.{Pair, actionOf, actionCount, sizeOf, startOf}
-use Rattle.files.proofs.BelowLaws.{anyBelow-intro, anyBelow-elim, bit-true, bit-false, bit-most}
+use Rattle.files.specs.Task.{Pair, actionOf, sizeOf, startOf}
+use Rattle.files.proofs.BelowLaws.{anyBelow-elim, bit-false, bit-most}
 use Rattle.files.proofs.Filling.{zeros-entry}
-use Rattle.files.proofs.Logic.{clash, split, split-le, and-split, and-join, or-split, or-left, or-right}
+use Rattle.files.proofs.Logic.{clash, split, split-le, and-split, or-split}
 use Rattle.files.proofs.Valid.{Valid}
 use Rattle.plans.specs.State.{hasFact}
 use Rattle.plans.proofs.FactLaws.{fact-valid}
 use Rattle.marking.specs.Marks.{names}
 use Rattle.marking.specs.Links.{threatened}
 use Rattle.marking.specs.Dense.{isMarked, differ, otherThan, threatens, threatensAnew, rowNames, namesAnew}
-use Rattle.marking.proofs.HeldTask.{variables-held, actions-held, size-held, start-held, goal-held, conditions-held, effectAt, threatened-held, condition-valid, goal-valid}
+use Rattle.marking.proofs.HeldTask.{actions-held, size-held, start-held, goal-held, conditions-held, effectAt, threatened-held, condition-valid, goal-valid}
 use Rattle.marking.proofs.RoundFacts.{named-inside, names-held}
 use Rattle.marking.proofs.Truth.{same-truth, any-same, any-bound, all-any, count-none, bit-marked, bit-empty, marked-bit}
 use Rattle.reduction.specs.Dense.{unmarked, namedAt, changedAt, namedValue, namedIn, otherNamed, keepsAt, newValueAt, newSizeAt}

@@ -1,6 +1,6 @@
 -- The origins of a reduced task are accepted: kept variables and actions rise, and new values are small.
 use Prim.Native.Nat.{ℕ, zero, suc, _+_, _≤_, _<_}
-use mathlib.Core.Path.{_≡_, refl, sym, ap, _∙_}
+use mathlib.Core.Path.{_≡_, refl, ap, _∙_}
 use mathlib.Core.Bool.{Bool, true}
 use mathlib.Core.List.{List, [], _∷_, map, _++_}
 use native.Mathlib.Omega.{arith}

@@ -1,8 +1,8 @@
 -- The row of marking and reduction: its outcome, its answer and its buffers, from those of its stages.
-use Prim.Native.Nat.{ℕ, _+_, _≤_, _<_}
+use Prim.Native.Nat.{ℕ, _≤_, _<_}
 use mathlib.Core.Path.{_≡_, refl, sym, ap, ap₂, _∙_}
 use mathlib.Core.Bool.{Bool, true, false, cond}
-use mathlib.Core.List.{List, map, _++_}
+use mathlib.Core.List.{List, map}
 use native.Mathlib.Omega.{arith}
 use lib.Dec.{leb}
 use lib.ListN.{length, getD, drop, length-append, List·getD-append}
@@ -11,7 +11,7 @@ use Rattle.files.specs.declared.Outcome.{Outcome}
 use Rattle.files.specs.Below.{bit}
 use Rattle.files.specs.Dense.{Arrays, held}
 use Rattle.files.specs.OriginFile.{Origin, originFile}
-use Rattle.files.specs.Outcome.{done, refusal, isDone, guard, andThen, overwrite, after}
+use Rattle.files.specs.Outcome.{refusal, isDone, andThen, overwrite, after}
 use Rattle.files.specs.Task.{Task, actionCount, factCount}
 use Rattle.files.specs.TaskFile.{checkTask, taskOf, taskFile}
 use Rattle.files.proofs.BelowLaws.{map-entry}
@@ -19,7 +19,6 @@ use Rattle.files.proofs.Guards.{goes-on, stops, guard-passes, guard-refuses, is
 use Rattle.files.proofs.Logic.{cond-case}
 use Rattle.files.proofs.Valid.{Valid}
 use Rattle.marking.specs.declared.Marked.{Marked}
-use Rattle.marking.specs.Marks.{Marks}
 use Rattle.marking.specs.Rounds.{marking}
 use Rattle.marking.specs.Mark.{validLevel, marksFit, noMarks, markAnswer, actionMarksOf, factMarksOf}
 use Rattle.marking.proofs.HeldTask.{actions-held}

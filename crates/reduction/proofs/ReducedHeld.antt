@@ -1,5 +1,5 @@
 -- Arrays with the rows of the kept variables and actions, by new numbers, hold the reduced task; and their origins.
-use Prim.Native.Nat.{ℕ, zero, suc, _+_, _*_, _-_, _%_, _≤_, _<_}
+use Prim.Native.Nat.{ℕ, zero, suc, _+_, _*_, _-_, _%_, _<_}
 use mathlib.Core.Path.{_≡_, refl, sym, ap, ap₂, _∙_}
 use mathlib.Core.Bool.{Bool, true, false, cond}
 use mathlib.Core.List.{List, [], _∷_, map, _++_}
@@ -9,10 +9,9 @@ use lib.Dec.{eqb}
 use lib.ListN.{length, getD, length-map}
 use borrow.Author.Tests.{eqb-true, eqb-false, ne-eqb}
 use Rattle.files.specs.Below.{tabulate, bit, countBelow, chosenBelow}
-use Rattle.files.specs.Dense.{Arrays, OriginArrays, rowPairs, rowVariable, rowAction, held, rowNumbers, rowOrigin, heldOrigin, arrays, originArrays}
-use Rattle.files.specs.OriginFile.{VariableOrigin, Origin}
-use Rattle.files.specs.Task.{Pair, Variable, Action, pair, variable, action, variableCount, actionCount, actionOf, sizeOf, startOf}
-use Rattle.files.proofs.BelowLaws.{bit-true, bit-false, count-mono, count-strict, chosen-length, chosen-at, Chosen, chosen, map-entry}
+use Rattle.files.specs.Dense.{Arrays, rowPairs, rowVariable, rowAction, held, rowNumbers, rowOrigin, heldOrigin, arrays, originArrays}
+use Rattle.files.specs.Task.{Pair, pair, variable, action, actionOf, sizeOf, startOf}
+use Rattle.files.proofs.BelowLaws.{bit-true, bit-false, count-strict, chosen-length, chosen-at, chosen, map-entry}
 use Rattle.files.proofs.Logic.{split, cond-case}
 use Rattle.files.proofs.RowLaws.{rowPairs-none, rowPairs-skip, rowPairs-next}
 use Rattle.files.proofs.Tabulate.{tabulateFrom-length, tabulate-entry, tabulate-is}

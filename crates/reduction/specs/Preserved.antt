@@ -12,7 +12,7 @@ use Rattle.files.specs.TaskFile.{checkTask, taskOf}
 use Rattle.files.specs.OriginFile.{originOf}
 use Rattle.files.specs.Reading.{readTask, readOrigin, under}
 use Rattle.files.specs.Accepted.{validSigner, acceptedTask}
-use Rattle.plans.specs.Plan.{IsPlan, Total, totalOf, Best, FirstBest}
+use Rattle.plans.specs.Plan.{IsPlan, totalOf, Best, FirstBest}
 use Rattle.reduction.specs.Task.{reducedTask, originsAt, byOriginal}
 use Rattle.reduction.specs.Reduce.{reducedFile, originsFile}
 

@@ -17,14 +17,14 @@ use files::outcomes;
 use marking::rounds::Scope;
 
 // How many variables and actions the reduced task has.
-pub struct Counts {
-    pub variables: usize,
-    pub actions: usize,
+struct Counts {
+    variables: usize,
+    actions: usize,
 }
 
 // Fills arrays with the reduced task and its origins: `ranges` has the domain sizes as they were,
 // `rows` the new values of each kept variable.
-pub fn fill(
+fn fill(
     scope: Scope,
     sizes: &[u8; 64],
     starts: &[u8; 64],
@@ -92,7 +92,7 @@ pub struct Written {
 }
 
 // Writes the files of a task and its origins that arrays hold, where both buffers are long enough.
-pub fn write(
+fn write(
     counts: Counts,
     sizes: &[u8; 64],
     starts: &[u8; 64],

@@ -1,9 +1,9 @@
 // Reduction: the reduced task and its origins, and the condition pairs of an action.
-// The calls open to callers are reduce and conditions; the module row serves the layers above.
+// The calls open to callers are reduce and conditions.
 mod arrays;
 mod named;
 mod renumber;
-pub mod row;
+mod row;
 mod stretch;
 
 ghost use mathlib.Core.Path.{_≡_};

@@ -1,10 +1,10 @@
 // New numbers of values, and rows by new numbers.
 ghost use mathlib.Core.Path.{_≡_};
 ghost use Prim.Native.Nat.{ℕ, _+_, _*_, _≤_, _<_};
-ghost use mathlib.Core.Bool.{Bool, cond};
+ghost use mathlib.Core.Bool.{cond};
 ghost use lib.Dec.{eqb};
 ghost use lib.ListN.{length, getD};
-ghost use Rattle.reduction.specs.Dense.{namedIn, newValueAt, newSizeAt, mappedEntry};
+ghost use Rattle.reduction.specs.Dense.{newValueAt, newSizeAt, mappedEntry};
 use crate::named;
 
 // The number of a value: its rank where it is named, else the number of the values left over.
@@ -44,7 +44,7 @@ pub fn new_values(named: &[u8; 2048], variables: usize) -> [u8; 2048]
 }
 
 // How many values a kept variable has.
-pub fn new_size(named: &[u8; 2048], v: usize, size: u8) -> u8
+fn new_size(named: &[u8; 2048], v: usize, size: u8) -> u8
     requires { ⌜ v < 64 ⌝ }
     ensures { λ r. ⌜ r ≡ newSizeAt (now (named .entry)) v size ⌝ }
 {
@@ -53,7 +53,7 @@ pub fn new_size(named: &[u8; 2048], v: usize, size: u8) -> u8
 }
 
 // An entry of a row by new values.
-pub fn mapped(values: &[u8; 2048], v: usize, entry: u8) -> u8
+fn mapped(values: &[u8; 2048], v: usize, entry: u8) -> u8
     requires { ⌜ v < 64 ⌝ }
     ensures { λ r. ⌜ r ≡ mappedEntry (now (values .entry)) v entry ⌝ }
 {

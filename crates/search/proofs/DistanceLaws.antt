@@ -62,9 +62,6 @@ less-le none y e = clash e refl
 less-le (some x) none e = refl
 less-le (some x) (some y) e = atMost-le x y (atMost-total y x (less-atMost x y e))
 
-pub le-total : (x y : Distance) → Le x y ⊎ Le y x
-le-total x y = split (less y x) (λ e. inr (less-le y x e)) inl
-
 -- nothing is less than no step
 pub noSteps-le : (x : Distance) → Le (some noSteps) x
 noSteps-le none = le-none (some noSteps)

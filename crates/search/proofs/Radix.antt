@@ -3,7 +3,7 @@ use Prim.Native.Nat.{ℕ, zero, suc, _+_, _*_, _/_, _%_, _≤_, _<_}
 use mathlib.Core.Path.{_≡_, refl, sym, ap, subst, fun-ext, _∙_}
 use mathlib.Core.List.{List, [], _∷_}
 use native.Mathlib.Omega.{arith}
-use native.Mathlib.Nat.{mod-lt, mod-eq-of-lt, mod-add-div, div-eq-of-lt, add-mul-div-left, add-mul-mod-self-left, div-lt-iff-lt-mul, mul-comm, mul-le-mul-left, zero-add, mul-suc, mul-pos}
+use native.Mathlib.Nat.{mod-lt, mod-eq-of-lt, mod-add-div, div-eq-of-lt, add-mul-div-left, add-mul-mod-self-left, div-lt-iff-lt-mul, mul-comm, mul-le-mul-left, zero-add, mul-suc}
 use lib.ListN.{length, getD, List·getD-eq-default}
 use Rattle.files.specs.Task.{Variable, Action, Task, variable, actionOf, valueIn}
 use Rattle.files.proofs.Logic.{split-option}
@@ -40,11 +40,6 @@ low-below d n y q h l = omega (arith, mul-le-mul-left d l, mul-suc d q)
 
 rest-sizes : (x : Variable) (xs : List Variable) → Sizes (x ∷ xs) → Sizes xs
 rest-sizes x xs h v l = h (suc v) (omega arith)
-
-pub count-positive : (vs : List Variable) → Sizes vs → 0 < stateCount vs
-unfolding stateCount
-count-positive [] h = omega arith
-count-positive (x ∷ xs) h = mul-pos (h 0 (omega arith)) (count-positive xs (rest-sizes x xs h))
 
 pub number-below : (vs : List Variable) (s : State) → InDomains vs s → stateNumber vs s < stateCount vs
 unfolding stateCount stateNumber
@@ -101,9 +96,6 @@ module _ (t : Task) (a : Action) (valid : ValidAction t a) (s : State) where
       (λ x e. absurd (omega (arith, value-valid t 0 (a .effects) v x (valid .effects) e .known)))
 
 module _ (t : Task) (valid : Valid t) where
-  pub states-positive : 0 < stateCount (t .variables)
-  states-positive = count-positive (t .variables) (valid .size-least)
-
   -- after any action
   next-in : (a n : ℕ) → InDomains (t .variables) (apply (actionOf t a) (stateAt (t .variables) n))
   next-in a n = apply-in t (actionOf t a) (valid .action a) (stateAt (t .variables) n) (state-in (t .variables) n (valid .size-least))

@@ -11,7 +11,7 @@ ghost use Rattle.files.specs.Dense.{held, arrays};
 ghost use Rattle.files.specs.OriginFile.{originOf, originActionsPlace};
 ghost use Rattle.files.specs.Outcome.{overwrite};
 ghost use Rattle.files.specs.PlanFile.{planFile};
-ghost use Rattle.files.specs.Task.{Task, actionCount};
+ghost use Rattle.files.specs.Task.{Task};
 ghost use Rattle.plans.specs.Tally.{listState};
 ghost use Rattle.reduction.specs.Preserved.{byOriginFile};
 ghost use Rattle.search.specs.States.{stateCount, stateAt};
@@ -140,8 +140,8 @@ pub fn write_plan(
 {
     let place = files::origin::actions_place(origin) + 4;
     let mut s = states::start_number(sizes, starts, variables);
-    let length = steps[s] as usize;
-    files::plan::put_head(plan, length);
+    let fewest = steps[s] as usize;
+    files::plan::put_head(plan, fewest);
     let mut values = states::values_of(sizes, variables, s);
     let mut i: usize = 0;
     while !states::all_hold(goal, 0, variables, &values) {

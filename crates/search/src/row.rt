@@ -27,12 +27,12 @@ use plans::Steps;
 
 // What the search of a task comes to: the entries filled, also beside 24 and the plan buffer's 21,
 // and the plan file's length, cost and steps, 0 beside a refusal.
-pub struct Found {
-    pub outcome: files::Outcome,
-    pub states: usize,
-    pub plan: usize,
-    pub cost: Minutes,
-    pub steps: Steps,
+struct Found {
+    outcome: files::Outcome,
+    states: usize,
+    plan: usize,
+    cost: Minutes,
+    steps: Steps,
 }
 
 // The planner's answer, and how many entries of the table are filled.
@@ -100,8 +100,8 @@ fn search_task(
     if cost == 18446744073709551615 {
         return not_found(outcomes::refuse(24, 0), count);
     }
-    let length = steps[start];
-    let needed = files::plan::needed(length as usize);
+    let fewest = steps[start];
+    let needed = files::plan::needed(fewest as usize);
     if plan.len() < needed {
         return not_found(outcomes::refuse(21, needed), count);
     }
@@ -125,7 +125,7 @@ fn search_task(
         states: count,
         plan: needed,
         cost: Minutes(cost),
-        steps: Steps(length),
+        steps: Steps(fewest),
     }
 }
 

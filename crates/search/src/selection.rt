@@ -1,6 +1,5 @@
 // The state to settle next. The least state of each block of 64 states is remembered, and found anew
 // where the block has changed.
-ghost use mathlib.Core.Path.{_≡_};
 ghost use mathlib.Core.List.{List};
 ghost use Prim.Native.Nat.{ℕ, _+_, _*_, _<_, _≤_};
 ghost use lib.ListN.{length, getD};

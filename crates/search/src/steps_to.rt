@@ -16,9 +16,9 @@ use crate::states;
 use files::bytes;
 
 // The values that a variable may have had: from `low` on, below `high`.
-pub struct Span {
-    pub low: usize,
-    pub high: usize,
+struct Span {
+    low: usize,
+    high: usize,
 }
 
 // Before an effect on a variable of `size` values: the value that the condition asks, or any.

@@ -31,7 +31,7 @@ use denote.Laws.{Is, shows}
 use denote.Array.{Array, arrayVal, array-typed, array-repeat}
 use denote.Plain.{Nothing, nothing-lawful, uint-makes, uint-vals, uint-tells, uint-lawful, uint-copy}
 use denote.Builtin.{u8, u16, u32, u64, usize}
-use denote.Ref.{RefT, now}
+use denote.Ref.{RefT}
 use denote.Slice.{sliceVal, MutSlice, ShrSlice, Room, finally, slice-vals, mut-slice-tells, shr-slice-tells}
 use denote.Signature.{plain, shrSliceOf}
 use denote.Steps.{only, nothing, owned, heard, peeks, facts}

@@ -5,10 +5,10 @@ use Rattle.generated.proofs.generate.put_chain.Statement.{statement}
 use Rattle.generated.proofs.generate.put_chain.Tie as tie
 
 abbrev Inv-loop : tie.InvT-loop
-Inv-loop task₀ length variables action₀ task action = Unit
+Inv-loop task₀ count variables action₀ task action = Unit
 
 abbrev μ-loop : tie.MeasureT-loop
-μ-loop task₀ length variables action₀ task action = length - action
+μ-loop task₀ count variables action₀ task action = count - action
 
 variables-requires : tie.Need-variables-requires Inv-loop μ-loop
 variables-requires c κs = search needs

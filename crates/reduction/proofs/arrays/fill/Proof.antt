@@ -1,12 +1,11 @@
 -- The calls in turn fill the arrays from the marks; what they hold is what the definitions say.
-use Prim.Native.Nat.{ℕ, _≤_, _<_}
+use Prim.Native.Nat.{_≤_}
 use native.Mathlib.Omega.{arith}
 use denote.Ref.{now}
 use Rattle.files.specs.Dense.{Arrays, held, arrays}
 use Rattle.files.proofs.Valid.{Valid, task-valid}
 use Rattle.marking.proofs.HeldTask.{variables-held, actions-held}
 use Rattle.reduction.proofs.Filled.{number-below, ranges-small, task-filled, origin-filled}
-use borrow.Author.Needs.{needs}
 use Rattle.reduction.proofs.arrays.fill.Statement.{statement}
 use Rattle.reduction.proofs.arrays.fill.Tie as tie
 

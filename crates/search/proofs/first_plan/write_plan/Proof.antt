@@ -107,14 +107,14 @@ start-number-requires c κs =
     let s = c .before .before .before .before .before in
     (held-few (task s) (s .pre .0), omega (arith, s .pre .1, held-states (task s)), held-starts (task s) (s .pre .0))
 
-mul-length : tie.Need-mul-length Inv-loop μ-loop
-mul-length c = omega (arith, start-inside c, to-start c .pre .1)
+mul-fewest : tie.Need-mul-fewest Inv-loop μ-loop
+mul-fewest c = omega (arith, start-inside c, to-start c .pre .1)
 
-shared-slice-read-length : tie.Need-shared-slice-read-length Inv-loop μ-loop
-shared-slice-read-length c = omega (arith, start-inside (c .before), to-start (c .before) .pre .3)
+shared-slice-read-fewest : tie.Need-shared-slice-read-fewest Inv-loop μ-loop
+shared-slice-read-fewest c = omega (arith, start-inside (c .before), to-start (c .before) .pre .3)
 
-cast-length : tie.Need-cast-length Inv-loop μ-loop
-cast-length c = omega (arith, c .shared-slice-known4 .given (c .before .start-number .result))
+cast-fewest : tie.Need-cast-fewest Inv-loop μ-loop
+cast-fewest c = omega (arith, c .shared-slice-known4 .given (c .before .start-number .result))
 
 put-head-requires : tie.Need-put-head-requires Inv-loop μ-loop
 put-head-requires c κs =
@@ -248,9 +248,9 @@ write-plan-spec =
     actions-place-requires
     add-place
     start-number-requires
-    mul-length
-    shared-slice-read-length
-    cast-length
+    mul-fewest
+    shared-slice-read-fewest
+    cast-fewest
     put-head-requires
     values-of-requires
     loop-holds

@@ -28,7 +28,7 @@ use denote.Laws.{Is, shows}
 use denote.Array.{Array, arrayVal, array-typed, array-repeat}
 use denote.Plain.{uint-makes, uint-vals, uint-tells}
 use denote.Builtin.{u8, u32}
-use denote.Ref.{RefT, now}
+use denote.Ref.{RefT}
 use denote.Slice.{sliceVal, MutSlice, ShrSlice, Room, finally, slice-vals, mut-slice-tells, shr-slice-tells}
 use denote.Signature.{plain, shrSliceOf}
 use denote.Steps.{only, nothing, owned, heard, peeks, facts}

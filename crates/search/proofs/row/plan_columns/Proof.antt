@@ -1,5 +1,5 @@
 -- Reduction refuses, or its files say the reduced task and its origins, and the search of them is the row's.
-use Prim.Native.Nat.{_-_, _^_, _<_}
+use Prim.Native.Nat.{_^_, _<_}
 use mathlib.Core.Path.{ap, _∙_}
 use native.Mathlib.Omega.{arith}
 use denote.Ref.{now}

@@ -131,11 +131,11 @@ returns-3 c =
       (full-table t _ (fit k) _ _ _ (ap (λ (x : Found). x .states) (c .not-found3 .ensures) ∙ states-are k) table, refused-plan _ _ _ (c .not-found3 .ensures) refused _ _),
     )
 
-mul-length : tie.Need-mul-length
-mul-length c = omega (arith, inside (c .before .before .before .before .before .before), few (c .before .before .before .before .before .before))
+mul-fewest : tie.Need-mul-fewest
+mul-fewest c = omega (arith, inside (c .before .before .before .before .before .before), few (c .before .before .before .before .before .before))
 
-slice-read-length : tie.Need-slice-read-length
-slice-read-length c = omega (arith, inside (c .before .before .before .before .before .before .before), few (c .before .before .before .before .before .before .before), to-start (to-count (c .before .before .before .before .before .before .before)) .pre .2)
+slice-read-fewest : tie.Need-slice-read-fewest
+slice-read-fewest c = omega (arith, inside (c .before .before .before .before .before .before .before), few (c .before .before .before .before .before .before .before), to-start (to-count (c .before .before .before .before .before .before .before)) .pre .2)
 
 cast-needed : tie.Need-cast-needed
 cast-needed c = omega (arith, c .slice-known7 .given (c .before .before .before .before .before .before .before .search .result))
@@ -239,8 +239,8 @@ search-task-spec =
     same-length
     same-length-2
     returns-3
-    mul-length
-    slice-read-length
+    mul-fewest
+    slice-read-fewest
     cast-needed
     needed-requires
     refuse-requires-4

@@ -1,6 +1,5 @@
 -- The loop's invariant: the best state below `s` is picked.
 use Prim.Native.Nat.{_-_, _≤_}
-use mathlib.Core.Path.{subst}
 use native.Mathlib.Omega.{arith}
 use Rattle.search.specs.Settling.{Picked}
 use Rattle.search.proofs.Picking.{pick-none, pick-to}
