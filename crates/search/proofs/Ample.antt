@@ -33,6 +33,7 @@ use Rattle.plans.proofs.OrderLaws.{total-steps}
 use Rattle.marking.specs.Mark.{validLevel, marksFit}
 use Rattle.marking.proofs.Rounding.{facts-few}
 use Rattle.reduction.specs.Answers.{LongEnough}
+use Rattle.reduction.specs.Preserved.{Preserves}
 use Rattle.reduction.specs.Reduce.{reducedFile, originsFile, filesFit, markStage, reduceStage}
 use Rattle.reduction.specs.Task.{reducedTask, originBy, originsAt, keptAt, byOriginal}
 use Rattle.reduction.proofs.OriginAccepted.{origins-accepted}
@@ -88,21 +89,24 @@ module _ (task : List ℕ) (octets : Octets task) (e : checkTask task ≡ done) 
         v .actions-few,
       )
 
+  read-off : PlanFirst u (firstPlan u)
+  read-off = search-least u (task-valid u (reduction-accepted t planLevel accepted)) .plan
+
+  preserved : Preserves t u (byOriginal t planLevel)
+  preserved = reduction-preserves t planLevel accepted
+
   -- every best plan of the full task has fewer steps than the reduced task has states
   best-short : stateCount (u .variables) ≤ 4096 → (plan : List ℕ) → Best t plan → length plan ≤ 4095
   best-short few plan b =
       split-option (firstPlan u)
       (λ q.
-      let w : PlanFirst u none = subst (PlanFirst u) q (found .plan) in
+      let w : PlanFirst u none = subst (PlanFirst u) q read-off in
       let r = preserved .solvable .0 (plan, b .isPlan) in
       absurd (w (r .0) (r .1)))
       (λ p q.
-      let w : PlanFirst u (some p) = subst (PlanFirst u) q (found .plan) in
+      let w : PlanFirst u (some p) = subst (PlanFirst u) q read-off in
       let alike : totalOf t plan .steps ≡ totalOf u p .steps = ap (λ (x : Total). x .steps) (preserved .least plan p b (w .0 .best)) in
       omega (arith, total-steps t plan, total-steps u p, w .1))
-    where
-      found = search-least u (task-valid u (reduction-accepted t planLevel accepted))
-      preserved = reduction-preserves t planLevel accepted
 
   plan-small : stateCount (u .variables) ≤ 4096 → (signer : ℕ) (plan : List ℕ) → Best t plan → length (planFile plan signer) ≤ 8206
   plan-small few signer plan b = omega (arith, plan-file-length plan signer, best-short few plan b)
@@ -167,7 +171,7 @@ module _ (task : List ℕ) (signer : ℕ) (octets : Octets task) where
   marks-accepted e = let found = simp facts at e in task-check-done task (found .0)
 
   reduce-never : reduceStage task planLevel signer (ample .reduction) .number ≡ 21 → ⊥
-  unfolding reduceStage filesFit ample
+  unfolding reduceStage filesFit reducedFile originsFile ample
   reduce-never e =
       ⊎-elim marks-never
       (λ rest.
@@ -176,10 +180,10 @@ module _ (task : List ℕ) (signer : ℕ) (octets : Octets task) where
       (then-short _ _ e)
     where
       reduced-fits : checkTask task ≡ done → length (taskFile (reducedTask (taskOf task) planLevel) signer) ≤ 65536
-      reduced-fits z = omega (arith, reduced-small task octets z signer)
+      reduced-fits z = reduced-small task octets z signer
 
       origin-fits : checkTask task ≡ done → length (originFile (originsAt (taskOf task) planLevel) signer) ≤ 5520
-      origin-fits z = omega (arith, origin-small task octets z signer)
+      origin-fits z = origin-small task octets z signer
 
   states-never : statesFit (searched task) 4096 .number ≡ 21 → ⊥
   unfolding statesFit
@@ -197,8 +201,8 @@ module _ (task : List ℕ) (signer : ℕ) (octets : Octets task) where
       split-option (firstPlan (u task octets z))
       (λ q. let no : _≡_ {A = ℕ} 24 21 = rw q at e in omega arith)
       (λ p q.
-      let w : PlanFirst (u task octets z) (some p) = subst (PlanFirst (u task octets z)) q (search-least (u task octets z) (task-valid (u task octets z) (reduction-accepted (taskOf task) planLevel (accepted task octets z))) .plan) in
-      let best = reduction-preserves (taskOf task) planLevel (accepted task octets z) .first-back p (w .0) .best in
+      let w : PlanFirst (u task octets z) (some p) = subst (PlanFirst (u task octets z)) q (read-off task octets z) in
+      let best = preserved task octets z .first-back p (w .0) .best in
       done-short (fits-short _ 8206 done (plan-small task octets z few signer _ best) (rw q at e)))
 
 pub never-short : NeverShort

@@ -29,12 +29,14 @@ use Rattle.files.proofs.Valid.{Valid, task-valid}
 use Rattle.plans.specs.Plan.{IsPlan, Total, totalOf, Best, FirstBest, stepOf}
 use Rattle.plans.proofs.OrderLaws.{total-steps}
 use Rattle.plans.proofs.PlanChecker.{all-below}
+use Rattle.marking.specs.Mark.{validLevel}
 use Rattle.reduction.specs.Task.{reducedTask, byOriginal}
 use Rattle.reduction.specs.Reduce.{roomsOf, reduceStage}
 use Rattle.reduction.specs.Preserved.{Preserves}
 use Rattle.reduction.proofs.Answers.{row-fits}
 use Rattle.reduction.proofs.Preservation.{reduction-preserves, reduction-accepted}
 use Rattle.search.specs.declared.Entry.{Entry}
+use Rattle.search.specs.declared.Planned.{Planned}
 use Rattle.search.specs.States.{stateCount}
 use Rattle.search.specs.FirstPlan.{firstPlan}
 use Rattle.search.specs.Least.{startedAt, DistanceLeast, PlanFirst}
@@ -102,6 +104,7 @@ module _ (task : List ℕ) (signer : ℕ) (b : Lent) (octets : Octets task) (e :
   preserved = reduction-preserves t planLevel accepted
 
   reduced-done : isDone (reduceStage task planLevel signer (roomsOf (b .buffers))) ≡ true
+  unfolding validLevel
   reduced-done = is-yes _ (row-fits task planLevel signer (b .buffers) e refl s (long .buffers))
 
   states-done : isDone (statesFit (searched task) (length (b .table))) ≡ true
@@ -227,3 +230,7 @@ module _ (task : List ℕ) (signer : ℕ) (b : Lent) (octets : Octets task) (e :
 
 pub planner-promise : (task : List ℕ) (signer : ℕ) (b : Lent) → PlannerPromise task signer b (planAnswer task signer (lentRooms b)) (planAfter task signer b)
 planner-promise task signer b octets e s few long = planner-right task signer b octets e s few long
+
+-- the same of an answer and of buffers that equal the definitions'
+pub promise-kept : (task : List ℕ) (signer : ℕ) (b : Lent) (answer : Planned) (now : Lent) → answer ≡ planAnswer task signer (lentRooms b) → now ≡ planAfter task signer b → PlannerPromise task signer b answer now
+promise-kept task signer b answer now e same = rw (e, same) (planner-promise task signer b)

@@ -53,6 +53,9 @@ pub record Lent : Type 0 where
 abbrev pub lent : Buffers → List Entry → List ℕ → Lent
 lent buffers table plan = record { buffers = buffers; table = table; plan = plan }
 
+abbrev pub lentOf : List ℕ → List ℕ → List ℕ → List ℕ → List Entry → List ℕ → Lent
+lentOf actions facts reduced origin table plan = lent (record { actions = actions; facts = facts; reduced = reduced; origin = origin }) table plan
+
 abbrev pub lentRooms : Lent → PlanRooms
 lentRooms b = planRooms (roomsOf (b .buffers)) (length (b .table)) (length (b .plan))
 

@@ -43,7 +43,8 @@ use denote.Exit.{yes}
 use Rattle.reduction.specs.Reduce.{rooms}
 use Rattle.search.specs.declared.Entry.{Entry}
 use Rattle.search.specs.declared.Planned.{Planned}
-use Rattle.search.specs.Planner.{PlanRooms, planRooms, planAnswer, plannedActionMarks, plannedFactMarks, plannedReduced, plannedOrigin, plannedTable, plannedPlan}
+use Rattle.search.specs.Planner.{PlanRooms, planRooms, planAnswer, plannedActionMarks, plannedFactMarks, plannedReduced, plannedOrigin, plannedTable, plannedPlan, lentOf}
+use Rattle.search.specs.PlannerRight.{PlannerPromise}
 use Rattle.search.proofs.Planned as P₀
 use Rattle.search.proofs.Planned.Laws as P′
 use Rattle.search.proofs.Entries.{R}
@@ -216,7 +217,7 @@ module _ {M : Type 1} (𝓤 : URA M) (H : Heap 𝓤) (A : Atoms 𝓤) (W : Given
 
   -- what its `ensures` says
   abbrev Said : Planned → Last → Item 𝓤
-  Said r zs = raw (fact 𝓤 (Answered r)) ⊛ raw (fact 𝓤 (ActionsAre (actions-of zs))) ⊛ raw (fact 𝓤 (FactsAre (facts-of zs))) ⊛ raw (fact 𝓤 (ReducedIs (reduced-of zs))) ⊛ raw (fact 𝓤 (OriginIs (origin-of zs))) ⊛ raw (fact 𝓤 (TableIs (table-of zs))) ⊛ raw (fact 𝓤 (PlanIs (plan-of zs)))
+  Said r zs = raw (fact 𝓤 (Answered r)) ⊛ raw (fact 𝓤 (ActionsAre (actions-of zs))) ⊛ raw (fact 𝓤 (FactsAre (facts-of zs))) ⊛ raw (fact 𝓤 (ReducedIs (reduced-of zs))) ⊛ raw (fact 𝓤 (OriginIs (origin-of zs))) ⊛ raw (fact 𝓤 (TableIs (table-of zs))) ⊛ raw (fact 𝓤 (PlanIs (plan-of zs))) ⊛ raw (fact 𝓤 (PlannerPromise tk sg (lentOf xa xf xr xo ys xp) r (lentOf (actions-of zs) (facts-of zs) (reduced-of zs) (origin-of zs) (table-of zs) (plan-of zs))))
 
   -- the same of `write_planned`, on the planner's answer
   abbrev write-args : Planned → Planned × (RefT (List ℕ) × Unit {0})
@@ -254,7 +255,7 @@ module _ {M : Type 1} (𝓤 : URA M) (H : Heap 𝓤) (A : Atoms 𝓤) (W : Given
       calls-at ! fm (Plan 𝓤 H A at-mem run) k-plan to-plan (and-then ! (load ! (from ! (stop !)) (look ! 49 refl)) (and-then ! (load ! (from ! (stop !)) (look ! 47 refl)) (and-then ! (load ! (from ! (stop !)) (look ! 27 refl)) (and-then ! (load ! (from ! (stop !)) (look ! 23 refl)) (and-then ! (load ! (from ! (stop !)) (look ! 19 refl)) (and-then ! (load ! (from ! (stop !)) (look ! 15 refl)) (and-then ! (load ! (from ! (stop !)) (look ! 11 refl)) (and-then ! (load ! (from ! (stop !)) (look ! 7 refl)) (no-more !))))))))) (λ v.
       use1 W (later (some (λ (r : Planned). (Tokens ⊛ ‵ (P .own r (v ∷ []))) ⊛ raw (ensured 𝓤 H A p.ended (p.clauses 𝓤 H A at-mem run) lfts-plan plan-args tt r)))) (id⊢ 𝓤 _) $ await ! tt $ pick ! (λ r. split ! $ move ! (1 ∷ []) $
       -- what the planner says
-      use1 W (some (λ (zs : Last). ‵ (lasts p.ended lfts-plan plan-args zs) ⊛ Said r zs)) (id⊢ 𝓤 _) $ pick ! (λ zs. split ! $ move ! (1 ∷ []) $ split ! $ heard ! (Answered r) (λ answered. split ! $ heard ! (ActionsAre (actions-of zs)) (λ actions-are. split ! $ heard ! (FactsAre (facts-of zs)) (λ facts-are. split ! $ heard ! (ReducedIs (reduced-of zs)) (λ reduced-is. split ! $ heard ! (OriginIs (origin-of zs)) (λ origin-is. split ! $ heard ! (TableIs (table-of zs)) (λ table-is. heard ! (PlanIs (plan-of zs)) (λ plan-is.
+      use1 W (some (λ (zs : Last). ‵ (lasts p.ended lfts-plan plan-args zs) ⊛ Said r zs)) (id⊢ 𝓤 _) $ pick ! (λ zs. split ! $ move ! (1 ∷ []) $ split ! $ heard ! (Answered r) (λ answered. split ! $ heard ! (ActionsAre (actions-of zs)) (λ actions-are. split ! $ heard ! (FactsAre (facts-of zs)) (λ facts-are. split ! $ heard ! (ReducedIs (reduced-of zs)) (λ reduced-is. split ! $ heard ! (OriginIs (origin-of zs)) (λ origin-is. split ! $ heard ! (TableIs (table-of zs)) (λ table-is. split ! $ heard ! (PlanIs (plan-of zs)) (λ plan-is. drop ! $
       fsplit ! $ move ! (1 ∷ []) $ fsplit ! $ move ! (2 ∷ []) $ drop ! $ drop ! $ fsplit ! $ fsplit ! $ move ! (1 ∷ []) $ feqL ! (λ len-actions. move ! (1 ∷ []) $ fsplit ! $ fsplit ! $ move ! (1 ∷ []) $ feqL ! (λ len-facts. move ! (1 ∷ []) $ fsplit ! $ fsplit ! $ move ! (1 ∷ []) $ feqL ! (λ len-reduced. move ! (1 ∷ []) $ fsplit ! $ fsplit ! $ move ! (1 ∷ []) $ feqL ! (λ len-origin. move ! (1 ∷ []) $ fsplit ! $ fsplit ! $ move ! (1 ∷ []) $ feqL ! (λ len-table. move ! (1 ∷ []) $ fsplit ! $ fsplit ! $ move ! (1 ∷ []) $ feqL ! (λ len-plan. move ! (1 ∷ []) $ drop ! $
       -- the answer
       move ! (6 ∷ []) $ split ! $ move ! (1 ∷ []) $ facts ! P (Is P) (shows 𝓤 H A P) r (v ∷ []) (λ k.

@@ -49,7 +49,8 @@ use Rattle.reduction.specs.Reduce.{rooms}
 use Rattle.search.specs.declared.Entry.{Entry}
 use Rattle.search.specs.declared.row.Run.{Run}
 use Rattle.search.specs.Columns.{entriesIn}
-use Rattle.search.specs.Planner.{PlanRooms, planRooms, searched, searchStage, planAnswer, plannedActionMarks, plannedFactMarks, plannedReduced, plannedOrigin, plannedTable, plannedPlan}
+use Rattle.search.specs.Planner.{PlanRooms, planRooms, searched, searchStage, planAnswer, plannedActionMarks, plannedFactMarks, plannedReduced, plannedOrigin, plannedTable, plannedPlan, Lent, lentOf}
+use Rattle.search.specs.PlannerRight.{PlannerPromise}
 use Rattle.search.specs.Table.{tableOf}
 use Rattle.search.proofs.Planned as P₀
 use Rattle.search.proofs.Planned.Laws as P′
@@ -57,6 +58,7 @@ use Rattle.search.proofs.row.Run as O₀
 use Rattle.search.proofs.row.Run.Laws as O′
 use Rattle.search.proofs.Entries.{R}
 use Rattle.search.proofs.Filling.{filled-planned}
+use Rattle.search.proofs.PlannerRight.{promise-kept}
 use Rattle.search.proofs.Hand.{told, big-lit, ref, lend-array, array-home, lend-array-mut, array-mut-home}
 use Rattle.search.proofs.row.plan_columns as d
 use Rattle.search.proofs.row.plan_columns.Symbol as d-def
@@ -204,6 +206,13 @@ module _ {M : Type 1} (𝓤 : URA M) (H : Heap 𝓤) (A : Atoms 𝓤) (W : Given
   abbrev TableIs : List Entry → Type 0
   TableIs l = l ≡ plannedTable tk sg Rm ys
 
+  -- and that it is right
+  abbrev lent-first : Lent
+  lent-first = lentOf xa xf xr xo ys xp
+
+  abbrev Right : Run → List ℕ → List ℕ → List ℕ → List ℕ → List Entry → List ℕ → Type 0
+  Right r la lf lr lo lt lp = PlannerPromise tk sg lent-first (r .planned) (lentOf la lf lr lo lt lp)
+
   abbrev EntriesAre : Run → List ℕ → List ℕ → Type 0
   EntriesAre r ms ss = (entriesIn ms ss (r .states) ≡ cond (isDone (searchStage tk sg Rm)) (tableOf (searched tk)) []) × (r .states ≤ length ys) × (r .states ≤ 4096)
 
@@ -216,6 +225,7 @@ module _ {M : Type 1} (𝓤 : URA M) (H : Heap 𝓤) (A : Atoms 𝓤) (W : Given
       nothing ! $ move ! (7 ∷ 0 ∷ []) $ join ! $ move ! (6 ∷ 0 ∷ []) $ join ! $ move ! (5 ∷ 0 ∷ []) $ join ! $ move ! (4 ∷ 0 ∷ []) $ join ! $ move ! (3 ∷ 0 ∷ []) $ join ! $ move ! (2 ∷ 0 ∷ []) $ join ! $ move ! (1 ∷ 0 ∷ []) $ join ! $
       nothing ! $ move ! (7 ∷ 0 ∷ []) $ fjoin ! $ move ! (6 ∷ 0 ∷ []) $ fjoin ! $ move ! (5 ∷ 0 ∷ []) $ fjoin ! $ move ! (4 ∷ 0 ∷ []) $ fjoin ! $ move ! (3 ∷ 0 ∷ []) $ fjoin ! $ move ! (2 ∷ 0 ∷ []) $ fjoin ! $ nothing ! $ fjoin ! $ nothing ! $ fjoin ! $
       owned ! P (Is P) (LL.makes P₀.the-type P′.the-plain 𝓤 H A) (r .planned) (P′.lowered (r .planned) ∷ []) is $ move ! (1 ∷ 0 ∷ []) $ join ! $ move ! (1 ∷ 0 ∷ []) $ join ! $ frame ! $
+      told W (Right r la lf lr lo lt lp) (promise-kept tk sg lent-first (r .planned) (lentOf la lf lr lo lt lp) e (λ i. lentOf (ea i) (ef i) (er i) (eo i) (et i) (ep i))) $
       told W (PlanIs lp) ep $ told W (TableIs lt) et $ told W (OriginIs lo) eo $ told W (ReducedIs lr) er $ told W (FactsAre lf) ef $ told W (ActionsAre la) ea $ told W (Answered r) e $ done !
 
   -- what `plan_columns`'s triple binds outside, and that it is had

@@ -44,7 +44,8 @@ use denote.Exit.{yes}
 use Rattle.reduction.specs.Reduce.{rooms}
 use Rattle.search.specs.declared.Entry.{Entry}
 use Rattle.search.specs.declared.Planned.{Planned}
-use Rattle.search.specs.Planner.{PlanRooms, planRooms, planAnswer, plannedActionMarks, plannedFactMarks, plannedReduced, plannedOrigin, plannedTable, plannedPlan}
+use Rattle.search.specs.Planner.{PlanRooms, planRooms, planAnswer, plannedActionMarks, plannedFactMarks, plannedReduced, plannedOrigin, plannedTable, plannedPlan, lentOf}
+use Rattle.search.specs.PlannerRight.{PlannerPromise}
 use Rattle.search.proofs.Entry as T₀
 use Rattle.search.proofs.Entry.Laws as T′
 use Rattle.search.proofs.Planned as P₀
@@ -208,7 +209,7 @@ module _ {M : Type 1} (𝓤 : URA M) (H : Heap 𝓤) (A : Atoms 𝓤) (W : Given
 
   -- what its `ensures` says
   abbrev Said : Planned → Last → Item 𝓤
-  Said r zs = raw (fact 𝓤 (Answered r (length z))) ⊛ raw (fact 𝓤 (ActionsAre (actions-of zs) (length z))) ⊛ raw (fact 𝓤 (FactsAre (facts-of zs) (length z))) ⊛ raw (fact 𝓤 (ReducedIs (reduced-of zs) (length z))) ⊛ raw (fact 𝓤 (OriginIs (origin-of zs) (length z))) ⊛ raw (fact 𝓤 (table-of zs ≡ plannedTable tk sg (Rm (length z)) z)) ⊛ raw (fact 𝓤 (PlanIs (plan-of zs) (length z)))
+  Said r zs = raw (fact 𝓤 (Answered r (length z))) ⊛ raw (fact 𝓤 (ActionsAre (actions-of zs) (length z))) ⊛ raw (fact 𝓤 (FactsAre (facts-of zs) (length z))) ⊛ raw (fact 𝓤 (ReducedIs (reduced-of zs) (length z))) ⊛ raw (fact 𝓤 (OriginIs (origin-of zs) (length z))) ⊛ raw (fact 𝓤 (table-of zs ≡ plannedTable tk sg (Rm (length z)) z)) ⊛ raw (fact 𝓤 (PlanIs (plan-of zs) (length z))) ⊛ raw (fact 𝓤 (PlannerPromise tk sg (lentOf xa xf xr xo z xp) r (lentOf (actions-of zs) (facts-of zs) (reduced-of zs) (origin-of zs) (table-of zs) (plan-of zs))))
 
   walk : (C : Calls 𝓤 H) (Λ : Loops 𝓤 H) → FmC 𝓤 H (W .laws) C → Triple 𝓤 (C #search·plan) (Plan 𝓤 H A at-mem run)
       → ent 𝓤 (onEntry 𝓤 H A f.signature κs (q₀, (q₁, (q₂, (q₃, (q₄, (q₅, tt)))))) a at) (WpFn 𝓤 H C Λ code.function (kv ∷ vint w32 sg ∷ av ∷ fv ∷ rv ∷ ov ∷ pv ∷ []) Post)
@@ -236,7 +237,7 @@ module _ {M : Type 1} (𝓤 : URA M) (H : Heap 𝓤) (A : Atoms 𝓤) (W : Given
       calls-at ! fm (Plan 𝓤 H A at-mem run) k-plan (to-plan ν δ l₈) (and-then ! (load ! (from ! (stop !)) (look ! 41 refl)) (and-then ! (load ! (from ! (stop !)) (look ! 39 refl)) (and-then ! (load ! (from ! (stop !)) (look ! 22 refl)) (and-then ! (load ! (from ! (stop !)) (look ! 18 refl)) (and-then ! (load ! (from ! (stop !)) (look ! 14 refl)) (and-then ! (load ! (from ! (stop !)) (look ! 10 refl)) (and-then ! (load ! (from ! (stop !)) (look ! 6 refl)) (and-then ! (load ! (from ! (stop !)) (look ! 2 refl)) (no-more !))))))))) (λ w.
       use1 W (later (some (λ (r : Planned). (Tokens ν ⊛ ‵ (P .own r (w ∷ []))) ⊛ raw (ensured 𝓤 H A p.ended (p.clauses 𝓤 H A at-mem run) (lfts-plan ν) (plan-args δ l₈) tt r)))) (id⊢ 𝓤 _) $ await ! tt $ pick ! (λ r. split ! $ move ! (1 ∷ []) $
       -- what the planner says
-      use1 W (some (λ (zs : Last). ‵ (lasts p.ended (lfts-plan ν) (plan-args δ l₈) zs) ⊛ Said r zs)) (id⊢ 𝓤 _) $ pick ! (λ zs. split ! $ move ! (1 ∷ []) $ split ! $ heard ! (Answered r (length z)) (λ answered. split ! $ heard ! (ActionsAre (actions-of zs) (length z)) (λ actions-are. split ! $ heard ! (FactsAre (facts-of zs) (length z)) (λ facts-are. split ! $ heard ! (ReducedIs (reduced-of zs) (length z)) (λ reduced-is. split ! $ heard ! (OriginIs (origin-of zs) (length z)) (λ origin-is. split ! $ drop ! $ heard ! (PlanIs (plan-of zs) (length z)) (λ plan-is.
+      use1 W (some (λ (zs : Last). ‵ (lasts p.ended (lfts-plan ν) (plan-args δ l₈) zs) ⊛ Said r zs)) (id⊢ 𝓤 _) $ pick ! (λ zs. split ! $ move ! (1 ∷ []) $ split ! $ heard ! (Answered r (length z)) (λ answered. split ! $ heard ! (ActionsAre (actions-of zs) (length z)) (λ actions-are. split ! $ heard ! (FactsAre (facts-of zs) (length z)) (λ facts-are. split ! $ heard ! (ReducedIs (reduced-of zs) (length z)) (λ reduced-is. split ! $ heard ! (OriginIs (origin-of zs) (length z)) (λ origin-is. split ! $ drop ! $ split ! $ heard ! (PlanIs (plan-of zs) (length z)) (λ plan-is. drop ! $
       fsplit ! $ move ! (1 ∷ []) $ fsplit ! $ move ! (2 ∷ []) $ drop ! $ drop ! $ fsplit ! $ fsplit ! $ move ! (1 ∷ []) $ feqL ! (λ len-actions. move ! (1 ∷ []) $ fsplit ! $ fsplit ! $ move ! (1 ∷ []) $ feqL ! (λ len-facts. move ! (1 ∷ []) $ fsplit ! $ fsplit ! $ move ! (1 ∷ []) $ feqL ! (λ len-reduced. move ! (1 ∷ []) $ fsplit ! $ fsplit ! $ move ! (1 ∷ []) $ feqL ! (λ len-origin. move ! (1 ∷ []) $ fsplit ! $ fsplit ! $ move ! (1 ∷ []) $ drop ! $ move ! (1 ∷ []) $ fsplit ! $ fsplit ! $ move ! (1 ∷ []) $ feqL ! (λ len-plan. move ! (1 ∷ []) $ drop ! $
       -- the answer
       move ! (6 ∷ []) $ split ! $ move ! (1 ∷ []) $ facts ! P (Is P) (shows 𝓤 H A P) r (w ∷ []) (λ k.
