@@ -1,6 +1,6 @@
 -- Demand 2: where nothing is refused, the answers and the buffers are what 01's steps define; files read back.
 use Prim.Native.Nat.{ℕ}
-use mathlib.Core.Path.{_≡_, sym, ap, _∙_}
+use mathlib.Core.Path.{_≡_, sym, ap}
 use mathlib.Core.Bool.{true}
 use mathlib.Core.List.{List}
 use native.Mathlib.Omega.{arith}
@@ -9,7 +9,6 @@ use Rattle.files.specs.declared.Outcome.{Outcome}
 use Rattle.files.specs.Accepted.{validSigner}
 use Rattle.files.specs.Bytes.{Octets}
 use Rattle.files.specs.Outcome.{done, isDone, andThen}
-use Rattle.files.specs.Task.{Task}
 use Rattle.files.specs.TaskFile.{checkTask, taskOf}
 use Rattle.files.proofs.Guards.{guard-passes}
 use Rattle.files.proofs.KindsRight.{tasks-right, origins-right, plans-right}

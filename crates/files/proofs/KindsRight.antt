@@ -1,8 +1,6 @@
 -- Task, origin and plan files are right: what they hold is accepted, what is accepted is written, and both read back.
 use Prim.Native.Nat.{ℕ, _≤_}
 use mathlib.Core.Path.{_≡_, ap}
-use mathlib.Core.Bool.{true}
-use mathlib.Core.List.{List}
 use Rattle.files.specs.declared.Outcome.{Outcome}
 use Rattle.files.specs.Accepted.{acceptedTask, acceptedOrigin, acceptedPlan}
 use Rattle.files.specs.Kinds.{KindRight}

@@ -8,12 +8,12 @@ use Rattle.files.specs.declared.Outcome.{Outcome}
 use Rattle.files.specs.Listed.{listed, refusedAt, short, fileRefusals}
 use Rattle.files.specs.Outcome.{done, isDone, andThen, fits}
 use Rattle.files.specs.Task.{Task, actionCount, factCount}
-use Rattle.files.specs.TaskFile.{checkTask, taskOf}
+use Rattle.files.specs.TaskFile.{taskOf}
 use Rattle.files.proofs.Listed.{listed-done, listed-front, listed-behind, listed-guard, listed-both, listed-itself, listed-at, listed-later, task-listed}
 use Rattle.files.proofs.Logic.{split}
 use Rattle.files.proofs.Stages.{both-last, answer-by, after-yes, after-no}
 use Rattle.marking.specs.Mark.{marksFit, markOutcome, noMarks, markAnswer, mark, markedActions, markedFacts, actionMarksOf, factMarksOf}
-use Rattle.marking.specs.Answers.{MarkBuffers, markRefusals, markedBuffers, markWhole, markAfter, MarkAnswers}
+use Rattle.marking.specs.Answers.{MarkBuffers, markRefusals, markWhole, MarkAnswers}
 
 pub marks-listed : (t : Task) (a f : ℕ) → listed (short (actionCount t) ∷ short (factCount t) ∷ []) (marksFit t a f) ≡ true
 unfolding marksFit fits

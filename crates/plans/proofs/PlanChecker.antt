@@ -4,9 +4,9 @@ use mathlib.Core.Path.{_≡_, refl, sym, ap, _∙_}
 use mathlib.Core.Bool.{Bool, true, cond}
 use mathlib.Core.List.{List, [], _∷_, _++_}
 use native.Mathlib.Omega.{arith}
-use lib.Dec.{eqb, ltb}
+use lib.Dec.{ltb}
 use lib.ListN.{length}
-use borrow.Author.Tests.{lt-ltb, ltb-true, eq-eqb}
+use borrow.Author.Tests.{lt-ltb, ltb-true}
 use Rattle.files.specs.declared.Outcome.{Outcome}
 use Rattle.files.specs.Below.{allOf}
 use Rattle.files.specs.Listed.{listed, gives, refusedAt, fileRefusals}
@@ -14,7 +14,6 @@ use Rattle.files.specs.Outcome.{done, refusal, isDone, andThen, inSecond}
 use Rattle.files.specs.Task.{Task, actionCount, actionOf}
 use Rattle.files.specs.TaskFile.{checkTask, taskOf}
 use Rattle.files.specs.PlanFile.{checkPlanFile, planOf}
-use Rattle.files.proofs.Done.{facts}
 use Rattle.files.proofs.Guards.{both-done, goes-on, is-done}
 use Rattle.files.proofs.Listed.{listed-done, listed-front, listed-behind, listed-guard, listed-both, listed-itself, listed-second, listed-at, listed-later, task-listed, plan-listed, task-check-done, plan-check-done}
 use Rattle.files.proofs.Logic.{and-join, split}
@@ -23,7 +22,7 @@ use Rattle.files.proofs.Valid.{all-at}
 use Rattle.plans.specs.State.{State, startState, apply}
 use Rattle.plans.specs.Plan.{IsPlan, noSteps, totalOf, stepOf}
 use Rattle.plans.specs.Check.{takeSteps, planOutcome, withTotal, answer, checkPlan}
-use Rattle.plans.specs.Checker.{stepRefused, checkRefusals, checkStages, CheckAnswers, CheckerRight, ListRight}
+use Rattle.plans.specs.Checker.{stepRefused, checkRefusals, CheckAnswers, CheckerRight, ListRight}
 use Rattle.plans.specs.declared.Checked.{Checked}
 use Rattle.plans.proofs.OrderLaws.{total-steps}
 use Rattle.plans.proofs.RunLaws.{runs-plan, plan-runs, walk-done, done-walk}

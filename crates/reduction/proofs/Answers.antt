@@ -8,7 +8,7 @@ use lib.ListN.{length}
 use Rattle.files.specs.declared.Outcome.{Outcome}
 use Rattle.files.specs.Listed.{Refusal, refusedAt, short, listed, fileRefusals}
 use Rattle.files.specs.Accepted.{validSigner}
-use Rattle.files.specs.Outcome.{done, isDone, guard, andThen, fits}
+use Rattle.files.specs.Outcome.{done, isDone, andThen, fits}
 use Rattle.files.specs.Task.{Task, actionCount, factCount}
 use Rattle.files.specs.TaskFile.{checkTask, taskOf}
 use Rattle.files.proofs.Listed.{listed-done, listed-front, listed-behind, listed-guard, listed-both, listed-itself, listed-at, listed-later, task-listed}
@@ -17,7 +17,7 @@ use Rattle.files.proofs.Logic.{split, and-split}
 use Rattle.files.proofs.Stages.{is-yes, fits-in, both-yes, both-no, both-last, answer-by, after-yes, after-no}
 use Rattle.marking.specs.Mark.{validLevel, marksFit, actionMarksOf, factMarksOf}
 use Rattle.marking.proofs.Answers.{marks-listed}
-use Rattle.reduction.specs.Answers.{reduceRefusals, withMarks, withFiles, reduceStages, reduceWhole, ReduceAnswers, LongEnough}
+use Rattle.reduction.specs.Answers.{reduceRefusals, withMarks, withFiles, reduceWhole, ReduceAnswers, LongEnough}
 use Rattle.reduction.specs.Reduce.{Buffers, roomsOf, reducedFile, originsFile, filesFit, markStage, reduceStage, noFiles, reduceAnswer, reduce, reducedActionMarks, reducedFactMarks, reducedBuffer, originBuffer, reduceAfter}
 use Rattle.reduction.specs.Task.{reducedTask, originsAt}
 

@@ -1,13 +1,12 @@
 -- Buffers of the header's largest lengths are long enough for every accepted task that is searched, and are never too short.
-use Prim.Native.Nat.{ℕ, _+_, _*_, _≤_, _<_}
+use Prim.Native.Nat.{ℕ, _≤_}
 use mathlib.Core.Path.{_≡_, refl, sym, ap, subst, _∙_}
-use mathlib.Core.Bool.{Bool, true, false, cond}
+use mathlib.Core.Bool.{Bool, true, false}
 use mathlib.Core.List.{List, _++_}
 use mathlib.Core.Logic.{_⊎_, inl, inr, ⊎-elim}
-use mathlib.Core.Option.{Option, none, some}
+use mathlib.Core.Option.{none, some}
 use native.Mathlib.Omega.{arith}
-use lib.Dec.{leb, eqb}
-use lib.ListN.{length, length-append, length-map}
+use lib.ListN.{length, length-append}
 use borrow.Author.Tests.{leb-true}
 use Rattle.files.specs.declared.Outcome.{Outcome}
 use Rattle.files.specs.Accepted.{acceptedTask}
@@ -16,7 +15,7 @@ use Rattle.files.specs.OriginFile.{variableOriginBytes, originFile}
 use Rattle.files.specs.Outcome.{done, isDone, guard, andThen, fits}
 use Rattle.files.specs.PlanFile.{planFile}
 use Rattle.files.specs.Records.{sizeFits, numberBytes, recordBytes, signerOf}
-use Rattle.files.specs.Task.{Task, actionCount, factCount}
+use Rattle.files.specs.Task.{Task}
 use Rattle.files.specs.TaskFile.{checkTask, taskOf, taskFile}
 use Rattle.files.proofs.Done.{facts}
 use Rattle.files.proofs.Guards.{done-number, both-done}
@@ -27,12 +26,11 @@ use Rattle.files.proofs.Origins.{origin-bytes-few}
 use Rattle.files.proofs.Stages.{fits-in}
 use Rattle.files.proofs.TaskChecked.{task-accepted, task-written}
 use Rattle.files.proofs.Valid.{Valid, task-valid}
-use Rattle.files.proofs.ValidOrigin.{ValidOrigin, origin-valid}
-use Rattle.plans.specs.Plan.{IsPlan, Total, totalOf, Best}
+use Rattle.files.proofs.ValidOrigin.{origin-valid}
+use Rattle.plans.specs.Plan.{Total, totalOf, Best}
 use Rattle.plans.proofs.OrderLaws.{total-steps}
-use Rattle.marking.specs.Mark.{validLevel, marksFit}
+use Rattle.marking.specs.Mark.{marksFit}
 use Rattle.marking.proofs.Rounding.{facts-few}
-use Rattle.reduction.specs.Answers.{LongEnough}
 use Rattle.reduction.specs.Preserved.{Preserves}
 use Rattle.reduction.specs.Reduce.{reducedFile, originsFile, filesFit, markStage, reduceStage}
 use Rattle.reduction.specs.Task.{reducedTask, originBy, originsAt, keptAt, byOriginal}
@@ -42,8 +40,8 @@ use Rattle.reduction.proofs.ReducedLength.{reduced-file-length}
 use Rattle.search.specs.States.{stateCount}
 use Rattle.search.specs.FirstPlan.{firstPlan}
 use Rattle.search.specs.Least.{PlanFirst}
-use Rattle.search.specs.Planner.{planLevel, searched, statesFit, searchStage, planFound, planFits, planStage, PlanRooms, Lent, lentRooms}
-use Rattle.search.specs.PlannerRight.{PlanLongEnough, ample, AmpleSuffices, NeverShort}
+use Rattle.search.specs.Planner.{planLevel, searched, statesFit, searchStage, planFound, planFits, planStage, PlanRooms}
+use Rattle.search.specs.PlannerRight.{ample, AmpleSuffices, NeverShort}
 use Rattle.search.proofs.LeastPlans.{search-least}
 
 module _ (task : List ℕ) (octets : Octets task) (e : checkTask task ≡ done) where

@@ -7,18 +7,18 @@ use mathlib.Core.Option.{Option, none, some, Option·getD}
 use lib.ListN.{length}
 use Rattle.files.specs.declared.Outcome.{Outcome}
 use Rattle.files.specs.Listed.{Refusal, refusedAt, short, listed, fileRefusals}
-use Rattle.files.specs.Outcome.{done, isDone, guard, andThen, fits, overwrite}
+use Rattle.files.specs.Outcome.{done, isDone, andThen, fits, overwrite}
 use Rattle.files.specs.PlanFile.{planFile}
 use Rattle.files.specs.Task.{actionCount, factCount}
-use Rattle.files.specs.TaskFile.{checkTask, taskOf}
+use Rattle.files.specs.TaskFile.{taskOf}
 use Rattle.files.proofs.Guards.{guard-passes}
 use Rattle.files.proofs.Listed.{listed-done, listed-front, listed-behind, listed-guard, listed-both, listed-itself, listed-at, listed-later, task-listed}
 use Rattle.files.proofs.Logic.{split}
 use Rattle.files.proofs.Stages.{both-yes, both-no, both-last, both-both, answer-by, after-yes, after-no}
-use Rattle.marking.specs.Mark.{validLevel, marksFit}
+use Rattle.marking.specs.Mark.{validLevel}
 use Rattle.marking.proofs.Answers.{marks-listed}
 use Rattle.reduction.specs.Reduce.{Buffers, roomsOf, reducedFile, originsFile, filesFit, markStage, reduceStage, reduceAfter}
-use Rattle.reduction.specs.Answers.{withMarks, withFiles}
+use Rattle.reduction.specs.Answers.{withFiles}
 use Rattle.reduction.specs.Task.{reducedTask, originsAt}
 use Rattle.reduction.proofs.Answers.{files-listed, left-early, left-late, left-whole}
 use Rattle.search.specs.declared.Entry.{Entry}

@@ -1,18 +1,17 @@
 -- The planner is right for every accepted task: "no plan" where there is none, else the first of the best plans of the full
 -- task; and each entry of its table is least.
-use Prim.Native.Nat.{ℕ, suc, _≤_, _<_}
+use Prim.Native.Nat.{ℕ, _≤_, _<_}
 use mathlib.Core.Path.{_≡_, refl, sym, ap, ap₂, subst, _∙_}
 use mathlib.Core.Bool.{true}
-use mathlib.Core.List.{List, [], _∷_}
+use mathlib.Core.List.{List}
 use mathlib.Core.Option.{none, some}
 use native.Mathlib.Omega.{arith}
-use lib.Dec.{leb, ltb}
+use lib.Dec.{leb}
 use lib.ListN.{length, take, getD, length-map, List·getD-append}
 use lib.Seq.{take-append-seam}
-use borrow.Author.Tests.{le-leb, lt-ltb}
+use borrow.Author.Tests.{le-leb}
 use Rattle.files.specs.declared.Outcome.{Outcome}
 use Rattle.files.specs.Accepted.{validSigner, acceptedTask, acceptedPlan}
-use Rattle.files.specs.Below.{allOf}
 use Rattle.files.specs.Bytes.{Octets}
 use Rattle.files.specs.Outcome.{done, refusal, isDone, overwrite}
 use Rattle.files.specs.PlanFile.{planFile}
@@ -26,7 +25,7 @@ use Rattle.files.proofs.PlanRoundTrip.{plan-reads-back}
 use Rattle.files.proofs.Stages.{is-yes, fits-in}
 use Rattle.files.proofs.TaskChecked.{task-accepted}
 use Rattle.files.proofs.Valid.{Valid, task-valid}
-use Rattle.plans.specs.Plan.{IsPlan, Total, totalOf, Best, FirstBest, stepOf}
+use Rattle.plans.specs.Plan.{IsPlan, Total, totalOf, FirstBest}
 use Rattle.plans.proofs.OrderLaws.{total-steps}
 use Rattle.plans.proofs.PlanChecker.{all-below}
 use Rattle.marking.specs.Mark.{validLevel}
@@ -42,7 +41,7 @@ use Rattle.search.specs.FirstPlan.{firstPlan}
 use Rattle.search.specs.Least.{startedAt, DistanceLeast, PlanFirst}
 use Rattle.search.specs.Planner.{planLevel, searched, planFound, statesFit, planFits, planStage, planMade, planAnswer, Lent, lentRooms, planAfter}
 use Rattle.search.specs.PlannerRight.{PlanLongEnough, HandedBack, EntryRight, PlannerRight, PlannerPromise}
-use Rattle.search.specs.Table.{Distance, distances, entryOf, tableOf}
+use Rattle.search.specs.Table.{distances, entryOf, tableOf}
 use Rattle.search.proofs.Answers.{whole-outcome, whole-is, plan-written, table-filled}
 use Rattle.search.proofs.Distances.{distances-length, steps-few, minutes-few}
 use Rattle.search.proofs.LeastPlans.{search-least}
