@@ -5,6 +5,7 @@ use mathlib.Core.Bool.{Bool, true, false, not, _||_}
 use mathlib.Core.List.{List}
 use mathlib.Core.Logic.{⊎-elim}
 use mathlib.Core.Option.{Option, none, some}
+use native.Mathlib.Omega.{arith}
 use lib.Dec.{eqb}
 use lib.ListN.{length}
 use borrow.Author.Tests.{eqb-true, not-true}
@@ -15,7 +16,8 @@ use Rattle.files.proofs.BelowLaws.{allBelow-elim}
 use Rattle.files.proofs.Logic.{clash, and-split, or-split}
 use Rattle.plans.specs.State.{hasFact}
 use Rattle.plans.proofs.FactLaws.{fact-all, all-facts}
-use Rattle.marking.specs.Covering.{sameEffect, within, covers}
+use Rattle.plans.proofs.OrderLaws.{NoDearer}
+use Rattle.marking.specs.Covering.{sameEffect, within, couldCover, covers}
 use Rattle.marking.proofs.Parts.{part-shorter}
 
 pub sameEffect-says : (x y : Option ℕ) → sameEffect x y ≡ true → x ≡ y
@@ -34,27 +36,27 @@ within-self conditions = all-facts (hasFact conditions) conditions (λ v d h. h)
 
 -- b covers a
 pub record Covers (t : Task) (tracked : ℕ → Bool) (b a : Action) : Type 0 where
-  pub same-cost : b .cost ≡ a .cost
+  pub no-dearer : NoDearer b a
   pub same-effect : (v : ℕ) → v < variableCount t → tracked v ≡ true → valueIn (b .effects) v ≡ valueIn (a .effects) v
   pub asks-less : (v d : ℕ) → hasFact (b .conditions) v d ≡ true → hasFact (a .conditions) v d ≡ true
   pub not-all : within (a .conditions) (b .conditions) ≡ false
 
 pub covers-says : (t : Task) (tracked : ℕ → Bool) (b a : Action) → covers t tracked b a ≡ true → Covers t tracked b a
-unfolding covers
+unfolding covers couldCover
 covers-says t tracked b a e =
     let agrees : ℕ → Bool = λ v. not (tracked v) || sameEffect (valueIn (b .effects) v) (valueIn (a .effects) v) in
-    let cost = and-split (eqb (b .cost) (a .cost)) _ e in
-    let effects = and-split (allBelow (variableCount t) agrees) _ (cost .1) in
-    let conditions = and-split (within (b .conditions) (a .conditions)) (not (within (a .conditions) (b .conditions))) (effects .1) in
+    let both = and-split (couldCover b a) (allBelow (variableCount t) agrees) e in
+    let cost = and-split (eqb (b .cost) (a .cost)) _ (both .0) in
+    let conditions = and-split (within (b .conditions) (a .conditions)) (not (within (a .conditions) (b .conditions))) (cost .1) in
     record {
-      same-cost = eqb-true (b .cost) (a .cost) (cost .0);
+      no-dearer = omega (arith, eqb-true (b .cost) (a .cost) (cost .0));
       same-effect =
           λ v l k.
           sameEffect-says (valueIn (b .effects) v) (valueIn (a .effects) v)
           (⊎-elim
           (λ untracked. clash k (not-true (tracked v) untracked))
           (λ same. same)
-          (or-split (not (tracked v)) _ (allBelow-elim (variableCount t) agrees (effects .0) v l)));
+          (or-split (not (tracked v)) _ (allBelow-elim (variableCount t) agrees (both .1) v l)));
       asks-less = λ v d h. within-says (b .conditions) (a .conditions) v d (conditions .0) h;
       not-all = not-true (within (a .conditions) (b .conditions)) (conditions .1);
     }

@@ -14,6 +14,7 @@ use Rattle.files.proofs.Logic.{split, and-split, or-right}
 use Rattle.files.proofs.Valid.{Valid}
 use Rattle.plans.specs.State.{hasFact}
 use Rattle.plans.proofs.FactLaws.{value-fact, fact-valid}
+use Rattle.plans.proofs.OrderLaws.{noDearer-self, noDearer-trans}
 use Rattle.marking.specs.Marks.{Marks, kept, relevant}
 use Rattle.marking.specs.Links.{linked, gainsAction}
 use Rattle.marking.specs.Covering.{covers, covered}
@@ -82,7 +83,7 @@ module _ (t : Task) (w : Valid t) (level : ℕ) (m : Marks) (fixed : Fixed t lev
         to = s .to;
         known = s .known;
         kept = s .kept;
-        no-dearer = omega (arith, s .no-dearer, c .same-cost);
+        no-dearer = noDearer-trans (actionOf t (s .to)) (actionOf t b) (actionOf t a) (s .no-dearer) (c .no-dearer);
         asks-less = λ v d h. c .asks-less v d (s .asks-less v d h);
         asks-relevant = s .asks-relevant;
         same-effect = λ v d r u. s .same-effect v d r u ∙ c .same-effect v (relevant-inside v d r .0) (is-tracked v d r u);
@@ -105,7 +106,7 @@ module _ (t : Task) (w : Valid t) (level : ℕ) (m : Marks) (fixed : Fixed t lev
         to = a;
         known = l;
         kept = e;
-        no-dearer = omega arith;
+        no-dearer = noDearer-self (actionOf t a);
         asks-less = λ v d h. h;
         asks-relevant = asks-relevant a l e counts;
         same-effect = λ v d r u. refl;

@@ -26,6 +26,7 @@ pub mod HeldTask
 pub mod Progress
 pub mod RoundLinks
 pub mod RoundActions
+pub mod CoverRows
 pub mod RoundCovering
 pub mod RoundFacts
 pub mod RoundProgress

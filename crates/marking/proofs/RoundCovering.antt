@@ -1,4 +1,4 @@
--- What covers what, by the entries of the arrays and the table of nested pairs; and the actions whose conditions count.
+-- What covers what, by the entries of the arrays and the table of what could cover what; and the actions whose conditions count.
 use Prim.Native.Nat.{ℕ, _+_, _*_, _<_}
 use mathlib.Core.Path.{_≡_, refl, sym, ap, ap₂, _∙_}
 use mathlib.Core.Bool.{Bool, true, false, not, _&&_, _||_}
@@ -16,36 +16,14 @@ use Rattle.files.proofs.Tabulate.{tabulate-entry}
 use Rattle.plans.specs.State.{hasFact}
 use Rattle.marking.specs.Marks.{Marks}
 use Rattle.marking.specs.Links.{tracked}
-use Rattle.marking.specs.Covering.{sameEffect, within, covers, covered}
+use Rattle.marking.specs.Covering.{sameEffect, couldCover, covers, covered}
 use Rattle.marking.specs.Rounds.{marked, nextActions, trackedMarks, countedActions}
-use Rattle.marking.specs.Dense.{isMarked, otherThan, missing, nested, unlike, coversAt, coveredAt, countedAt}
+use Rattle.marking.specs.Dense.{isMarked, askedBy, unlike, coversAt, coveredAt, countedAt}
 use Rattle.marking.proofs.HeldTask.{variables-held, actions-held, cost-held, conditions-held, effectAt, effects-held}
+use Rattle.marking.proofs.CoverRows.{could-same}
 use Rattle.marking.proofs.RoundLaws.{trackedMarks-at}
 use Rattle.marking.proofs.RowTests.{any-row, row-fact}
 use Rattle.marking.proofs.Truth.{any-same, all-any, all-of-any, count-none, bit-marked}
-
-eqb-swap : (x y : ℕ) → eqb x y ≡ eqb y x
-eqb-swap x y = split (eqb x y) (λ e. e ∙ sym (eq-eqb y x (sym (eqb-true x y e)))) (λ e. e ∙ sym (ne-eqb y x (λ q. eqb-false x y e (sym q))))
-
--- an entry that is there stands in the other row where the other has the same entry
-lacking : (x y : ℕ) → not (eqb x 255) && not (not (eqb y 255) && eqb y x) ≡ not (eqb x 255) && not (eqb x y)
-lacking x y =
-    split (eqb x 255)
-    (λ e. rw e refl)
-    (λ e.
-    split (eqb x y)
-    (λ q.
-    let is : x ≡ y = eqb-true x y q in
-    let there : eqb y 255 ≡ false = ap (λ (n : ℕ). eqb n 255) (sym is) ∙ e in
-    let back : eqb y x ≡ true = eq-eqb y x (sym is) in
-    rw (there, back, q) refl)
-    (λ q.
-    let back : eqb y x ≡ false = eqb-swap y x ∙ q in
-    rw (back, q) (both-false (not (eqb y 255)) (not (eqb x 255)))))
-  where
-    both-false : (b c : Bool) → c && not (b && false) ≡ c && true
-    both-false true c = refl
-    both-false false c = refl
 
 -- effects by their entries
 same-entries : (x y : ℕ) → sameEffect (entryValue x) (entryValue y) ≡ eqb x y
@@ -61,28 +39,10 @@ same-entries x y =
     (λ q. rw (e, q) refl))
 
 module _ (d : Arrays) where
-  within-held : (b a : ℕ) → b < d .actions → a < d .actions → within (actionOf (held d) b .conditions) (actionOf (held d) a .conditions) ≡ eqb (missing (d .conditions) (64 * b) (64 * a) (d .variables)) 0
-  unfolding within missing otherThan
-  within-held b a l k =
-      let others : List Pair = rowPairs (d .conditions) (64 * a) 0 (d .variables) in
-      ap₂ within (conditions-held d b l) (conditions-held d a k)
-      ∙ all-of-any (λ c. hasFact others (c .variable) (c .value)) (rowPairs (d .conditions) (64 * b) 0 (d .variables))
-      ∙ ap not
-      (any-row (d .conditions) (64 * b) (λ v x. not (hasFact others v x)) (d .variables)
-      ∙ any-same (d .variables)
-      (λ v. not (eqb (getD (d .conditions) (64 * b + v) 0) 255) && not (hasFact others v (getD (d .conditions) (64 * b + v) 0)))
-      (λ v. otherThan (getD (d .conditions) (64 * b + v) 0) (getD (d .conditions) (64 * a + v) 0))
-      (λ v h.
-      ap (λ (t : Bool). not (eqb (getD (d .conditions) (64 * b + v) 0) 255) && not t) (row-fact (d .conditions) (64 * a) (d .variables) v h (getD (d .conditions) (64 * b + v) 0))
-      ∙ lacking (getD (d .conditions) (64 * b + v) 0) (getD (d .conditions) (64 * a + v) 0)))
-      ∙ sym (count-none (d .variables) (λ v. otherThan (getD (d .conditions) (64 * b + v) 0) (getD (d .conditions) (64 * a + v) 0)))
-
-  nested-held : (b a : ℕ) → b < d .actions → a < d .actions → nested (d .costs) (d .conditions) (d .variables) b a ≡ eqb (actionOf (held d) b .cost) (actionOf (held d) a .cost) && (within (actionOf (held d) b .conditions) (actionOf (held d) a .conditions) && not (within (actionOf (held d) a .conditions) (actionOf (held d) b .conditions)))
-  unfolding nested
-  nested-held b a l k =
-      ap₂ (λ (c w : Bool). c && w)
-      (ap₂ eqb (sym (cost-held d b l)) (sym (cost-held d a k)))
-      (ap₂ (λ (w x : Bool). w && not x) (sym (within-held b a l k)) (sym (within-held a b k l)))
+  could-held : (b a : ℕ) → b < d .actions → a < d .actions → couldCover (askedBy (d .costs) (d .conditions) (d .variables) b) (askedBy (d .costs) (d .conditions) (d .variables) a) ≡ couldCover (actionOf (held d) b) (actionOf (held d) a)
+  could-held b a l k =
+      could-same (askedBy (d .costs) (d .conditions) (d .variables) b) (actionOf (held d) b) (askedBy (d .costs) (d .conditions) (d .variables) a) (actionOf (held d) a)
+      (sym (cost-held d b l)) (sym (conditions-held d b l)) (sym (cost-held d a k)) (sym (conditions-held d a k))
 
   effect-held : (a v : ℕ) → a < d .actions → v < d .variables → valueIn (actionOf (held d) a .effects) v ≡ entryValue (effectAt d a v)
   effect-held a v l h = ap (λ (ps : List Pair). valueIn ps v) (effects-held d a l) ∙ rowPairs-value (d .effects) (64 * a) 0 (d .variables) v (omega arith) (omega arith)
@@ -106,25 +66,14 @@ module _ (d : Arrays) where
         negated true s = refl
         negated false s = refl
 
-    module _ (A : ℕ → Bool) (actions pairs : List ℕ) (action : (a : ℕ) → a < d .actions → isMarked actions a ≡ A a) (table : (a b : ℕ) → a < d .actions → b < d .actions → getD pairs (512 * a + b) 0 ≡ bit (nested (d .costs) (d .conditions) (d .variables) b a)) where
+    module _ (A : ℕ → Bool) (actions pairs : List ℕ) (action : (a : ℕ) → a < d .actions → isMarked actions a ≡ A a) (table : (a b : ℕ) → a < d .actions → b < d .actions → getD pairs (512 * a + b) 0 ≡ bit (couldCover (askedBy (d .costs) (d .conditions) (d .variables) b) (askedBy (d .costs) (d .conditions) (d .variables) a))) where
       covers-held : (b a : ℕ) → b < d .actions → a < d .actions → coversAt actions pairs (d .effects) tracks (d .variables) b a ≡ A b && covers (held d) T (actionOf (held d) b) (actionOf (held d) a)
       unfolding coversAt covers
       covers-held b a l k =
           ap₂ (λ (x y : Bool). x && y) (action b l)
           (ap₂ (λ (x y : Bool). x && y)
-          (ap (λ (n : ℕ). eqb n 1) (table a b k l) ∙ bit-marked (nested (d .costs) (d .conditions) (d .variables) b a) ∙ nested-held b a l k)
-          (sym (same-held b a l k))
-          ∙ reorder
-          (eqb (actionOf (held d) b .cost) (actionOf (held d) a .cost))
-          (within (actionOf (held d) b .conditions) (actionOf (held d) a .conditions) && not (within (actionOf (held d) a .conditions) (actionOf (held d) b .conditions)))
-          (allBelow (variableCount (held d)) (λ v. not (T v) || sameEffect (valueIn (actionOf (held d) b .effects) v) (valueIn (actionOf (held d) a .effects) v))))
-        where
-          reorder : (c n s : Bool) → (c && n) && s ≡ c && (s && n)
-          reorder false n s = refl
-          reorder true true true = refl
-          reorder true true false = refl
-          reorder true false true = refl
-          reorder true false false = refl
+          (ap (λ (n : ℕ). eqb n 1) (table a b k l) ∙ bit-marked (couldCover (askedBy (d .costs) (d .conditions) (d .variables) b) (askedBy (d .costs) (d .conditions) (d .variables) a)) ∙ could-held b a l k)
+          (sym (same-held b a l k)))
 
       pub covered-held : (a : ℕ) → a < d .actions → coveredAt actions pairs (d .effects) tracks (d .variables) (d .actions) a ≡ covered (held d) T A a
       unfolding coveredAt covered
@@ -136,7 +85,7 @@ module _ (d : Arrays) where
 module _ (d : Arrays) (level : ℕ) (m : Marks) (actions pairs tracks : List ℕ)
     (action : (a : ℕ) → a < d .actions → isMarked actions a ≡ marked (nextActions (held d) level m) a)
     (track : (v : ℕ) → v < d .variables → isMarked tracks v ≡ tracked (held d) level m v)
-    (table : level ≡ 4 → (a b : ℕ) → a < d .actions → b < d .actions → getD pairs (512 * a + b) 0 ≡ bit (nested (d .costs) (d .conditions) (d .variables) b a)) where
+    (table : level ≡ 4 → (a b : ℕ) → a < d .actions → b < d .actions → getD pairs (512 * a + b) 0 ≡ bit (couldCover (askedBy (d .costs) (d .conditions) (d .variables) b) (askedBy (d .costs) (d .conditions) (d .variables) a))) where
   abbrev pub counts : ℕ → Bool
   counts a = marked (countedActions (held d) level (trackedMarks (held d) level m) (nextActions (held d) level m)) a
 

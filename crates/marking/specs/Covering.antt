@@ -19,12 +19,17 @@ sameEffect (some x) (some y) = eqb x y
 unfoldable pub within : List Pair → List Pair → Bool
 within conditions others = allOf (λ c. hasFact others (c .variable) (c .value)) conditions
 
--- b covers a: the same cost, the same effect on each tracked variable, and conditions that are a proper subset
+-- what does not depend on the round: b has the same cost as a, and conditions that are a proper subset
+unfoldable pub couldCover : Action → Action → Bool
+couldCover b a =
+    eqb (b .cost) (a .cost)
+    && (within (b .conditions) (a .conditions) && not (within (a .conditions) (b .conditions)))
+
+-- b covers a: it could, and it has the same effect on each tracked variable
 unfoldable pub covers : Task → (ℕ → Bool) → Action → Action → Bool
 covers t tracked b a =
-    eqb (b .cost) (a .cost)
-    && (allBelow (variableCount t) (λ v. not (tracked v) || sameEffect (valueIn (b .effects) v) (valueIn (a .effects) v))
-    && (within (b .conditions) (a .conditions) && not (within (a .conditions) (b .conditions))))
+    couldCover b a
+    && allBelow (variableCount t) (λ v. not (tracked v) || sameEffect (valueIn (b .effects) v) (valueIn (a .effects) v))
 
 -- covered (01): an action of A covers it
 unfoldable pub covered : Task → (ℕ → Bool) → (ℕ → Bool) → ℕ → Bool

@@ -2,11 +2,12 @@
 use Prim.Native.Nat.{ℕ, _+_, _*_, _/_, _%_, _<_}
 use mathlib.Core.Path.{_≡_}
 use mathlib.Core.Bool.{Bool, not, cond, _&&_, _||_}
-use mathlib.Core.List.{List}
+use mathlib.Core.List.{List, []}
 use lib.Dec.{eqb, leb, ltb}
 use lib.ListN.{length, getD}
 use Rattle.files.specs.Below.{tabulate, anyBelow, bit, countBelow, sumBelow}
-use Rattle.files.specs.Task.{Task, variableCount, actionCount, sizeOf}
+use Rattle.files.specs.Dense.{rowPairs}
+use Rattle.files.specs.Task.{Action, Task, action, variableCount, actionCount, sizeOf}
 use Rattle.marking.specs.Marks.{kept}
 use Rattle.marking.specs.Rounds.{marking}
 use Rattle.marking.specs.Mark.{factMark}
@@ -60,17 +61,15 @@ trackedAt unlinked v = anyBelow 32 (λ d. isMarked unlinked (32 * v + d))
 unfoldable pub missing : List ℕ → ℕ → ℕ → ℕ → ℕ
 missing conditions base other count = countBelow count (λ v. otherThan (getD conditions (base + v) 0) (getD conditions (other + v) 0))
 
--- b costs what a costs, and its conditions are a proper subset of a's
-unfoldable pub nested : List ℕ → List ℕ → ℕ → ℕ → ℕ → Bool
-nested costs conditions variables b a =
-    eqb (getD costs b 0) (getD costs a 0)
-    && (eqb (missing conditions (64 * b) (64 * a) variables) 0 && not (eqb (missing conditions (64 * a) (64 * b) variables) 0))
+-- what covering asks of an action in every round: its cost and its conditions
+abbrev pub askedBy : List ℕ → List ℕ → ℕ → ℕ → Action
+askedBy costs conditions variables a = action (getD costs a 0) (rowPairs conditions (64 * a) 0 variables) []
 
 -- on how many tracked variables the effects at `base` and at `other` are unlike
 unfoldable pub unlike : List ℕ → List ℕ → ℕ → ℕ → ℕ → ℕ
 unlike effects tracked base other count = countBelow count (λ v. isMarked tracked v && not (eqb (getD effects (base + v) 0) (getD effects (other + v) 0)))
 
--- b is kept and covers a, by the table of nested pairs
+-- b is kept and covers a, by the table of what could cover what
 unfoldable pub coversAt : List ℕ → List ℕ → List ℕ → List ℕ → ℕ → ℕ → ℕ → Bool
 coversAt kept pairs effects tracked variables b a =
     isMarked kept b && (isMarked pairs (512 * a + b) && eqb (unlike effects tracked (64 * b) (64 * a) variables) 0)

@@ -1,12 +1,13 @@
-// Covered actions. Which pairs of actions have the same cost and properly nested conditions is
-// worked out once, in a table with a row of 512 entries for each action.
+// Covered actions. What could cover what, by cost and conditions, is worked out once, in a table
+// with a row of 512 entries for each action.
 ghost use mathlib.Core.Path.{_≡_};
 ghost use Prim.Native.Nat.{ℕ, _+_, _*_, _≤_, _<_};
 ghost use mathlib.Core.Bool.{_&&_, not};
 ghost use lib.Dec.{eqb, ltb};
 ghost use lib.ListN.{length, getD};
 ghost use Rattle.files.specs.Below.{bit};
-ghost use Rattle.marking.specs.Dense.{missing, nested, unlike, coversAt, coveredAt, countedAt};
+ghost use Rattle.marking.specs.Covering.{couldCover};
+ghost use Rattle.marking.specs.Dense.{missing, askedBy, unlike, coversAt, coveredAt, countedAt};
 use crate::entries;
 use crate::rounds::Scope;
 
@@ -26,7 +27,7 @@ fn missing(conditions: &[u8; 32768], base: usize, other: usize, variables: usize
 }
 
 // Whether b costs what a costs and has a proper subset of its conditions.
-fn is_nested(
+fn pair_could_cover(
     costs: &[u32; 512],
     conditions: &[u8; 32768],
     variables: usize,
@@ -34,7 +35,7 @@ fn is_nested(
     a: usize,
 ) -> bool
     requires { ⌜ (variables ≤ 64) × (b < 512) × (a < 512) ⌝ }
-    ensures { λ r. ⌜ r ≡ nested (now (costs .entry)) (now (conditions .entry)) variables b a ⌝ }
+    ensures { λ r. ⌜ r ≡ couldCover (askedBy (now (costs .entry)) (now (conditions .entry)) variables b) (askedBy (now (costs .entry)) (now (conditions .entry)) variables a) ⌝ }
 {
     if costs[b] != costs[a] {
         return false;
@@ -46,29 +47,34 @@ fn is_nested(
 }
 
 // The row of one action in the table.
-fn nest_row(
-    pairs: &mut [u8],
+fn fill_row(
+    could_cover: &mut [u8],
     costs: &[u32; 512],
     conditions: &[u8; 32768],
     variables: usize,
     actions: usize,
     a: usize,
 )
-    requires { ⌜ (variables ≤ 64) × (actions ≤ 512) × (a < 512) × (262144 ≤ length (now pairs)) ⌝ }
-    ensures { λ r. ⌜ (length (now (pairs .exit)) ≡ length (now (pairs .entry))) × ((b : ℕ) → b < actions → getD (now (pairs .exit)) (512 * a + b) 0 ≡ bit (nested (now (costs .entry)) (now (conditions .entry)) variables b a)) × ((i : ℕ) → i < 512 * a → getD (now (pairs .exit)) i 0 ≡ getD (now (pairs .entry)) i 0) ⌝ }
+    requires { ⌜ (variables ≤ 64) × (actions ≤ 512) × (a < 512) × (262144 ≤ length (now «could_cover»)) ⌝ }
+    ensures { λ r. ⌜ (length (now («could_cover» .exit)) ≡ length (now («could_cover» .entry))) × ((b : ℕ) → b < actions → getD (now («could_cover» .exit)) (512 * a + b) 0 ≡ bit (couldCover (askedBy (now (costs .entry)) (now (conditions .entry)) variables b) (askedBy (now (costs .entry)) (now (conditions .entry)) variables a))) × ((i : ℕ) → i < 512 * a → getD (now («could_cover» .exit)) i 0 ≡ getD (now («could_cover» .entry)) i 0) ⌝ }
 {
     let mut b: usize = 0;
     while b < actions {
-        let test = is_nested(costs, conditions, variables, b, a);
-        pairs[512 * a + b] = entries::bit_of(test);
+        let test = pair_could_cover(costs, conditions, variables, b, a);
+        could_cover[512 * a + b] = entries::bit_of(test);
         b += 1;
     }
 }
 
-// The table of nested pairs, for level 4 alone.
-pub fn nest(pairs: &mut [u8], scope: Scope, costs: &[u32; 512], conditions: &[u8; 32768])
-    requires { ⌜ (scope .variables ≤ 64) × (scope .actions ≤ 512) × (262144 ≤ length (now pairs)) ⌝ }
-    ensures { λ r. ⌜ (scope .level ≡ 4 → (a b : ℕ) → a < scope .actions → b < scope .actions → getD (now (pairs .exit)) (512 * a + b) 0 ≡ bit (nested (now (costs .entry)) (now (conditions .entry)) (scope .variables) b a)) ⌝ }
+// The table of what could cover what, for level 4 alone.
+pub fn fill_could_cover(
+    could_cover: &mut [u8],
+    scope: Scope,
+    costs: &[u32; 512],
+    conditions: &[u8; 32768],
+)
+    requires { ⌜ (scope .variables ≤ 64) × (scope .actions ≤ 512) × (262144 ≤ length (now «could_cover»)) ⌝ }
+    ensures { λ r. ⌜ (scope .level ≡ 4 → (a b : ℕ) → a < scope .actions → b < scope .actions → getD (now («could_cover» .exit)) (512 * a + b) 0 ≡ bit (couldCover (askedBy (now (costs .entry)) (now (conditions .entry)) (scope .variables) b) (askedBy (now (costs .entry)) (now (conditions .entry)) (scope .variables) a))) ⌝ }
 {
     let variables = scope.variables;
     let actions = scope.actions;
@@ -77,7 +83,7 @@ pub fn nest(pairs: &mut [u8], scope: Scope, costs: &[u32; 512], conditions: &[u8
     }
     let mut a: usize = 0;
     while a < actions {
-        nest_row(pairs, costs, conditions, variables, actions, a);
+        fill_row(could_cover, costs, conditions, variables, actions, a);
         a += 1;
     }
 }
@@ -116,7 +122,7 @@ fn unlike(
 // Whether b is kept and covers a.
 fn covers(
     kept: &[u8; 512],
-    pairs: &[u8; 262144],
+    could_cover: &[u8; 262144],
     effects: &[u8; 32768],
     tracked: &[u8; 64],
     variables: usize,
@@ -124,12 +130,12 @@ fn covers(
     a: usize,
 ) -> bool
     requires { ⌜ (variables ≤ 64) × (b < 512) × (a < 512) ⌝ }
-    ensures { λ r. ⌜ r ≡ coversAt (now (kept .entry)) (now (pairs .entry)) (now (effects .entry)) (now (tracked .entry)) variables b a ⌝ }
+    ensures { λ r. ⌜ r ≡ coversAt (now (kept .entry)) (now («could_cover» .entry)) (now (effects .entry)) (now (tracked .entry)) variables b a ⌝ }
 {
     if kept[b] != 1 {
         return false;
     }
-    if pairs[512 * a + b] != 1 {
+    if could_cover[512 * a + b] != 1 {
         return false;
     }
     unlike(effects, tracked, 64 * b, 64 * a, variables) == 0
@@ -139,19 +145,19 @@ fn covers(
 fn find_coverer(
     scope: Scope,
     kept: &[u8; 512],
-    pairs: &[u8; 262144],
+    could_cover: &[u8; 262144],
     effects: &[u8; 32768],
     tracked: &[u8; 64],
     a: usize,
 ) -> usize
     requires { ⌜ (scope .variables ≤ 64) × (scope .actions ≤ 512) × (a < 512) ⌝ }
-    ensures { λ r. ⌜ (ltb r (scope .actions) ≡ coveredAt (now (kept .entry)) (now (pairs .entry)) (now (effects .entry)) (now (tracked .entry)) (scope .variables) (scope .actions) a) × (r ≤ 512) ⌝ }
+    ensures { λ r. ⌜ (ltb r (scope .actions) ≡ coveredAt (now (kept .entry)) (now («could_cover» .entry)) (now (effects .entry)) (now (tracked .entry)) (scope .variables) (scope .actions) a) × (r ≤ 512) ⌝ }
 {
     let variables = scope.variables;
     let actions = scope.actions;
     let mut b: usize = 0;
     while b < actions {
-        if covers(kept, pairs, effects, tracked, variables, b, a) {
+        if covers(kept, could_cover, effects, tracked, variables, b, a) {
             return b;
         }
         b += 1;
@@ -163,23 +169,23 @@ fn find_coverer(
 fn coverer(
     scope: Scope,
     kept: &[u8; 512],
-    pairs: &[u8; 262144],
+    could_cover: &[u8; 262144],
     effects: &[u8; 32768],
     tracked: &[u8; 64],
     a: usize,
     before: u16,
 ) -> usize
     requires { ⌜ (scope .variables ≤ 64) × (scope .actions ≤ 512) × (a < 512) ⌝ }
-    ensures { λ r. ⌜ (ltb r (scope .actions) ≡ coveredAt (now (kept .entry)) (now (pairs .entry)) (now (effects .entry)) (now (tracked .entry)) (scope .variables) (scope .actions) a) × (r ≤ 512) ⌝ }
+    ensures { λ r. ⌜ (ltb r (scope .actions) ≡ coveredAt (now (kept .entry)) (now («could_cover» .entry)) (now (effects .entry)) (now (tracked .entry)) (scope .variables) (scope .actions) a) × (r ≤ 512) ⌝ }
 {
     let variables = scope.variables;
     let first = before as usize;
     if first < scope.actions {
-        if covers(kept, pairs, effects, tracked, variables, first, a) {
+        if covers(kept, could_cover, effects, tracked, variables, first, a) {
             return first;
         }
     }
-    find_coverer(scope, kept, pairs, effects, tracked, a)
+    find_coverer(scope, kept, could_cover, effects, tracked, a)
 }
 
 // Whether F has or gains the conditions of an action. What covers it is kept in `coverers`.
@@ -187,14 +193,14 @@ fn is_counted(
     scope: Scope,
     kept: &[u8; 512],
     named: &[u8; 512],
-    pairs: &[u8; 262144],
+    could_cover: &[u8; 262144],
     effects: &[u8; 32768],
     tracked: &[u8; 64],
     coverers: &mut [u16; 512],
     a: usize,
 ) -> bool
     requires { ⌜ (scope .variables ≤ 64) × (scope .actions ≤ 512) × (a < 512) ⌝ }
-    ensures { λ r. ⌜ r ≡ countedAt (scope .level) (now (kept .entry)) (now (named .entry)) (coveredAt (now (kept .entry)) (now (pairs .entry)) (now (effects .entry)) (now (tracked .entry)) (scope .variables) (scope .actions) a) a ⌝ }
+    ensures { λ r. ⌜ r ≡ countedAt (scope .level) (now (kept .entry)) (now (named .entry)) (coveredAt (now (kept .entry)) (now («could_cover» .entry)) (now (effects .entry)) (now (tracked .entry)) (scope .variables) (scope .actions) a) a ⌝ }
 {
     if named[a] == 1 {
         return true;
@@ -205,7 +211,7 @@ fn is_counted(
     if scope.level != 4 {
         return true;
     }
-    let by = coverer(scope, kept, pairs, effects, tracked, a, coverers[a]);
+    let by = coverer(scope, kept, could_cover, effects, tracked, a, coverers[a]);
     coverers[a] = by as u16;
     scope.actions <= by
 }
@@ -215,18 +221,27 @@ pub fn counted(
     scope: Scope,
     kept: &[u8; 512],
     named: &[u8; 512],
-    pairs: &[u8; 262144],
+    could_cover: &[u8; 262144],
     effects: &[u8; 32768],
     tracked: &[u8; 64],
     coverers: &mut [u16; 512],
 ) -> [u8; 512]
     requires { ⌜ (scope .variables ≤ 64) × (scope .actions ≤ 512) ⌝ }
-    ensures { λ r. ⌜ ((a : ℕ) → a < scope .actions → getD r a 0 ≡ bit (countedAt (scope .level) (now (kept .entry)) (now (named .entry)) (coveredAt (now (kept .entry)) (now (pairs .entry)) (now (effects .entry)) (now (tracked .entry)) (scope .variables) (scope .actions) a) a)) ⌝ }
+    ensures { λ r. ⌜ ((a : ℕ) → a < scope .actions → getD r a 0 ≡ bit (countedAt (scope .level) (now (kept .entry)) (now (named .entry)) (coveredAt (now (kept .entry)) (now («could_cover» .entry)) (now (effects .entry)) (now (tracked .entry)) (scope .variables) (scope .actions) a) a)) ⌝ }
 {
     let mut marks = [0u8; 512];
     let mut a: usize = 0;
     while a < scope.actions {
-        let test = is_counted(scope, kept, named, pairs, effects, tracked, coverers, a);
+        let test = is_counted(
+            scope,
+            kept,
+            named,
+            could_cover,
+            effects,
+            tracked,
+            coverers,
+            a,
+        );
         marks[a] = entries::bit_of(test);
         a += 1;
     }

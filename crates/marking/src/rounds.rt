@@ -45,8 +45,8 @@ fn run(
     ensures { λ r. ⌜ Final (held (arrays (scope .variables) (scope .actions) (now (sizes .entry)) (now (starts .entry)) (now (goal .entry)) (now (costs .entry)) (now (conditions .entry)) (now (effects .entry)))) (scope .level) (r .kept) (r .facts) (r .unlinked) (r .rounds) ⌝ }
 {
     let actions = scope.actions;
-    let mut pairs = [0u8; 262144];
-    covering::nest(&mut pairs, scope, costs, conditions);
+    let mut could_cover = [0u8; 262144];
+    covering::fill_could_cover(&mut could_cover, scope, costs, conditions);
     let mut facts = [0u8; 2048];
     gains::name_row(&mut facts, scope, goal, 0, sizes);
     let mut kept = [0u8; 512];
@@ -64,7 +64,15 @@ fn run(
         gains::gain_actions(&mut kept, scope, effects, &before, &unlinked);
         before = unlinked;
         let tracked = links::tracked(scope, &unlinked);
-        let counted = covering::counted(scope, &kept, &named, &pairs, effects, &tracked, &mut by);
+        let counted = covering::counted(
+            scope,
+            &kept,
+            &named,
+            &could_cover,
+            effects,
+            &tracked,
+            &mut by,
+        );
         gains::gain_facts(&mut facts, scope, conditions, sizes, &counted, &named);
         named = counted;
         rounds += 1;

@@ -112,6 +112,12 @@ total-steps t (a ∷ plan) = omega (arith, total-steps t plan)
 abbrev pub NoDearer : Action → Action → Type 0
 NoDearer b a = b .cost ≤ a .cost
 
+pub noDearer-self : (a : Action) → NoDearer a a
+noDearer-self a = omega arith
+
+pub noDearer-trans : (c b a : Action) → NoDearer c b → NoDearer b a → NoDearer c a
+noDearer-trans c b a m n = omega arith
+
 pub addStep-cheaper : (b a : Action) (x y : Total) → NoDearer b a → atMost x y ≡ true → atMost (addStep b x) (addStep a y) ≡ true
 unfolding addStep
 addStep-cheaper b a x y n e =

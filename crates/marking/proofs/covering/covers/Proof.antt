@@ -1,4 +1,4 @@
--- The three tests in turn: b is kept, the pair is nested, no tracked effect is unlike.
+-- The three tests in turn: b is kept, it could cover a, no tracked effect is unlike.
 use mathlib.Core.Path.{refl}
 use borrow.Author.Tests.{eq-eqb, ne-eqb}
 use borrow.Author.Needs.{needs}

@@ -10,11 +10,11 @@ use Rattle.marking.proofs.covering.find_coverer.Statement.{statement}
 use Rattle.marking.proofs.covering.find_coverer.Tie as tie
 
 abbrev Inv-loop : tie.InvT-loop
-Inv-loop kept pairs effects tracked a variables actions b₀ b =
-    (coveredAt kept pairs effects tracked variables b a ≡ false) × (b ≤ actions)
+Inv-loop kept could effects tracked a variables actions b₀ b =
+    (coveredAt kept could effects tracked variables b a ≡ false) × (b ≤ actions)
 
 abbrev μ-loop : tie.MeasureT-loop
-μ-loop kept pairs effects tracked a variables actions b₀ b = actions - b
+μ-loop kept could effects tracked a variables actions b₀ b = actions - b
 
 loop-holds : tie.Need-loop-holds Inv-loop μ-loop
 loop-holds c = (covered-begin _ _ _ _ _ _, omega arith)

@@ -44,10 +44,10 @@ to-loop c = c .before .before .before .before
 abbrev to-name-row : tie.At-loop Inv-loop μ-loop → tie.After-name-row Inv-loop μ-loop
 to-name-row c = c .before .before .before .before
 
-abbrev to-nest : tie.After-name-row Inv-loop μ-loop → tie.After-nest Inv-loop μ-loop
-to-nest c = c .before .before .before .before
+abbrev to-fill : tie.After-name-row Inv-loop μ-loop → tie.After-fill-could-cover Inv-loop μ-loop
+to-fill c = c .before .before .before .before
 
-abbrev to-start : tie.After-nest Inv-loop μ-loop → tie.Start Inv-loop μ-loop
+abbrev to-start : tie.After-fill-could-cover Inv-loop μ-loop → tie.Start Inv-loop μ-loop
 to-start c = c .before .before
 
 -- the task that the arrays hold
@@ -64,13 +64,13 @@ actions-few : (s : tie.Start Inv-loop μ-loop) → s .args .scope .actions ≤ 5
 actions-few s = omega (arith, valid s .actions-few, actions-held (task s))
 
 abbrev begun : tie.At-loop Inv-loop μ-loop → tie.Start Inv-loop μ-loop
-begun c = to-start (to-nest (to-name-row c))
+begun c = to-start (to-fill (to-name-row c))
 
-slice-aggregate-nest : tie.Need-slice-aggregate-nest Inv-loop μ-loop
-slice-aggregate-nest c = search needs
+slice-aggregate-fill-could-cover : tie.Need-slice-aggregate-fill-could-cover Inv-loop μ-loop
+slice-aggregate-fill-could-cover c = search needs
 
-nest-requires : tie.Need-nest-requires Inv-loop μ-loop
-nest-requires c κs =
+fill-could-cover-requires : tie.Need-fill-could-cover-requires Inv-loop μ-loop
+fill-could-cover-requires c κs =
     let s : tie.Start Inv-loop μ-loop = c .before in
     (variables-few s, actions-few s, omega arith)
 
@@ -90,7 +90,7 @@ sum-requires c κs = (omega arith, omega arith)
 
 loop-holds : tie.Need-loop-holds Inv-loop μ-loop
 loop-holds c =
-    let s = to-start (to-nest (c .before .before .before)) in
+    let s = to-start (to-fill (c .before .before .before)) in
     rounding-begins (task s) (valid s) (s .args .scope .level) _ (c .before .before .before .name-row .ensures) _ (c .sum .ensures .0)
 
 slice-aggregate-threatened : tie.Need-slice-aggregate-threatened Inv-loop μ-loop
@@ -166,7 +166,7 @@ returns c =
     let s = begun l in
     rounding-ends (task s) (valid s) (s .args .scope .level) _ _ _ _ _ _ _ (l .loop .rounds) (l .loop .count) (l .loop .inv) _ _ _ _ _ _
     (record {
-      table = to-nest (to-name-row l) .nest .ensures;
+      table = to-fill (to-name-row l) .fill-could-cover .ensures;
       threats-set = h .threatened .ensures;
       unlinked-at = u .unlinked .ensures .0;
       actions-set = k .gain-actions .ensures;
@@ -195,7 +195,7 @@ loop-again c =
     let s = begun l in
     rounding-next (task s) (valid s) (s .args .scope .level) _ _ _ _ _ _ _ (l .loop .rounds) (l .loop .count) (l .loop .inv) _ _ _ _ _ _
     (record {
-      table = to-nest (to-name-row l) .nest .ensures;
+      table = to-fill (to-name-row l) .fill-could-cover .ensures;
       threats-set = h .threatened .ensures;
       unlinked-at = u .unlinked .ensures .0;
       actions-set = k .gain-actions .ensures;
@@ -212,8 +212,8 @@ run-spec =
     (tie.spec
     Inv-loop
     μ-loop
-    slice-aggregate-nest
-    nest-requires
+    slice-aggregate-fill-could-cover
+    fill-could-cover-requires
     slice-aggregate-name-row
     name-row-requires
     slice-aggregate-sum

@@ -2,9 +2,10 @@
 use mathlib.Core.Path.{refl}
 use borrow.Author.Tests.{eq-eqb, ne-eqb}
 use borrow.Author.Needs.{needs}
-use Rattle.marking.specs.Dense.{nested}
-use Rattle.marking.proofs.covering.is_nested.Statement.{statement}
-use Rattle.marking.proofs.covering.is_nested.Tie as tie
+use Rattle.marking.specs.Covering.{couldCover}
+use Rattle.marking.proofs.CoverRows.{within-rows}
+use Rattle.marking.proofs.covering.pair_could_cover.Statement.{statement}
+use Rattle.marking.proofs.covering.pair_could_cover.Tie as tie
 
 mul-if1 : tie.Need-mul-if1
 mul-if1 c = search needs
@@ -19,7 +20,7 @@ element-copy-out-if1-2 : tie.Need-element-copy-out-if1-2
 element-copy-out-if1-2 c = search needs
 
 returns : tie.Need-returns
-unfolding nested
+unfolding couldCover
 returns c = rw (ne-eqb _ _ (c .if1 .taken)) refl
 
 mul-missing : tie.Need-mul-missing
@@ -32,9 +33,9 @@ missing-requires : tie.Need-missing-requires
 missing-requires c κs = search needs
 
 returns-2 : tie.Need-returns-2
-unfolding nested
+unfolding couldCover
 returns-2 c =
-    rw (eq-eqb _ _ (c .before .before .if1 .left), ← c .before .missing .ensures, ne-eqb _ 0 (c .if2 .taken)) refl
+    rw (eq-eqb _ _ (c .before .before .if1 .left), within-rows, ← c .before .missing .ensures, ne-eqb _ 0 (c .if2 .taken)) refl
 
 mul-missing-3 : tie.Need-mul-missing-3
 mul-missing-3 c = search needs
@@ -46,14 +47,14 @@ missing-requires-2 : tie.Need-missing-requires-2
 missing-requires-2 c κs = search needs
 
 returns-3 : tie.Need-returns-3
-unfolding nested
+unfolding couldCover
 returns-3 c =
     rw
-    (eq-eqb _ _ (c .before .before .before .if1 .left), ← c .before .before .missing .ensures, eq-eqb _ 0 (c .before .if2 .left), ← c .missing2 .ensures)
+    (eq-eqb _ _ (c .before .before .before .if1 .left), within-rows, ← c .before .before .missing .ensures, eq-eqb _ 0 (c .before .if2 .left), within-rows, ← c .missing2 .ensures)
     refl
 
-pub is-nested-spec : {M : Type 1} → statement M
-is-nested-spec =
+pub pair-could-cover-spec : {M : Type 1} → statement M
+pair-could-cover-spec =
     tie.close
     (tie.spec
     mul-if1
