@@ -25,34 +25,34 @@ use Rattle.marking.proofs.RowTests.{row-fact, row-mentions}
 use Rattle.marking.proofs.Truth.{same-truth, bit-marked, marked-bit, cond-bit}
 
 -- the facts that a row of an accepted task names, by their places
-module _ (d : Arrays) (ok : Valid (held d)) (level : ℕ) (row : List ℕ) (base : ℕ) (valid : (v : ℕ) → v < d .variables → eqb (getD row (base + v) 0) 255 ≡ false → getD row (base + v) 0 < sizeOf (held d) v) where
+module _ (d : Arrays) (ok : Valid (held d)) (whole : Bool) (row : List ℕ) (base : ℕ) (valid : (v : ℕ) → v < d .variables → eqb (getD row (base + v) 0) 255 ≡ false → getD row (base + v) 0 < sizeOf (held d) v) where
   abbrev entry : ℕ → ℕ
   entry v = getD row (base + v) 0
 
   abbrev places : ℕ → Bool
-  places i = rowNames level row base (d .sizes) (d .variables) i
+  places i = rowNames whole row base (d .sizes) (d .variables) i
 
   -- what a place that is named says
   record Named (v e : ℕ) : Type 0 where
     known : v < d .variables
     there : eqb (entry v) 255 ≡ false
-    value : cond (eqb level 1) (ltb e (getD (d .sizes) v 0)) (eqb e (entry v % 32)) ≡ true
+    value : cond whole (ltb e (getD (d .sizes) v 0)) (eqb e (entry v % 32)) ≡ true
 
   named-says : (v e : ℕ) → e < 32 → places (32 * v + e) ≡ true → Named v e
   unfolding rowNames namesAt
   named-says v e k q =
       let i : ℕ = 32 * v + e in
-      let found = anyBelow-elim (d .variables) (λ w. not (eqb (entry w) 255) && (eqb (i / 32) w && cond (eqb level 1) (ltb (i % 32) (getD (d .sizes) w 0)) (eqb (i % 32) (entry w % 32)))) q in
+      let found = anyBelow-elim (d .variables) (λ w. not (eqb (entry w) 255) && (eqb (i / 32) w && cond whole (ltb (i % 32) (getD (d .sizes) w 0)) (eqb (i % 32) (entry w % 32)))) q in
       let w : ℕ = found .0 in
-      let both = and-split (not (eqb (entry w) 255)) (eqb (i / 32) w && cond (eqb level 1) (ltb (i % 32) (getD (d .sizes) w 0)) (eqb (i % 32) (entry w % 32))) (found .2) in
-      let here = and-split (eqb (i / 32) w) (cond (eqb level 1) (ltb (i % 32) (getD (d .sizes) w 0)) (eqb (i % 32) (entry w % 32))) (both .1) in
+      let both = and-split (not (eqb (entry w) 255)) (eqb (i / 32) w && cond whole (ltb (i % 32) (getD (d .sizes) w 0)) (eqb (i % 32) (entry w % 32))) (found .2) in
+      let here = and-split (eqb (i / 32) w) (cond whole (ltb (i % 32) (getD (d .sizes) w 0)) (eqb (i % 32) (entry w % 32))) (both .1) in
       let quotient : i / 32 ≡ w = eqb-true (i / 32) w (here .0) in
       let is : w ≡ v = omega arith in
       let rest : i % 32 ≡ e = omega arith in
       record {
         known = omega (arith, found .1);
         there = split (eqb (entry v) 255) (λ r. clash (both .0) (ap (λ (n : ℕ). not (eqb (entry n) 255)) is ∙ ap not r)) (λ r. r);
-        value = ap₂ (λ (n x : ℕ). cond (eqb level 1) (ltb x (getD (d .sizes) n 0)) (eqb x (entry n % 32))) (sym is) (sym rest) ∙ here .1;
+        value = ap₂ (λ (n x : ℕ). cond whole (ltb x (getD (d .sizes) n 0)) (eqb x (entry n % 32))) (sym is) (sym rest) ∙ here .1;
       }
 
   named-place : (v e : ℕ) → e < 32 → Named v e → places (32 * v + e) ≡ true
@@ -61,10 +61,10 @@ module _ (d : Arrays) (ok : Valid (held d)) (level : ℕ) (row : List ℕ) (base
       let i : ℕ = 32 * v + e in
       let quotient : i / 32 ≡ v = omega arith in
       let rest : i % 32 ≡ e = omega arith in
-      anyBelow-intro (d .variables) (λ w. not (eqb (entry w) 255) && (eqb (i / 32) w && cond (eqb level 1) (ltb (i % 32) (getD (d .sizes) w 0)) (eqb (i % 32) (entry w % 32)))) v (n .known)
+      anyBelow-intro (d .variables) (λ w. not (eqb (entry w) 255) && (eqb (i / 32) w && cond whole (ltb (i % 32) (getD (d .sizes) w 0)) (eqb (i % 32) (entry w % 32)))) v (n .known)
       (and-join (ap not (n .there))
       (and-join (eq-eqb (i / 32) v quotient)
-      (ap (λ (x : ℕ). cond (eqb level 1) (ltb x (getD (d .sizes) v 0)) (eqb x (entry v % 32))) rest ∙ n .value)))
+      (ap (λ (x : ℕ). cond whole (ltb x (getD (d .sizes) v 0)) (eqb x (entry v % 32))) rest ∙ n .value)))
 
   -- only facts of the task are named
   pub named-inside : (v e : ℕ) → e < 32 → places (32 * v + e) ≡ true → (v < d .variables) × (e < sizeOf (held d) v)
@@ -72,7 +72,7 @@ module _ (d : Arrays) (ok : Valid (held d)) (level : ℕ) (row : List ℕ) (base
       let n = named-says v e k q in
       let small = valid v (n .known) (n .there) in (
         n .known,
-        split (eqb level 1)
+        split whole
             (λ r.
             omega (
               arith,
@@ -84,14 +84,13 @@ module _ (d : Arrays) (ok : Valid (held d)) (level : ℕ) (row : List ℕ) (base
             omega (arith, small, ok .size-most v)),
       )
 
-  pub names-held : (v e : ℕ) → v < d .variables → e < sizeOf (held d) v → places (32 * v + e) ≡ names level (rowPairs row base 0 (d .variables)) v e
-  unfolding names
+  pub names-held : (v e : ℕ) → v < d .variables → e < sizeOf (held d) v → places (32 * v + e) ≡ cond whole (mentions (rowPairs row base 0 (d .variables)) v) (hasFact (rowPairs row base 0 (d .variables)) v e)
   names-held v e h k =
       let small : e < 32 = omega (arith, ok .size-most v) in
       let pairs : List Pair = rowPairs row base 0 (d .variables) in
-      split (eqb level 1)
+      split whole
       (λ r.
-      same-truth (places (32 * v + e)) (cond (eqb level 1) (mentions pairs v) (hasFact pairs v e))
+      same-truth (places (32 * v + e)) (cond whole (mentions pairs v) (hasFact pairs v e))
       (λ q. ap (λ (b : Bool). cond b (mentions pairs v) (hasFact pairs v e)) r ∙ row-mentions row base (d .variables) v h ∙ ap not (named-says v e small q .there))
       (λ q.
       let seen : not (eqb (entry v) 255) ≡ true = sym (row-mentions row base (d .variables) v h) ∙ sym (ap (λ (b : Bool). cond b (mentions pairs v) (hasFact pairs v e)) r) ∙ q in
@@ -102,7 +101,7 @@ module _ (d : Arrays) (ok : Valid (held d)) (level : ℕ) (row : List ℕ) (base
         value = ap (λ (b : Bool). cond b (ltb e (getD (d .sizes) v 0)) (eqb e (entry v % 32))) r ∙ lt-ltb e (getD (d .sizes) v 0) (omega (arith, size-held d v h));
       })))
       (λ r.
-      same-truth (places (32 * v + e)) (cond (eqb level 1) (mentions pairs v) (hasFact pairs v e))
+      same-truth (places (32 * v + e)) (cond whole (mentions pairs v) (hasFact pairs v e))
       (λ q.
       let n = named-says v e small q in
       let is : e ≡ entry v % 32 = eqb-true e (entry v % 32) (sym (ap (λ (b : Bool). cond b (ltb e (getD (d .sizes) v 0)) (eqb e (entry v % 32))) r) ∙ n .value) in
@@ -121,7 +120,7 @@ module _ (d : Arrays) (ok : Valid (held d)) (level : ℕ) (row : List ℕ) (base
 
 module _ (d : Arrays) (ok : Valid (held d)) (level : ℕ) (actions facts before threats noted named : List ℕ) (p : Progress d level actions facts before threats noted named)
     (counted : List Bool) (counts : List ℕ) (count : (a : ℕ) → a < d .actions → getD counts a 0 ≡ bit (isMarked named a || marked counted a))
-    (facts′ : List ℕ) (s : SetWhere (namesAnew level (d .conditions) (d .sizes) (d .variables) counts named (d .actions)) facts facts′) where
+    (facts′ : List ℕ) (s : SetWhere (namesAnew (eqb level 1) (d .conditions) (d .sizes) (d .variables) counts named (d .actions)) facts facts′) where
   abbrev marks : Marks
   marks = heldMarks (held d) actions facts
 
@@ -131,15 +130,16 @@ module _ (d : Arrays) (ok : Valid (held d)) (level : ℕ) (actions facts before 
   pub count-bit : (a : ℕ) → a < d .actions → getD counts a 0 ≤ 1
   count-bit a l = omega (arith, count a l, bit-most (isMarked named a || marked counted a))
 
-  row-names : (a v e : ℕ) → a < d .actions → v < d .variables → e < sizeOf (held d) v → rowNames level (d .conditions) (64 * a) (d .sizes) (d .variables) (32 * v + e) ≡ names level (actionOf (held d) a .conditions) v e
+  row-names : (a v e : ℕ) → a < d .actions → v < d .variables → e < sizeOf (held d) v → rowNames (eqb level 1) (d .conditions) (64 * a) (d .sizes) (d .variables) (32 * v + e) ≡ names level (actionOf (held d) a .conditions) v e
+  unfolding names
   row-names a v e l h k =
-      names-held d ok level (d .conditions) (64 * a) (λ w i. condition-valid d ok a w l i) v e h k
+      names-held d ok (eqb level 1) (d .conditions) (64 * a) (λ w i. condition-valid d ok a w l i) v e h k
       ∙ ap (λ (ps : List Pair). names level ps v e) (sym (conditions-held d a l))
 
   anew : ℕ → ℕ → Bool
-  anew i a = differ counts named a && rowNames level (d .conditions) (64 * a) (d .sizes) (d .variables) i
+  anew i a = differ counts named a && rowNames (eqb level 1) (d .conditions) (64 * a) (d .sizes) (d .variables) i
 
-  anew-says : (i : ℕ) → namesAnew level (d .conditions) (d .sizes) (d .variables) counts named (d .actions) i ≡ anyBelow (d .actions) (anew i)
+  anew-says : (i : ℕ) → namesAnew (eqb level 1) (d .conditions) (d .sizes) (d .variables) counts named (d .actions) i ≡ anyBelow (d .actions) (anew i)
   unfolding namesAnew anew
   anew-says i = refl
 
@@ -159,7 +159,7 @@ module _ (d : Arrays) (ok : Valid (held d)) (level : ℕ) (actions facts before 
       (λ new.
       let found = anyBelow-elim (d .actions) (anew (32 * v + e)) new in
       let a : ℕ = found .0 in
-      let both = and-split (differ counts named a) (rowNames level (d .conditions) (64 * a) (d .sizes) (d .variables) (32 * v + e)) (found .2) in
+      let both = and-split (differ counts named a) (rowNames (eqb level 1) (d .conditions) (64 * a) (d .sizes) (d .variables) (32 * v + e)) (found .2) in
       let is-new : isMarked counts a ≡ true =
       differ-new (getD counts a 0) (getD named a 0) (count-bit a (found .1)) (p .named-bit a (found .1)) (λ r. count-marked a (found .1) ∙ or-left (marked counted a) r) (both .0) in
       let named-it : names level (actionOf (held d) a .conditions) v e ≡ true = sym (row-names a v e (found .1) h k) ∙ both .1 in
@@ -189,8 +189,8 @@ module _ (d : Arrays) (ok : Valid (held d)) (level : ℕ) (actions facts before 
   entry-now : (i : ℕ) → i < 2048 → getD facts′ i 0 ≡ bit (anyBelow (d .actions) (anew i) || isMarked facts i)
   entry-now i k =
       s .entry i (omega (arith, p .facts-long))
-      ∙ ap (λ (n : ℕ). cond (namesAnew level (d .conditions) (d .sizes) (d .variables) counts named (d .actions) i) 1 n) (marked-bit (getD facts i 0) (p .fact-bit i k))
-      ∙ cond-bit (namesAnew level (d .conditions) (d .sizes) (d .variables) counts named (d .actions) i) (isMarked facts i)
+      ∙ ap (λ (n : ℕ). cond (namesAnew (eqb level 1) (d .conditions) (d .sizes) (d .variables) counts named (d .actions) i) 1 n) (marked-bit (getD facts i 0) (p .fact-bit i k))
+      ∙ cond-bit (namesAnew (eqb level 1) (d .conditions) (d .sizes) (d .variables) counts named (d .actions) i) (isMarked facts i)
       ∙ ap (λ (b : Bool). bit (b || isMarked facts i)) (anew-says i)
 
   pub facts-bit : (i : ℕ) → i < 2048 → getD facts′ i 0 ≤ 1
@@ -210,7 +210,7 @@ module _ (d : Arrays) (ok : Valid (held d)) (level : ℕ) (actions facts before 
       ⊎-elim
       (λ new.
       let found = anyBelow-elim (d .actions) (anew (32 * v + e)) new in
-      let both = and-split (differ counts named (found .0)) (rowNames level (d .conditions) (64 * found .0) (d .sizes) (d .variables) (32 * v + e)) (found .2) in
-      named-inside d ok level (d .conditions) (64 * found .0) (λ w i. condition-valid d ok (found .0) w (found .1) i) v e k (both .1))
+      let both = and-split (differ counts named (found .0)) (rowNames (eqb level 1) (d .conditions) (64 * found .0) (d .sizes) (d .variables) (32 * v + e)) (found .2) in
+      named-inside d ok (eqb level 1) (d .conditions) (64 * found .0) (λ w i. condition-valid d ok (found .0) w (found .1) i) v e k (both .1))
       (λ old. p .fact-known v e h k old)
       (or-split (anyBelow (d .actions) (anew (32 * v + e))) (isMarked facts (32 * v + e)) some-way)

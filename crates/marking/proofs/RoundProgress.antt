@@ -64,7 +64,7 @@ pub record Round (d : Arrays) (level : ℕ) (pairs actions facts before threats 
   pub actions-set : SetWhere (achieves (d .effects) (d .actions) before u (32 * d .variables)) actions actions′
   pub tracked-at : (v : ℕ) → v < d .variables → getD tracks v 0 ≡ bit (trackedAt u v)
   pub counted-at : (a : ℕ) → a < d .actions → getD counted a 0 ≡ bit (countedAt level actions′ named (coveredAt actions′ pairs (d .effects) tracks (d .variables) (d .actions) a) a)
-  pub facts-set : SetWhere (namesAnew level (d .conditions) (d .sizes) (d .variables) counted named (d .actions)) facts facts′
+  pub facts-set : SetWhere (namesAnew (eqb level 1) (d .conditions) (d .sizes) (d .variables) counted named (d .actions)) facts facts′
 
 module _ (d : Arrays) (ok : Valid (held d)) (level : ℕ) (pairs actions facts before threats noted named : List ℕ) (p : Progress d level actions facts before threats noted named)
     (threats′ u actions′ tracks counted facts′ : List ℕ) (r : Round d level pairs actions facts before threats noted named threats′ u actions′ tracks counted facts′) where

@@ -74,24 +74,25 @@ facts-few t ok = omega (arith, sum-order (variableCount t) (sizeOf t) (λ v. 32)
 
 module _ (d : Arrays) (ok : Valid (held d)) (level : ℕ) where
   -- before the first round
-  module _ (facts : List ℕ) (s : SetWhere (rowNames level (d .goal) 0 (d .sizes) (d .variables)) (replicate 2048 0) facts) where
+  module _ (facts : List ℕ) (s : SetWhere (rowNames (eqb level 1) (d .goal) 0 (d .sizes) (d .variables)) (replicate 2048 0) facts) where
     zeros : (n i : ℕ) → isMarked (replicate n 0) i ≡ false
     zeros n i = ap (λ (k : ℕ). eqb k 1) (zeros-entry n i)
 
-    first-entry : (i : ℕ) → i < 2048 → getD facts i 0 ≡ bit (rowNames level (d .goal) 0 (d .sizes) (d .variables) i)
-    first-entry i h = s .entry i (omega (arith, length-replicate {A = ℕ} 2048 0)) ∙ ap (λ (n : ℕ). cond (rowNames level (d .goal) 0 (d .sizes) (d .variables) i) 1 n) (zeros-entry 2048 i) ∙ as-bit (rowNames level (d .goal) 0 (d .sizes) (d .variables) i)
+    first-entry : (i : ℕ) → i < 2048 → getD facts i 0 ≡ bit (rowNames (eqb level 1) (d .goal) 0 (d .sizes) (d .variables) i)
+    first-entry i h = s .entry i (omega (arith, length-replicate {A = ℕ} 2048 0)) ∙ ap (λ (n : ℕ). cond (rowNames (eqb level 1) (d .goal) 0 (d .sizes) (d .variables) i) 1 n) (zeros-entry 2048 i) ∙ as-bit (rowNames (eqb level 1) (d .goal) 0 (d .sizes) (d .variables) i)
       where
         as-bit : (b : Bool) → cond b 1 0 ≡ bit b
         as-bit true = refl
         as-bit false = refl
 
-    first-marked : (i : ℕ) → i < 2048 → isMarked facts i ≡ rowNames level (d .goal) 0 (d .sizes) (d .variables) i
-    first-marked i h = ap (λ (n : ℕ). eqb n 1) (first-entry i h) ∙ bit-marked (rowNames level (d .goal) 0 (d .sizes) (d .variables) i)
+    first-marked : (i : ℕ) → i < 2048 → isMarked facts i ≡ rowNames (eqb level 1) (d .goal) 0 (d .sizes) (d .variables) i
+    first-marked i h = ap (λ (n : ℕ). eqb n 1) (first-entry i h) ∙ bit-marked (rowNames (eqb level 1) (d .goal) 0 (d .sizes) (d .variables) i)
 
     first-named : (v e : ℕ) → v < d .variables → e < sizeOf (held d) v → isMarked facts (32 * v + e) ≡ names level (held d .goal) v e
+    unfolding names
     first-named v e h k =
         first-marked (32 * v + e) (omega (arith, ok .variables-few, variables-held d, ok .size-most v))
-        ∙ names-held d ok level (d .goal) 0 (goal-valid d ok) v e h k
+        ∙ names-held d ok (eqb level 1) (d .goal) 0 (goal-valid d ok) v e h k
         ∙ ap (λ ps. names level ps v e) (sym (goal-held d))
 
     first-held : heldMarks (held d) (replicate 512 0) facts ≡ firstMarks (held d) level
@@ -120,8 +121,8 @@ module _ (d : Arrays) (ok : Valid (held d)) (level : ℕ) where
           facts-long = s .same ∙ length-replicate {A = ℕ} 2048 0;
           threats-long = length-replicate {A = ℕ} 64 0;
           action-bit = λ a l. omega (arith, zeros-entry 512 a);
-          fact-bit = λ i l. omega (arith, first-entry i l, bit-most (rowNames level (d .goal) 0 (d .sizes) (d .variables) i));
-          fact-known = λ v e h k q. named-inside d ok level (d .goal) 0 (goal-valid d ok) v e k (sym (first-marked (32 * v + e) (omega arith)) ∙ q);
+          fact-bit = λ i l. omega (arith, first-entry i l, bit-most (rowNames (eqb level 1) (d .goal) 0 (d .sizes) (d .variables) i));
+          fact-known = λ v e h k q. named-inside d ok (eqb level 1) (d .goal) 0 (goal-valid d ok) v e k (sym (first-marked (32 * v + e) (omega arith)) ∙ q);
           noted-bit = λ a l. omega (arith, zeros-entry 512 a);
           noted-kept = λ a l q. q;
           threat = none-threatened;

@@ -81,17 +81,17 @@ coveredAt kept pairs effects tracked variables actions a = anyBelow actions (λ 
 unfoldable pub countedAt : ℕ → List ℕ → List ℕ → Bool → ℕ → Bool
 countedAt level kept named isCovered a = isMarked named a || (isMarked kept a && not (eqb level 4 && isCovered))
 
--- the facts that an entry of a row names, by their places
-unfoldable pub namesAt : ℕ → ℕ → ℕ → ℕ → ℕ → Bool
-namesAt level v entry size i = not (eqb entry 255) && (eqb (i / 32) v && cond (eqb level 1) (ltb (i % 32) size) (eqb (i % 32) (entry % 32)))
+-- the facts that an entry of a row names, by their places: all of its variable's where that counts whole, else its own
+unfoldable pub namesAt : Bool → ℕ → ℕ → ℕ → ℕ → Bool
+namesAt whole v entry size i = not (eqb entry 255) && (eqb (i / 32) v && cond whole (ltb (i % 32) size) (eqb (i % 32) (entry % 32)))
 
 -- the facts that the first `count` entries of the row at `base` name
-unfoldable pub rowNames : ℕ → List ℕ → ℕ → List ℕ → ℕ → ℕ → Bool
-rowNames level row base sizes count i = anyBelow count (λ v. namesAt level v (getD row (base + v) 0) (getD sizes v 0) i)
+unfoldable pub rowNames : Bool → List ℕ → ℕ → List ℕ → ℕ → ℕ → Bool
+rowNames whole row base sizes count i = anyBelow count (λ v. namesAt whole v (getD row (base + v) 0) (getD sizes v 0) i)
 
 -- the facts that actions name which are counted and were not before, of the first `count`
-unfoldable pub namesAnew : ℕ → List ℕ → List ℕ → ℕ → List ℕ → List ℕ → ℕ → ℕ → Bool
-namesAnew level conditions sizes variables counted named count i = anyBelow count (λ a. differ counted named a && rowNames level conditions (64 * a) sizes variables i)
+unfoldable pub namesAnew : Bool → List ℕ → List ℕ → ℕ → List ℕ → List ℕ → ℕ → ℕ → Bool
+namesAnew whole conditions sizes variables counted named count i = anyBelow count (λ a. differ counted named a && rowNames whole conditions (64 * a) sizes variables i)
 
 -- the sum of the first `count` entries
 unfoldable pub sumOf : List ℕ → ℕ → ℕ

@@ -69,15 +69,15 @@ fn name_values(facts: &mut [u8], v: usize, size: usize)
     }
 }
 
-// Marks the facts that an entry of a row names: at level 1 its variable counts whole.
-fn name_entry(facts: &mut [u8], level: u32, v: usize, entry: u8, size: u8)
+// Marks the facts that an entry of a row names: all of its variable's where that counts `whole`.
+fn name_entry(facts: &mut [u8], whole: bool, v: usize, entry: u8, size: u8)
     requires { ⌜ (v < 64) × (2048 ≤ length (now facts)) ⌝ }
-    ensures { λ r. ⌜ SetWhere (namesAt level v entry size) (now (facts .entry)) (now (facts .exit)) ⌝ }
+    ensures { λ r. ⌜ SetWhere (namesAt whole v entry size) (now (facts .entry)) (now (facts .exit)) ⌝ }
 {
     if entry == 255 {
         return;
     }
-    if level == 1 {
+    if whole {
         name_values(facts, v, size as usize);
         return;
     }
@@ -85,14 +85,20 @@ fn name_entry(facts: &mut [u8], level: u32, v: usize, entry: u8, size: u8)
 }
 
 // Marks the facts that the row at `base` names.
-pub fn name_row(facts: &mut [u8], scope: Scope, row: &[u8], base: usize, sizes: &[u8; 64])
+pub fn name_row(
+    facts: &mut [u8],
+    scope: Scope,
+    whole: bool,
+    row: &[u8],
+    base: usize,
+    sizes: &[u8; 64],
+)
     requires { ⌜ (scope .variables ≤ 64) × (base + 64 ≤ length (now row)) × (2048 ≤ length (now facts)) ⌝ }
-    ensures { λ r. ⌜ SetWhere (rowNames (scope .level) (now (row .entry)) base (now (sizes .entry)) (scope .variables)) (now (facts .entry)) (now (facts .exit)) ⌝ }
+    ensures { λ r. ⌜ SetWhere (rowNames whole (now (row .entry)) base (now (sizes .entry)) (scope .variables)) (now (facts .entry)) (now (facts .exit)) ⌝ }
 {
-    let level = scope.level;
     let mut v: usize = 0;
     while v < scope.variables {
-        name_entry(facts, level, v, row[base + v], sizes[v]);
+        name_entry(facts, whole, v, row[base + v], sizes[v]);
         v += 1;
     }
 }
@@ -101,6 +107,7 @@ pub fn name_row(facts: &mut [u8], scope: Scope, row: &[u8], base: usize, sizes: 
 fn name_anew(
     facts: &mut [u8],
     scope: Scope,
+    whole: bool,
     conditions: &[u8; 32768],
     action: usize,
     sizes: &[u8; 64],
@@ -108,10 +115,10 @@ fn name_anew(
     named: u8,
 )
     requires { ⌜ (scope .variables ≤ 64) × (action < 512) × (2048 ≤ length (now facts)) ⌝ }
-    ensures { λ r. ⌜ SetWhere (λ i. not (eqb counted named) && rowNames (scope .level) (now (conditions .entry)) (64 * action) (now (sizes .entry)) (scope .variables) i) (now (facts .entry)) (now (facts .exit)) ⌝ }
+    ensures { λ r. ⌜ SetWhere (λ i. not (eqb counted named) && rowNames whole (now (conditions .entry)) (64 * action) (now (sizes .entry)) (scope .variables) i) (now (facts .entry)) (now (facts .exit)) ⌝ }
 {
     if counted != named {
-        name_row(facts, scope, conditions, 64 * action, sizes);
+        name_row(facts, scope, whole, conditions, 64 * action, sizes);
     }
 }
 
@@ -120,17 +127,18 @@ fn name_anew(
 pub fn gain_facts(
     facts: &mut [u8],
     scope: Scope,
+    whole: bool,
     conditions: &[u8; 32768],
     sizes: &[u8; 64],
     counted: &[u8; 512],
     named: &[u8; 512],
 )
     requires { ⌜ (scope .variables ≤ 64) × (scope .actions ≤ 512) × (2048 ≤ length (now facts)) ⌝ }
-    ensures { λ r. ⌜ SetWhere (namesAnew (scope .level) (now (conditions .entry)) (now (sizes .entry)) (scope .variables) (now (counted .entry)) (now (named .entry)) (scope .actions)) (now (facts .entry)) (now (facts .exit)) ⌝ }
+    ensures { λ r. ⌜ SetWhere (namesAnew whole (now (conditions .entry)) (now (sizes .entry)) (scope .variables) (now (counted .entry)) (now (named .entry)) (scope .actions)) (now (facts .entry)) (now (facts .exit)) ⌝ }
 {
     let mut a: usize = 0;
     while a < scope.actions {
-        name_anew(facts, scope, conditions, a, sizes, counted[a], named[a]);
+        name_anew(facts, scope, whole, conditions, a, sizes, counted[a], named[a]);
         a += 1;
     }
 }

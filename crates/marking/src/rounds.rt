@@ -48,7 +48,7 @@ fn run(
     let mut could_cover = [0u8; 262144];
     covering::fill_could_cover(&mut could_cover, scope, costs, conditions);
     let mut facts = [0u8; 2048];
-    gains::name_row(&mut facts, scope, goal, 0, sizes);
+    gains::name_row(&mut facts, scope, scope.level == 1, goal, 0, sizes);
     let mut kept = [0u8; 512];
     let mut noted = [0u8; 512];
     let mut named = [0u8; 512];
@@ -73,7 +73,7 @@ fn run(
             &tracked,
             &mut by,
         );
-        gains::gain_facts(&mut facts, scope, conditions, sizes, &counted, &named);
+        gains::gain_facts(&mut facts, scope, scope.level == 1, conditions, sizes, &counted, &named);
         named = counted;
         rounds += 1;
         let marks = results::sum(&kept, actions) + results::sum(&facts, 2048);

@@ -27,7 +27,7 @@ returns c =
 returns-2 : tie.Need-returns-2
 returns-2 c =
     let a = c .before .before .args in
-    set-skipped _ (rowNames (a .scope .level) (now (a .conditions)) (64 * a .action) (now (a .sizes)) (a .scope .variables)) _ (ap not (eq-eqb _ _ (c .if1 .left)))
+    set-skipped _ (rowNames (a .whole) (now (a .conditions)) (64 * a .action) (now (a .sizes)) (a .scope .variables)) _ (ap not (eq-eqb _ _ (c .if1 .left)))
 
 pub name-anew-spec : {M : Type 1} → statement M
 name-anew-spec = tie.close (tie.spec mul-name-row name-row-requires same-length returns returns-2)

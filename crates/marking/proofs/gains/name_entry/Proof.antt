@@ -1,4 +1,4 @@
--- An entry that is not there names nothing; at level 1 it names its variable's values, else the place of its own.
+-- An entry that is not there names nothing; where its variable counts whole it names its values, else the place of its own.
 use Prim.Native.Nat.{_+_, _*_, _%_}
 use mathlib.Core.Path.{refl}
 use mathlib.Core.Bool.{true}
@@ -25,7 +25,7 @@ returns-2 : tie.Need-returns-2
 unfolding namesAt
 returns-2 c =
     let r = c .before .before .name-values in
-    set-alike _ _ _ _ (λ i. rw (ne-eqb _ 255 (c .before .before .before .before .before .if1 .left), eq-eqb _ 1 (c .before .before .before .before .if2 .taken)) refl) (r .ensures)
+    set-alike _ _ _ _ (λ i. rw (ne-eqb _ 255 (c .before .before .before .before .before .if1 .left), c .before .before .before .before .if2 .taken) refl) (r .ensures)
 
 mul-facts : tie.Need-mul-facts
 mul-facts c = search needs
@@ -46,7 +46,7 @@ returns-3 : tie.Need-returns-3
 unfolding namesAt
 returns-3 c =
     let a = c .before .before .before .args in
-    set-alike _ _ _ _ (λ i. rw (ne-eqb _ 255 (c .before .if1 .left), ne-eqb _ 1 (c .if2 .left)) (place-is (a .v) (a .entry % 32) i (omega arith)))
+    set-alike _ _ _ _ (λ i. rw (ne-eqb _ 255 (c .before .if1 .left), c .if2 .left) (place-is (a .v) (a .entry % 32) i (omega arith)))
     (set-place true _ (32 * a .v + a .entry % 32) 1 (omega arith) refl)
 
 pub name-entry-spec : {M : Type 1} → statement M

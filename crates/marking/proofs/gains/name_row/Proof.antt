@@ -10,13 +10,13 @@ use Rattle.marking.proofs.gains.name_row.Statement.{statement}
 use Rattle.marking.proofs.gains.name_row.Tie as tie
 
 abbrev Inv-loop : tie.InvT-loop
-Inv-loop facts₀ scope row base sizes level v₀ facts v =
-    SetWhere (rowNames level row base sizes v) facts₀ facts
+Inv-loop facts₀ scope whole row base sizes v₀ facts v =
+    SetWhere (rowNames whole row base sizes v) facts₀ facts
     × (v ≤ scope .variables)
     × (2048 ≤ length facts₀)
 
 abbrev μ-loop : tie.MeasureT-loop
-μ-loop facts₀ scope row base sizes level v₀ facts v = scope .variables - v
+μ-loop facts₀ scope whole row base sizes v₀ facts v = scope .variables - v
 
 loop-holds : tie.Need-loop-holds Inv-loop μ-loop
 unfolding rowNames
@@ -45,7 +45,7 @@ unfolding rowNames
 loop-again c =
     let l = c .before .before .before .before .before .before .before .before .loop in
     let a = c .before .before .before .before .before .before .before .before .before .before .before .args in (
-      turns-next (λ k j. namesAt (a .scope .level) k (getD (now (a .row)) (a .base + k) 0) (getD (now (a .sizes)) k 0) j) _ _ _ (l .v) (l .inv .0) (c .before .before .name-entry .ensures),
+      turns-next (λ k j. namesAt (a .whole) k (getD (now (a .row)) (a .base + k) 0) (getD (now (a .sizes)) k 0) j) _ _ _ (l .v) (l .inv .0) (c .before .before .name-entry .ensures),
       omega arith,
       l .inv .2,
     )
@@ -57,7 +57,7 @@ returns : tie.Need-returns Inv-loop μ-loop
 returns c =
     let l = c .before .before .loop in
     let a = c .before .before .before .before .before .args in
-    at-end (λ n. SetWhere (rowNames (a .scope .level) (now (a .row)) (a .base) (now (a .sizes)) n) (now (a .facts)) (l .facts)) (l .v) (a .scope .variables) (l .inv .1) (c .if1 .left) (l .inv .0)
+    at-end (λ n. SetWhere (rowNames (a .whole) (now (a .row)) (a .base) (now (a .sizes)) n) (now (a .facts)) (l .facts)) (l .v) (a .scope .variables) (l .inv .1) (c .if1 .left) (l .inv .0)
 
 pub name-row-spec : {M : Type 1} → statement M
 name-row-spec =

@@ -24,7 +24,7 @@ abbrev to-gain-facts : tie.After-sum3 Inv-loop μ-loop → tie.After-gain-facts 
 to-gain-facts c = c .before .before .before .before .before
 
 abbrev to-counted : tie.After-gain-facts Inv-loop μ-loop → tie.After-counted Inv-loop μ-loop
-to-counted c = c .before .before .before .before
+to-counted c = c .before .before .before .before .before
 
 abbrev to-tracked : tie.After-counted Inv-loop μ-loop → tie.After-tracked Inv-loop μ-loop
 to-tracked c = c .before .before .before .before .before .before
@@ -45,7 +45,7 @@ abbrev to-name-row : tie.At-loop Inv-loop μ-loop → tie.After-name-row Inv-loo
 to-name-row c = c .before .before .before .before
 
 abbrev to-fill : tie.After-name-row Inv-loop μ-loop → tie.After-fill-could-cover Inv-loop μ-loop
-to-fill c = c .before .before .before .before
+to-fill c = c .before .before .before .before .before
 
 abbrev to-start : tie.After-fill-could-cover Inv-loop μ-loop → tie.Start Inv-loop μ-loop
 to-start c = c .before .before
@@ -79,7 +79,7 @@ slice-aggregate-name-row c = search needs
 
 name-row-requires : tie.Need-name-row-requires Inv-loop μ-loop
 name-row-requires c κs =
-    let s : tie.Start Inv-loop μ-loop = to-start (c .before .before .before) in
+    let s : tie.Start Inv-loop μ-loop = to-start (c .before .before .before .before) in
     (variables-few s, omega arith, omega arith)
 
 slice-aggregate-sum : tie.Need-slice-aggregate-sum Inv-loop μ-loop
@@ -125,7 +125,7 @@ slice-aggregate-gain-facts c = search (needs, to-loop (to-threatened (to-unlinke
 
 gain-facts-requires : tie.Need-gain-facts-requires Inv-loop μ-loop
 gain-facts-requires c κs =
-    let l = to-loop (to-threatened (to-unlinked (to-gain-actions (to-tracked (c .before .before .before))))) in
+    let l = to-loop (to-threatened (to-unlinked (to-gain-actions (to-tracked (c .before .before .before .before))))) in
     let s = begun l in
     (variables-few s, actions-few s, omega (arith, l .loop .inv .progress .facts-long))
 
@@ -140,8 +140,10 @@ slice-aggregate-sum-2 c = search needs
 
 sum-requires-2 : tie.Need-sum-requires-2 Inv-loop μ-loop
 sum-requires-2 c κs =
-    let s = begun (to-loop (to-threatened (to-unlinked (to-gain-actions (to-tracked (to-counted (c .before .before))))))) in
-    (omega (arith, actions-few s), omega (arith, actions-few s))
+    let k = to-gain-actions (to-tracked (to-counted (c .before .before))) in
+    let l = to-loop (to-threatened (to-unlinked k)) in
+    let s = begun l in
+    (omega (arith, actions-few s, k .gain-actions .ensures .same, l .loop .inv .progress .actions-long), omega (arith, actions-few s))
 
 slice-aggregate-sum-3 : tie.Need-slice-aggregate-sum-3 Inv-loop μ-loop
 slice-aggregate-sum-3 c = search needs
