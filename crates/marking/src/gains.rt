@@ -138,7 +138,16 @@ pub fn gain_facts(
 {
     let mut a: usize = 0;
     while a < scope.actions {
-        name_anew(facts, scope, whole, conditions, a, sizes, counted[a], named[a]);
+        name_anew(
+            facts,
+            scope,
+            whole,
+            conditions,
+            a,
+            sizes,
+            counted[a],
+            named[a],
+        );
         a += 1;
     }
 }

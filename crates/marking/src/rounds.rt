@@ -73,7 +73,15 @@ fn run(
             &tracked,
             &mut by,
         );
-        gains::gain_facts(&mut facts, scope, scope.level == 1, conditions, sizes, &counted, &named);
+        gains::gain_facts(
+            &mut facts,
+            scope,
+            scope.level == 1,
+            conditions,
+            sizes,
+            &counted,
+            &named,
+        );
         named = counted;
         rounds += 1;
         let marks = results::sum(&kept, actions) + results::sum(&facts, 2048);

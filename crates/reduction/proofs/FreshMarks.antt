@@ -1,6 +1,6 @@
 -- Marks set in an array of zeros: each entry tells whether its place passes.
 use Prim.Native.Nat.{ℕ, _<_}
-use mathlib.Core.Path.{_≡_, refl, ap, subst, _∙_}
+use mathlib.Core.Path.{_≡_, refl, ap, _∙_}
 use mathlib.Core.Bool.{Bool, true, false, cond, _||_}
 use mathlib.Core.List.{List}
 use native.Mathlib.Omega.{arith}
@@ -18,9 +18,6 @@ fresh-marks n f new s i h =
     as-bit true = refl
     as-bit false = refl
 
--- the same, where marks are set twice, at places that depend on a number
-pub fresh-marks-twice : (n level m : ℕ) (f g : ℕ → ℕ → Bool) (new next : List ℕ) → level ≡ m → SetWhere (f level) (replicate n 0) new → SetWhere (g level) new next
-    → (i : ℕ) → i < n → getD next i 0 ≡ bit (g m i || f m i)
-fresh-marks-twice n level m f g new next e s r =
-    fresh-marks n (λ i. g m i || f m i) next
-    (set-both (f m) (g m) (replicate n 0) new next (subst (λ (k : ℕ). SetWhere (f k) (replicate n 0) new) e s) (subst (λ (k : ℕ). SetWhere (g k) new next) e r))
+-- the same, where marks are set twice
+pub fresh-marks-twice : (n : ℕ) (f g : ℕ → Bool) (new next : List ℕ) → SetWhere f (replicate n 0) new → SetWhere g new next → (i : ℕ) → i < n → getD next i 0 ≡ bit (g i || f i)
+fresh-marks-twice n f g new next s r = fresh-marks n (λ i. g i || f i) next (set-both f g (replicate n 0) new next s r)

@@ -90,22 +90,17 @@ module _ (d : Arrays) (ok : Valid (held d)) (kept : List ℕ) (A : ℕ → Bool)
   unfolding named asked
   named-says v e = ap (λ (n : ℕ). hasFact (held d .goal) v e || anyBelow n (λ a. A a && hasFact (actionOf (held d) a .conditions) v e)) (actions-held d)
 
-  level-two : (pairs : List Pair) (v e : ℕ) → names 2 pairs v e ≡ hasFact pairs v e
-  unfolding names
-  level-two pairs v e = refl
+  goal-place : (v e : ℕ) → v < d .variables → e < sizeOf (held d) v → rowNames false (d .goal) 0 (d .sizes) (d .variables) (32 * v + e) ≡ hasFact (held d .goal) v e
+  goal-place v e h k = names-held d ok false (d .goal) 0 (goal-valid d ok) v e h k ∙ ap (λ (ps : List Pair). hasFact ps v e) (sym (goal-held d))
 
-  goal-place : (v e : ℕ) → v < d .variables → e < sizeOf (held d) v → rowNames 2 (d .goal) 0 (d .sizes) (d .variables) (32 * v + e) ≡ hasFact (held d .goal) v e
-  goal-place v e h k = names-held d ok 2 (d .goal) 0 (goal-valid d ok) v e h k ∙ ap (λ (ps : List Pair). names 2 ps v e) (sym (goal-held d)) ∙ level-two (held d .goal) v e
-
-  action-place : (v e : ℕ) → v < d .variables → e < sizeOf (held d) v → namesAnew 2 (d .conditions) (d .sizes) (d .variables) kept unmarked (d .actions) (32 * v + e) ≡ asked v e
+  action-place : (v e : ℕ) → v < d .variables → e < sizeOf (held d) v → namesAnew false (d .conditions) (d .sizes) (d .variables) kept unmarked (d .actions) (32 * v + e) ≡ asked v e
   unfolding namesAnew asked
   action-place v e h k =
-      any-same (d .actions) (λ a. differ kept unmarked a && rowNames 2 (d .conditions) (64 * a) (d .sizes) (d .variables) (32 * v + e)) (λ a. A a && hasFact (actionOf (held d) a .conditions) v e)
+      any-same (d .actions) (λ a. differ kept unmarked a && rowNames false (d .conditions) (64 * a) (d .sizes) (d .variables) (32 * v + e)) (λ a. A a && hasFact (actionOf (held d) a .conditions) v e)
       (λ a l.
       ap₂ (λ (x y : Bool). x && y) (kept-new a l)
-      (names-held d ok 2 (d .conditions) (64 * a) (λ w i. condition-valid d ok a w l i) v e h k
-      ∙ ap (λ (ps : List Pair). names 2 ps v e) (sym (conditions-held d a l))
-      ∙ level-two (actionOf (held d) a .conditions) v e))
+      (names-held d ok false (d .conditions) (64 * a) (λ w i. condition-valid d ok a w l i) v e h k
+      ∙ ap (λ (ps : List Pair). hasFact ps v e) (sym (conditions-held d a l))))
 
   -- a place that is named is a fact of the task
   place-inside : (v e : ℕ) → e < 32 → namedAt (d .goal) (d .conditions) (d .sizes) kept (d .variables) (d .actions) (32 * v + e) ≡ true → (v < d .variables) × (e < sizeOf (held d) v)
@@ -113,11 +108,11 @@ module _ (d : Arrays) (ok : Valid (held d)) (kept : List ℕ) (A : ℕ → Bool)
   place-inside v e k q =
       ⊎-elim
       (λ x.
-      let found = anyBelow-elim (d .actions) (λ a. differ kept unmarked a && rowNames 2 (d .conditions) (64 * a) (d .sizes) (d .variables) (32 * v + e)) x in
-      named-inside d ok 2 (d .conditions) (64 * found .0) (λ w i. condition-valid d ok (found .0) w (found .1) i) v e k
-      (and-split (differ kept unmarked (found .0)) (rowNames 2 (d .conditions) (64 * found .0) (d .sizes) (d .variables) (32 * v + e)) (found .2) .1))
-      (λ x. named-inside d ok 2 (d .goal) 0 (goal-valid d ok) v e k x)
-      (or-split (anyBelow (d .actions) (λ a. differ kept unmarked a && rowNames 2 (d .conditions) (64 * a) (d .sizes) (d .variables) (32 * v + e))) (rowNames 2 (d .goal) 0 (d .sizes) (d .variables) (32 * v + e)) q)
+      let found = anyBelow-elim (d .actions) (λ a. differ kept unmarked a && rowNames false (d .conditions) (64 * a) (d .sizes) (d .variables) (32 * v + e)) x in
+      named-inside d ok false (d .conditions) (64 * found .0) (λ w i. condition-valid d ok (found .0) w (found .1) i) v e k
+      (and-split (differ kept unmarked (found .0)) (rowNames false (d .conditions) (64 * found .0) (d .sizes) (d .variables) (32 * v + e)) (found .2) .1))
+      (λ x. named-inside d ok false (d .goal) 0 (goal-valid d ok) v e k x)
+      (or-split (anyBelow (d .actions) (λ a. differ kept unmarked a && rowNames false (d .conditions) (64 * a) (d .sizes) (d .variables) (32 * v + e))) (rowNames false (d .goal) 0 (d .sizes) (d .variables) (32 * v + e)) q)
 
   named-fact-inside : (v e : ℕ) → named (held d) A v e ≡ true → e < sizeOf (held d) v
   unfolding asked

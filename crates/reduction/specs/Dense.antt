@@ -1,6 +1,6 @@
 -- Kept variables, new values and reduced rows, by the entries of dense arrays: what the code's parts work out.
 use Prim.Native.Nat.{ℕ, _+_, _*_, _%_}
-use mathlib.Core.Bool.{Bool, not, cond, _&&_, _||_}
+use mathlib.Core.Bool.{Bool, false, not, cond, _&&_, _||_}
 use mathlib.Core.List.{List}
 use lib.Dec.{eqb, ltb}
 use lib.ListN.{getD, replicate}
@@ -11,10 +11,10 @@ use Rattle.marking.specs.Dense.{isMarked, threatensAnew, rowNames, namesAnew}
 abbrev pub unmarked : List ℕ
 unmarked = replicate 512 0
 
--- a named fact at a place: of the goal, or a condition of a kept action; at level 2 a condition names its fact alone
+-- a named fact at a place: of the goal, or a condition of a kept action, each its own fact alone
 unfoldable pub namedAt : List ℕ → List ℕ → List ℕ → List ℕ → ℕ → ℕ → ℕ → Bool
 namedAt goal conditions sizes kept variables actions i =
-    namesAnew 2 conditions sizes variables kept unmarked actions i || rowNames 2 goal 0 sizes variables i
+    namesAnew false conditions sizes variables kept unmarked actions i || rowNames false goal 0 sizes variables i
 
 -- a kept action sets the variable to a value other than its start value
 unfoldable pub changedAt : List ℕ → List ℕ → List ℕ → ℕ → ℕ → ℕ → Bool

@@ -34,13 +34,13 @@ pub fn named_facts(
     conditions: &[u8; 32768],
     kept: &[u8; 512],
 ) -> [u8; 2048]
-    requires { ⌜ (scope .variables ≤ 64) × (scope .actions ≤ 512) × (scope .level ≡ 2) ⌝ }
+    requires { ⌜ (scope .variables ≤ 64) × (scope .actions ≤ 512) ⌝ }
     ensures { λ r. ⌜ ((i : ℕ) → i < 2048 → getD r i 0 ≡ bit (namedAt (now (goal .entry)) (now (conditions .entry)) (now (sizes .entry)) (now (kept .entry)) (scope .variables) (scope .actions) i)) ⌝ }
 {
     let none = [0u8; 512];
     let mut facts = [0u8; 2048];
-    gains::name_row(&mut facts, scope, goal, 0, sizes);
-    gains::gain_facts(&mut facts, scope, conditions, sizes, kept, &none);
+    gains::name_row(&mut facts, scope, false, goal, 0, sizes);
+    gains::gain_facts(&mut facts, scope, false, conditions, sizes, kept, &none);
     facts
 }
 

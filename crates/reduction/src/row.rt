@@ -65,14 +65,8 @@ pub fn reduce_task(
         return refused(first);
     }
     let kept = named::kept_actions(actions, scope.actions);
-    // At level 2 a condition names its fact alone.
-    let plain = Scope {
-        level: 2,
-        variables: scope.variables,
-        actions: scope.actions,
-    };
     let written = arrays::write_reduced(
-        plain,
+        scope,
         sizes,
         starts,
         goal,

@@ -53,7 +53,7 @@ abbrev task : tie.Start → Arrays
 task s = arrays (s .args .scope .variables) (s .args .scope .actions) (now (s .args .sizes)) (now (s .args .starts)) (now (s .args .goal)) (now (s .args .costs)) (now (s .args .conditions)) (now (s .args .effects))
 
 valid : (s : tie.Start) → Valid (held (task s))
-valid s = task-valid (held (task s)) (s .pre .0)
+valid s = task-valid (held (task s)) (s .pre)
 
 variables-few : (s : tie.Start) → s .args .scope .variables ≤ 64
 variables-few s = omega (arith, valid s .variables-few, variables-held (task s))
@@ -65,7 +65,7 @@ abbrev begun : tie.After-kept-variables → tie.Start
 begun c = to-start (to-named-facts (to-changed (to-new-values c)))
 
 named-facts-requires : tie.Need-named-facts-requires
-named-facts-requires c κs = (variables-few c, actions-few c, c .pre .1)
+named-facts-requires c κs = (variables-few c, actions-few c)
 
 changed-requires : tie.Need-changed-requires
 changed-requires c κs = (variables-few (to-start c), actions-few (to-start c))

@@ -1,4 +1,5 @@
 -- The marks of the goal, then those of the actions, are set in an array of zeros.
+use mathlib.Core.Bool.{false}
 use denote.Ref.{now}
 use borrow.Author.Needs.{needs}
 use Rattle.marking.specs.Dense.{rowNames, namesAnew}
@@ -25,11 +26,10 @@ returns c =
     let n = c .before .before .before .before .before in
     let s = n .before .before .before in
     let a = s .args in
-    fresh-marks-twice 2048 (a .scope .level) 2
-    (λ level. rowNames level (now (a .goal)) 0 (now (a .sizes)) (a .scope .variables))
-    (λ level. namesAnew level (now (a .conditions)) (now (a .sizes)) (a .scope .variables) (now (a .kept)) unmarked (a .scope .actions))
+    fresh-marks-twice 2048
+    (rowNames false (now (a .goal)) 0 (now (a .sizes)) (a .scope .variables))
+    (namesAnew false (now (a .conditions)) (now (a .sizes)) (a .scope .variables) (now (a .kept)) unmarked (a .scope .actions))
     _ _
-    (s .pre .2)
     (n .name-row .ensures)
     (c .before .gain-facts .ensures)
 

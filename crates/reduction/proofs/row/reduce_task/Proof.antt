@@ -79,7 +79,7 @@ kept-actions-requires c κs =
     (actions-few s, marks-room (task s) (valid s) (s .args .scope .level) _ _ _ (c .before .if1 .left) (m .mark-task .ensures .1 .0))
 
 write-reduced-requires : tie.Need-write-reduced-requires
-write-reduced-requires c κs = (to-start (to-mark (c .before .before .before)) .pre, omega arith)
+write-reduced-requires c κs = to-start (to-mark (c .before .before .before)) .pre
 
 refused-requires-2 : tie.Need-refused-requires-2
 refused-requires-2 c κs = search needs
