@@ -25,6 +25,9 @@ use files::outcomes;
 use plans::Minutes;
 use plans::Steps;
 
+// The planner marks and reduces at this level.
+const LEVEL: u32 = 4;
+
 // What the search of a task comes to: the entries filled, also beside 24 and the plan buffer's 21,
 // and the plan file's length, cost and steps, 0 beside a refusal.
 struct Found {
@@ -250,7 +253,7 @@ pub fn plan_columns(
     ensures plan { λ r. ⌜ now (plan .exit) ≡ plannedPlan (now (task .entry)) signer (planRooms (rooms (length (now (actions .entry))) (length (now (facts .entry))) (length (now (reduced .entry))) (length (now (origin .entry)))) room (length (now (plan .entry)))) (now (plan .entry)) ⌝ }
     ensures table { λ r. ⌜ (entriesIn (now (minutes .exit)) (now (steps .exit)) (r .states) ≡ cond (isDone (searchStage (now (task .entry)) signer (planRooms (rooms (length (now (actions .entry))) (length (now (facts .entry))) (length (now (reduced .entry))) (length (now (origin .entry)))) room (length (now (plan .entry)))))) (tableOf (searched (now (task .entry)))) []) × (r .states ≤ room) × (r .states ≤ 4096) ⌝ }
 {
-    let first = reduction::reduce(task, 4, signer, actions, facts, reduced, origin);
+    let first = reduction::reduce(task, LEVEL, signer, actions, facts, reduced, origin);
     let outcome = first.outcome;
     if outcome.number != 0 {
         return Run {
