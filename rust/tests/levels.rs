@@ -19,7 +19,8 @@ fn tasks() -> impl Iterator<Item = Task> {
     (0..TASKS).map(|seed| generate::varied(&mut Random::new(seed)))
 }
 
-/// That nothing differed, and how often each call ended with each number.
+/// Asserts that nothing differed, and how often each call ended with each
+/// number.
 fn compared(comparison: &Comparison, outcomes: &[((&'static str, u32), u64)]) {
     assert_eq!(comparison.differences, 0);
     assert_eq!(comparison.outcomes, outcomes.iter().copied().collect());
