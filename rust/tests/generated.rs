@@ -12,9 +12,10 @@ use shortest_check::reference::{check_origin, check_plan, check_task, mark, plan
 
 type Family = fn(&mut Random) -> Task;
 
-const FAMILIES: [(Family, u64); 9] = [
+const FAMILIES: [(Family, u64); 10] = [
     (generate::small, 400),
     (generate::small_with_plan, 400),
+    (generate::varied, 400),
     (generate::chain, 40),
     (generate::many_alike, 20),
     (generate::switches, 40),
@@ -208,12 +209,13 @@ fn marks_by_sets(task: &Task, level: u32) -> (BTreeSet<usize>, Vec<u8>, usize) {
 
 #[test]
 fn marks_as_by_sets() {
-    for seed in 0..1_500 {
+    for seed in 0..2_000 {
         let random = &mut Random::new(seed);
         let task = match seed % 10 {
             0 => generate::few_kept(random),
             1 => generate::switches(random),
             2..5 => generate::small(random),
+            5..7 => generate::varied(random),
             _ => generate::small_with_plan(random),
         };
         let file = task_file(&task);

@@ -6,6 +6,7 @@ mod large;
 mod random;
 mod shaped;
 mod small;
+mod varied;
 
 use super::files::Task;
 
@@ -17,11 +18,13 @@ pub use large::{few_kept, largest, largest_searched};
 pub use random::Random;
 pub use shaped::{chain, counter, counter_of, switches};
 pub use small::{many_alike, small, small_with_plan};
+pub use varied::varied;
 
 /// A task of any of the families below, the large ones rarely.
 pub fn any(random: &mut Random) -> Task {
     match random.below(100) {
-        0..20 => small(random),
+        0..10 => small(random),
+        10..20 => varied(random),
         20..60 => small_with_plan(random),
         60..70 => chain(random),
         70..76 => many_alike(random),
