@@ -31,7 +31,7 @@ use denote.Triple.Entry.{onEntry}
 use denote.Triple.Spec.{tripleOf}
 use denote.Triple.Walked.{says}
 use denote.Triple.Clauses.{ensured, lasts}
-use Rattle.files.specs.Records.{recordEnd}
+use Rattle.files.specs.Records.{offsetLimit, recordEnd}
 use Rattle.files.specs.declared.reader.Reader.{Reader}
 use Rattle.files.proofs.reader.Reader as T
 use Rattle.files.proofs.reader.Reader.Laws as T′
@@ -77,11 +77,11 @@ module _ {M : Type 1} (𝓤 : URA M) (H : Heap 𝓤) (A : Atoms 𝓤) (W : Given
   abbrev pub to-past : ℕ → Past 𝓤 H A mem run .Ghost
   to-past n = (((κ, tt), (q, tt), tt, (readerAt s n, tt), (readerVal s n ∷ [], tt)), tt)
 
-  asked : (n : ℕ) → n < 1099511627776 → ent 𝓤 (onEntry 𝓤 H A past.signature (κ, tt) (q, tt) (readerAt s n, tt) (readerVal s n ∷ [], tt)) (Past 𝓤 H A mem run .pre (to-past n))
+  asked : (n : ℕ) → n < offsetLimit → ent 𝓤 (onEntry 𝓤 H A past.signature (κ, tt) (q, tt) (readerAt s n, tt) (readerVal s n ∷ [], tt)) (Past 𝓤 H A mem run .pre (to-past n))
   asked n ok = qed W ((‵ (flft κ q) ⊛ ‵ ftrue) ∷ ‵ (owns (B (κ, tt) ∷ []) (readerAt s n, tt) (readerVal s n ∷ [], tt)) ∷ []) ∵ says ! ok $ frame ! $ done !
 
   -- what the slice owns and the token give what `past` asks
-  pub goes-past : (n : ℕ) → n < 1099511627776 → n < 2 ^ 64 → ent 𝓤 (⋆ 𝓤 H A (‵ Own ∷ (‵ (flft κ q) ⊛ ‵ ftrue) ∷ [])) (sep 𝓤 (Past 𝓤 H A mem run .pre (to-past n)) (sem 𝓤 H A Own))
+  pub goes-past : (n : ℕ) → n < offsetLimit → n < 2 ^ 64 → ent 𝓤 (⋆ 𝓤 H A (‵ Own ∷ (‵ (flft κ q) ⊛ ‵ ftrue) ∷ [])) (sep 𝓤 (Past 𝓤 H A mem run .pre (to-past n)) (sem 𝓤 H A Own))
   goes-past n ok fits =
       qed W (‵ Own ∷ (‵ (flft κ q) ⊛ ‵ ftrue) ∷ []) ∵ use1 W (‵ Own ⊛ ‵ Own) (shr-slice-copy 𝓤 H A W (named 0) κ u8 .twice s (fileVal s ∷ [])) $ split ! $
       nothing ! $ owned ! usize (Is usize) (uint-makes 𝓤 H A W w64) n _ (refl, fits) $ fjoin ! $ move ! (1 ∷ 0 ∷ []) $ fjoin ! $

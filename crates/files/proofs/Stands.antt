@@ -4,7 +4,7 @@ use mathlib.Core.Path.{_≡_, refl, sym, ap, _∙_}
 use mathlib.Core.Bool.{Bool, true, false}
 use mathlib.Core.List.{List, [], _++_}
 use native.Mathlib.Omega.{arith}
-use lib.ListN.{length, getD, length-append, List·getD-append}
+use lib.ListN.{length, getD, length-append, List·getD-append, List·getD-eq-default}
 use lib.Seq.{ext-getD, getD-append-add}
 use lib.Dec.{leb}
 use borrow.Author.Tests.{leb-true, leb-false}
@@ -112,3 +112,16 @@ module _ (f : List ℕ) (o : Octets f) (at : ℕ) where
       entry (suc (suc zero)) l = omega (arith, o at, o (at + 1), o (at + 2), o (at + 3))
       entry (suc (suc (suc zero))) l = omega (arith, o at, o (at + 1), o (at + 2), o (at + 3))
       entry (suc (suc (suc (suc i)))) l = absurd (omega arith)
+
+-- behind the end of a file every number is 0
+module _ (f : List ℕ) (at : ℕ) (past : length f ≤ at) where
+  byte-past : (k : ℕ) → getD f (at + k) 0 ≡ 0
+  byte-past k = List·getD-eq-default f 0 (omega arith)
+
+  pub u16-past : 0 ≡ u16At f at
+  unfolding u16At
+  u16-past = omega (arith, List·getD-eq-default f 0 past, byte-past 1)
+
+  pub u32-past : 0 ≡ u32At f at
+  unfolding u32At
+  u32-past = omega (arith, u16-past, byte-past 2, byte-past 3)

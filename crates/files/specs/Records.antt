@@ -1,5 +1,5 @@
 -- Records and the sign-off: what every kind of file shares.
-use Prim.Native.Nat.{ℕ, zero, suc, _+_, _-_, _%_}
+use Prim.Native.Nat.{ℕ, zero, suc, _+_, _-_, _%_, _^_}
 use mathlib.Core.List.{List, [], _∷_, _++_}
 use lib.ListN.{length, getD}
 use lib.Dec.{leb, ltb, eqb}
@@ -7,6 +7,10 @@ use Rattle.files.specs.Bytes.{u16At, u32At, u16Bytes, u32Bytes}
 use Rattle.files.specs.Outcome.{done, guard, andThen}
 use Rattle.files.specs.declared.Outcome.{Outcome}
 use Rattle.files.specs.declared.records.Rule.{Rule}
+
+-- every record that is read starts below this offset: no sum of its place and of lengths in it wraps a usize
+abbrev pub offsetLimit : ℕ
+offsetLimit = 2 ^ 40
 
 unfoldable pub bodyLength : List ℕ → ℕ → ℕ
 bodyLength s at = u16At s at

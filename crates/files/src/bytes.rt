@@ -11,19 +11,25 @@ pub fn byte_at(s: &[u8], at: usize) -> usize
     if at < s.len() { s[at] as usize } else { 0 }
 }
 
+// The numbers of 2 and of 4 bytes at a place, 0 for each byte past the end. The place is tested first:
+// within the slice no sum wraps.
 pub fn u16_at(s: &[u8], at: usize) -> usize
-    requires { ⌜ at < 1099511627776 ⌝ }
     ensures { λ r. ⌜ (r ≡ u16At (now (s .entry)) at) × (r < 65536) ⌝ }
 {
+    if s.len() <= at {
+        return 0;
+    }
     let lower = byte_at(s, at);
     let upper = byte_at(s, at + 1);
     lower + upper * 256
 }
 
 pub fn u32_at(s: &[u8], at: usize) -> usize
-    requires { ⌜ at < 1099511627776 ⌝ }
     ensures { λ r. ⌜ (r ≡ u32At (now (s .entry)) at) × (r < 4294967296) ⌝ }
 {
+    if s.len() <= at {
+        return 0;
+    }
     let lower = u16_at(s, at);
     let third = byte_at(s, at + 2);
     let fourth = byte_at(s, at + 3);

@@ -1,10 +1,11 @@
 // An accepted task file into dense arrays: an entry per variable and action, and for each action
 // a row of 64 entries, one per variable, in which 255 stands for no pair.
 ghost use mathlib.Core.Path.{_≡_};
-ghost use Prim.Native.Nat.{_+_, _*_, _<_, _≤_};
+ghost use Prim.Native.Nat.{_+_, _*_, _^_, _<_, _≤_};
 ghost use lib.ListN.{length};
 ghost use Rattle.files.specs.Bytes.{placed};
 ghost use Rattle.files.specs.Dense.{held, arrays};
+ghost use Rattle.files.specs.Records.{offsetLimit};
 ghost use Rattle.files.specs.Rows.{cleared, stored, filled, filledRows, sizeEntries, startEntries, costEntries, conditionLists, effectLists};
 ghost use Rattle.files.specs.TaskFile.{pairsFrom, variablesFrom, actionsFrom, checkTask, taskOf, variablesIn, actionsIn};
 use crate::Outcome;
@@ -39,7 +40,7 @@ fn store(row: &mut [u8], base: usize, variable: usize, value: usize)
 
 // Stores the `count` pairs that stand at `at`.
 fn fill_row(row: &mut [u8], base: usize, s: &[u8], at: usize, count: usize)
-    requires { ⌜ (base + 64 ≤ length (now row)) × (at + 4 * count < 549755813888) ⌝ }
+    requires { ⌜ (base + 64 ≤ length (now row)) × (at + 4 * count < 2 ^ 64) ⌝ }
     ensures { λ r. ⌜ now (row .exit) ≡ filled (now (row .entry)) base (pairsFrom (now (s .entry)) at count) ⌝ }
 {
     let mut place = at;
@@ -72,7 +73,7 @@ fn read_variables(sizes: &mut [u8], starts: &mut [u8], s: &[u8], count: usize)
 
 // The costs of `count` actions from `at` on.
 fn read_costs(costs: &mut [u32], s: &[u8], at: usize, count: usize)
-    requires { ⌜ (count ≤ length (now costs)) × (at + 65540 * count < 274877906944) ⌝ }
+    requires { ⌜ (count ≤ length (now costs)) × (at + 65540 * count < offsetLimit) ⌝ }
     ensures { λ r. ⌜ now (costs .exit) ≡ placed (now (costs .entry)) 0 (costEntries (actionsFrom (now (s .entry)) at count)) ⌝ }
 {
     let mut i: usize = 0;
@@ -88,7 +89,7 @@ fn read_costs(costs: &mut [u32], s: &[u8], at: usize, count: usize)
 
 // The conditions of `count` actions from `at` on, a row each.
 fn read_conditions(rows: &mut [u8], s: &[u8], at: usize, count: usize)
-    requires { ⌜ (64 * count ≤ length (now rows)) × (at + 65540 * count < 137438953472) ⌝ }
+    requires { ⌜ (64 * count ≤ length (now rows)) × (at + 65540 * count < offsetLimit) ⌝ }
     ensures { λ r. ⌜ now (rows .exit) ≡ filledRows (now (rows .entry)) 0 (conditionLists (actionsFrom (now (s .entry)) at count)) ⌝ }
 {
     let mut base: usize = 0;
@@ -106,7 +107,7 @@ fn read_conditions(rows: &mut [u8], s: &[u8], at: usize, count: usize)
 
 // The effects of `count` actions from `at` on, a row each.
 fn read_effects(rows: &mut [u8], s: &[u8], at: usize, count: usize)
-    requires { ⌜ (64 * count ≤ length (now rows)) × (at + 65540 * count < 137438953472) ⌝ }
+    requires { ⌜ (64 * count ≤ length (now rows)) × (at + 65540 * count < offsetLimit) ⌝ }
     ensures { λ r. ⌜ now (rows .exit) ≡ filledRows (now (rows .entry)) 0 (effectLists (actionsFrom (now (s .entry)) at count)) ⌝ }
 {
     let mut base: usize = 0;

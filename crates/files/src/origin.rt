@@ -1,7 +1,8 @@
 // Origin files: the check of each record in the order of refusals.
 ghost use mathlib.Core.Path.{_≡_};
-ghost use Prim.Native.Nat.{_+_, _*_, _<_, _≤_};
+ghost use Prim.Native.Nat.{_+_, _*_, _^_, _<_, _≤_};
 ghost use Rattle.files.specs.OriginFile.{valuesIn, variableOriginAt, variableOriginsAt, actionOriginsAt, originVariablesIn, originActionsPlace};
+ghost use Rattle.files.specs.Records.{offsetLimit};
 use crate::Outcome;
 use crate::bytes;
 use crate::outcomes;
@@ -10,7 +11,6 @@ use crate::records;
 
 // How many values the variable origin at `at` gives.
 fn values_in(s: &[u8], at: usize) -> usize
-    requires { ⌜ at < 274877906944 ⌝ }
     ensures { λ r. ⌜ (r ≡ valuesIn (now (s .entry)) at) × (r < 65536) ⌝ }
 {
     let body = records::body_length(s, at);
@@ -22,7 +22,7 @@ fn values_in(s: &[u8], at: usize) -> usize
 
 // The variable origin at `at`, whose variable is to be at least `low`.
 fn check_variable(s: &[u8], low: usize, at: usize) -> Outcome
-    requires { ⌜ at < 137438953472 ⌝ }
+    requires { ⌜ at < offsetLimit ⌝ }
     ensures { λ r. ⌜ r ≡ variableOriginAt (now (s .entry)) low at ⌝ }
 {
     let head = records::check_head(s, at, 6);
@@ -41,7 +41,7 @@ fn check_variable(s: &[u8], low: usize, at: usize) -> Outcome
 
 // `count` variable origins from the file's start on.
 pub(crate) fn check_variables(s: &[u8], count: usize) -> Outcome
-    requires { ⌜ count < 1000000 ⌝ }
+    requires { ⌜ 65540 * count < offsetLimit ⌝ }
     ensures { λ r. ⌜ r ≡ variableOriginsAt (now (s .entry)) 0 0 count ⌝ }
 {
     let mut low: usize = 0;
@@ -61,7 +61,7 @@ pub(crate) fn check_variables(s: &[u8], count: usize) -> Outcome
 
 // `count` rising numbers of original actions.
 pub(crate) fn check_actions(s: &[u8], at: usize, count: usize) -> Outcome
-    requires { ⌜ at + 2 * count < 274877906944 ⌝ }
+    requires { ⌜ at + 2 * count < 2 ^ 64 ⌝ }
     ensures { λ r. ⌜ r ≡ actionOriginsAt (now (s .entry)) 0 at count ⌝ }
 {
     let mut low: usize = 0;

@@ -1,10 +1,10 @@
 // Records: a body length, a kind and a body; and the sign-off that ends every file.
 ghost use mathlib.Core.Path.{_≡_};
 ghost use mathlib.Core.List.{_++_};
-ghost use Prim.Native.Nat.{_+_, _*_, _<_, _≤_};
+ghost use Prim.Native.Nat.{_+_, _*_, _^_, _<_, _≤_};
 ghost use lib.ListN.{length};
 ghost use Rattle.files.specs.Bytes.{u16Bytes, u32Bytes, placed};
-ghost use Rattle.files.specs.Records.{rule, bodyLength, kindAt, recordEnd, bodyRule, bodyFits, headAt, numbersAt, signOffAt, signerOf, recordBytes};
+ghost use Rattle.files.specs.Records.{offsetLimit, rule, bodyLength, kindAt, recordEnd, bodyRule, bodyFits, headAt, numbersAt, signOffAt, signerOf, recordBytes};
 use crate::Outcome;
 use crate::bytes;
 use crate::outcomes;
@@ -44,14 +44,13 @@ fn body_rule(kind: usize) -> Rule
 }
 
 pub(crate) fn body_length(s: &[u8], at: usize) -> usize
-    requires { ⌜ at < 1099511627776 ⌝ }
     ensures { λ r. ⌜ (r ≡ bodyLength (now (s .entry)) at) × (r < 65536) ⌝ }
 {
     bytes::u16_at(s, at)
 }
 
 pub(crate) fn kind_at(s: &[u8], at: usize) -> usize
-    requires { ⌜ at < 549755813888 ⌝ }
+    requires { ⌜ at < offsetLimit ⌝ }
     ensures { λ r. ⌜ r ≡ kindAt (now (s .entry)) at ⌝ }
 {
     bytes::u16_at(s, at + 2)
@@ -59,7 +58,7 @@ pub(crate) fn kind_at(s: &[u8], at: usize) -> usize
 
 // Where the record at `at` ends.
 pub(crate) fn record_end(s: &[u8], at: usize) -> usize
-    requires { ⌜ at < 1099511627776 ⌝ }
+    requires { ⌜ at < offsetLimit ⌝ }
     ensures { λ r. ⌜ (r ≡ recordEnd (now (s .entry)) at) × (r < at + 65540) ⌝ }
 {
     at + 4 + body_length(s, at)
@@ -85,7 +84,7 @@ fn check_body(allowed: Rule, body: usize, at: usize) -> Outcome
 
 // The head of the record at `at`, where `kind` is due.
 pub(crate) fn check_head(s: &[u8], at: usize, kind: usize) -> Outcome
-    requires { ⌜ at < 549755813888 ⌝ }
+    requires { ⌜ at < offsetLimit ⌝ }
     ensures { λ r. ⌜ r ≡ headAt (now (s .entry)) at kind ⌝ }
 {
     if s.len() < at + 4 {
@@ -104,7 +103,7 @@ pub(crate) fn check_head(s: &[u8], at: usize, kind: usize) -> Outcome
 
 // `count` numbers of 2 bytes, each below the limit.
 pub(crate) fn check_numbers(limit: usize, s: &[u8], at: usize, count: usize) -> Outcome
-    requires { ⌜ at + 2 * count < 549755813888 ⌝ }
+    requires { ⌜ at + 2 * count < 2 ^ 64 ⌝ }
     ensures { λ r. ⌜ r ≡ numbersAt limit (now (s .entry)) at count ⌝ }
 {
     let mut place = at;
@@ -122,7 +121,7 @@ pub(crate) fn check_numbers(limit: usize, s: &[u8], at: usize, count: usize) -> 
 
 // The sign-off at `at`, behind which nothing stands.
 pub(crate) fn check_sign_off(s: &[u8], at: usize) -> Outcome
-    requires { ⌜ at < 549755813888 ⌝ }
+    requires { ⌜ at < offsetLimit ⌝ }
     ensures { λ r. ⌜ r ≡ signOffAt (now (s .entry)) at ⌝ }
 {
     let head = check_head(s, at, 5);
@@ -145,7 +144,6 @@ pub(crate) fn check_sign_off(s: &[u8], at: usize) -> Outcome
 
 // The signer of an accepted file.
 pub fn signer(s: &[u8]) -> usize
-    requires { ⌜ length (now s) ≤ 65536 ⌝ }
     ensures { λ r. ⌜ (r ≡ signerOf (now (s .entry))) × (r < 4294967296) ⌝ }
 {
     if s.len() < 8 {

@@ -1,7 +1,8 @@
 // Task files: the check of each record in the order of refusals.
 ghost use mathlib.Core.Path.{_≡_};
-ghost use Prim.Native.Nat.{_+_, _*_, _<_, _≤_};
+ghost use Prim.Native.Nat.{_+_, _*_, _^_, _<_, _≤_};
 ghost use Rattle.files.specs.Bytes.{u16At};
+ghost use Rattle.files.specs.Records.{offsetLimit};
 ghost use Rattle.files.specs.TaskFile.{headerAt, variablesIn, actionsIn, variableAt, variablesAt, sizeAt, pairAt, pairsAt, goalAt, conditionsIn, effectsIn, actionLength, effectsPlace, actionFormAt, actionAt, actionsAt, goalPlace, actionsPlace, actionPlace};
 use crate::Outcome;
 use crate::bytes;
@@ -41,7 +42,7 @@ pub(crate) fn check_header(s: &[u8]) -> Outcome
 }
 
 fn check_variable(s: &[u8], at: usize) -> Outcome
-    requires { ⌜ at < 274877906944 ⌝ }
+    requires { ⌜ at < offsetLimit ⌝ }
     ensures { λ r. ⌜ r ≡ variableAt (now (s .entry)) at ⌝ }
 {
     let head = records::check_head(s, at, 2);
@@ -63,7 +64,7 @@ fn check_variable(s: &[u8], at: usize) -> Outcome
 }
 
 pub(crate) fn check_variables(s: &[u8], at: usize, count: usize) -> Outcome
-    requires { ⌜ at + 8 * count < 274877906944 ⌝ }
+    requires { ⌜ at + 8 * count < offsetLimit ⌝ }
     ensures { λ r. ⌜ r ≡ variablesAt (now (s .entry)) at count ⌝ }
 {
     let mut place = at;
@@ -81,7 +82,6 @@ pub(crate) fn check_variables(s: &[u8], at: usize, count: usize) -> Outcome
 
 // The domain size of the variable whose number stands at `at`.
 fn size_at(s: &[u8], at: usize) -> usize
-    requires { ⌜ at < 274877906944 ⌝ }
     ensures { λ r. ⌜ r ≡ sizeAt (now (s .entry)) (u16At (now (s .entry)) at) ⌝ }
 {
     let variable = bytes::u16_at(s, at);
@@ -90,7 +90,7 @@ fn size_at(s: &[u8], at: usize) -> usize
 
 // The pair at `at`, whose variable is to be at least `low`.
 fn check_pair(s: &[u8], low: usize, at: usize) -> Outcome
-    requires { ⌜ at < 274877906944 ⌝ }
+    requires { ⌜ at + 2 < 2 ^ 64 ⌝ }
     ensures { λ r. ⌜ r ≡ pairAt (now (s .entry)) low at ⌝ }
 {
     let variable = bytes::u16_at(s, at);
@@ -111,7 +111,7 @@ fn check_pair(s: &[u8], low: usize, at: usize) -> Outcome
 
 // `count` pairs whose variables strictly rise.
 fn check_pairs(s: &[u8], at: usize, count: usize) -> Outcome
-    requires { ⌜ at + 4 * count < 274877906944 ⌝ }
+    requires { ⌜ at + 4 * count < 2 ^ 64 ⌝ }
     ensures { λ r. ⌜ r ≡ pairsAt (now (s .entry)) 0 at count ⌝ }
 {
     let mut low: usize = 0;
@@ -130,7 +130,7 @@ fn check_pairs(s: &[u8], at: usize, count: usize) -> Outcome
 }
 
 pub(crate) fn check_goal(s: &[u8], at: usize) -> Outcome
-    requires { ⌜ at < 137438953472 ⌝ }
+    requires { ⌜ at < offsetLimit ⌝ }
     ensures { λ r. ⌜ r ≡ goalAt (now (s .entry)) at ⌝ }
 {
     let head = records::check_head(s, at, 3);
@@ -142,14 +142,14 @@ pub(crate) fn check_goal(s: &[u8], at: usize) -> Outcome
 
 // The counts of an action record.
 pub fn conditions_in(s: &[u8], at: usize) -> usize
-    requires { ⌜ at < 274877906944 ⌝ }
+    requires { ⌜ at < offsetLimit ⌝ }
     ensures { λ r. ⌜ (r ≡ conditionsIn (now (s .entry)) at) × (r < 65536) ⌝ }
 {
     bytes::u16_at(s, at + 8)
 }
 
 pub(crate) fn effects_in(s: &[u8], at: usize) -> usize
-    requires { ⌜ at < 274877906944 ⌝ }
+    requires { ⌜ at < offsetLimit ⌝ }
     ensures { λ r. ⌜ (r ≡ effectsIn (now (s .entry)) at) × (r < 65536) ⌝ }
 {
     bytes::u16_at(s, at + 10)
@@ -157,7 +157,7 @@ pub(crate) fn effects_in(s: &[u8], at: usize) -> usize
 
 // Where the effects of the action record at `at` stand.
 pub(crate) fn effects_place(s: &[u8], at: usize) -> usize
-    requires { ⌜ at < 274877906944 ⌝ }
+    requires { ⌜ at < offsetLimit ⌝ }
     ensures { λ r. ⌜ (r ≡ effectsPlace (now (s .entry)) at) × (r ≤ at + 262152) ⌝ }
 {
     at + 12 + 4 * conditions_in(s, at)
@@ -165,7 +165,7 @@ pub(crate) fn effects_place(s: &[u8], at: usize) -> usize
 
 // The body length that an action's counts ask for.
 fn action_length(s: &[u8], at: usize) -> usize
-    requires { ⌜ at < 274877906944 ⌝ }
+    requires { ⌜ at < offsetLimit ⌝ }
     ensures { λ r. ⌜ r ≡ actionLength (now (s .entry)) at ⌝ }
 {
     8 + 4 * conditions_in(s, at) + 4 * effects_in(s, at)
@@ -173,7 +173,7 @@ fn action_length(s: &[u8], at: usize) -> usize
 
 // An action's cost, counts and body length.
 fn check_action_form(s: &[u8], at: usize) -> Outcome
-    requires { ⌜ at < 137438953472 ⌝ }
+    requires { ⌜ at < offsetLimit ⌝ }
     ensures { λ r. ⌜ r ≡ actionFormAt (now (s .entry)) at ⌝ }
 {
     let cost = bytes::u32_at(s, at + 4);
@@ -197,7 +197,7 @@ fn check_action_form(s: &[u8], at: usize) -> Outcome
 }
 
 fn check_action(s: &[u8], at: usize) -> Outcome
-    requires { ⌜ at < 137438953472 ⌝ }
+    requires { ⌜ at < offsetLimit ⌝ }
     ensures { λ r. ⌜ r ≡ actionAt (now (s .entry)) at ⌝ }
 {
     let head = records::check_head(s, at, 4);
@@ -217,7 +217,7 @@ fn check_action(s: &[u8], at: usize) -> Outcome
 
 // `count` actions from `at` on, and the sign-off behind them.
 pub(crate) fn check_actions(s: &[u8], at: usize, count: usize) -> Outcome
-    requires { ⌜ at + 65540 * count < 137438953472 ⌝ }
+    requires { ⌜ at + 65540 * count < offsetLimit ⌝ }
     ensures { λ r. ⌜ r ≡ actionsAt (now (s .entry)) at count ⌝ }
 {
     let mut place = at;

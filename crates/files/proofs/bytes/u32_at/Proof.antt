@@ -1,8 +1,12 @@
--- A number of two bytes and two bytes more, put together as the definition does.
+-- A number of two bytes and two bytes more, put together as the definition does; past the end all are 0.
 use borrow.Author.Needs.{needs}
 use Rattle.files.specs.Bytes.{u32At}
+use Rattle.files.proofs.Stands.{u32-past}
 use Rattle.files.proofs.bytes.u32_at.Statement.{statement}
 use Rattle.files.proofs.bytes.u32_at.Tie as tie
+
+returns : tie.Need-returns
+returns c = search (needs, u32-past)
 
 u16-at-requires : tie.Need-u16-at-requires
 u16-at-requires c κs = search needs
@@ -31,14 +35,15 @@ mul-result-2 c = search needs
 add-result-2 : tie.Need-add-result-2
 add-result-2 c = search needs
 
-returns : tie.Need-returns
+returns-2 : tie.Need-returns-2
 unfolding u32At
-returns c = search needs
+returns-2 c = search needs
 
 pub u32-at-spec : {M : Type 1} → statement M
 u32-at-spec =
     tie.close
     (tie.spec
+    returns
     u16-at-requires
     add-byte-at
     byte-at-requires
@@ -48,4 +53,4 @@ u32-at-spec =
     add-result
     mul-result-2
     add-result-2
-    returns)
+    returns-2)

@@ -1,5 +1,5 @@
 -- The loop's invariant: filling in the pairs that are left gives the row with all of them.
-use Prim.Native.Nat.{_+_, _*_, _≤_, _<_}
+use Prim.Native.Nat.{_+_, _*_, _^_, _≤_, _<_}
 use mathlib.Core.Path.{_≡_}
 use lib.ListN.{length}
 use Rattle.files.specs.TaskFile.{pairsFrom}
@@ -11,7 +11,7 @@ use Rattle.files.proofs.decode.fill_row.Tie as tie
 
 abbrev Inv-loop : tie.InvT-loop
 Inv-loop row₀ base s at count place₀ left₀ row place left =
-    (filled row base (pairsFrom s place left) ≡ filled row₀ base (pairsFrom s at count)) × (base + 64 ≤ length row) × (place + 4 * left < 549755813888) × (length row ≡ length row₀)
+    (filled row base (pairsFrom s place left) ≡ filled row₀ base (pairsFrom s at count)) × (base + 64 ≤ length row) × (place + 4 * left < 2 ^ 64) × (length row ≡ length row₀)
 
 abbrev μ-loop : tie.MeasureT-loop
 μ-loop row₀ base s at count place₀ left₀ row place left =

@@ -3,6 +3,7 @@ use Prim.Native.Nat.{_+_, _*_, _≤_, _<_}
 use mathlib.Core.Path.{_≡_}
 use native.Mathlib.Omega.{arith}
 use lib.ListN.{length}
+use Rattle.files.specs.Records.{offsetLimit}
 use Rattle.files.specs.TaskFile.{actionsFrom}
 use Rattle.files.specs.Rows.{filledRows, conditionLists}
 use Rattle.files.proofs.Decoding.{conditions-next, conditions-none}
@@ -13,7 +14,7 @@ use Rattle.files.proofs.decode.read_conditions.Tie as tie
 
 abbrev Inv-loop : tie.InvT-loop
 Inv-loop rows₀ s at count base₀ place₀ left₀ rows base place left =
-    (filledRows rows base (conditionLists (actionsFrom s place left)) ≡ filledRows rows₀ 0 (conditionLists (actionsFrom s at count))) × (base + 64 * left ≤ length rows) × (place + 65540 * left < 137438953472) × (length rows ≡ length rows₀)
+    (filledRows rows base (conditionLists (actionsFrom s place left)) ≡ filledRows rows₀ 0 (conditionLists (actionsFrom s at count))) × (base + 64 * left ≤ length rows) × (place + 65540 * left < offsetLimit) × (length rows ≡ length rows₀)
 
 abbrev μ-loop : tie.MeasureT-loop
 μ-loop rows₀ s at count base₀ place₀ left₀ rows base place left =

@@ -4,6 +4,7 @@ use mathlib.Core.Path.{_≡_, _∙_}
 use native.Mathlib.Omega.{arith}
 use lib.ListN.{length, length-set}
 use Rattle.files.specs.Bytes.{placed}
+use Rattle.files.specs.Records.{offsetLimit}
 use Rattle.files.specs.TaskFile.{actionsFrom}
 use Rattle.files.specs.Rows.{costEntries}
 use Rattle.files.proofs.Decoding.{costs-next, costs-none}
@@ -13,7 +14,7 @@ use Rattle.files.proofs.decode.read_costs.Tie as tie
 
 abbrev Inv-loop : tie.InvT-loop
 Inv-loop costs₀ s at count i₀ place₀ left₀ costs i place left =
-    (placed costs i (costEntries (actionsFrom s place left)) ≡ placed costs₀ 0 (costEntries (actionsFrom s at count))) × (i + left ≤ length costs) × (place + 65540 * left < 274877906944) × (length costs ≡ length costs₀)
+    (placed costs i (costEntries (actionsFrom s place left)) ≡ placed costs₀ 0 (costEntries (actionsFrom s at count))) × (i + left ≤ length costs) × (place + 65540 * left < offsetLimit) × (length costs ≡ length costs₀)
 
 abbrev μ-loop : tie.MeasureT-loop
 μ-loop costs₀ s at count i₀ place₀ left₀ costs i place left =

@@ -1,15 +1,16 @@
 -- The loop's invariant: the check of `left` variable origins from `place` on, the first at least `low`, is the check from the start.
-use Prim.Native.Nat.{_+_, _*_, _≤_}
+use Prim.Native.Nat.{_+_, _*_, _<_}
 use mathlib.Core.Path.{_≡_}
 use borrow.Author.Needs.{needs}
 use Rattle.files.specs.OriginFile.{variableOriginsAt}
+use Rattle.files.specs.Records.{offsetLimit}
 use Rattle.files.proofs.Steps.{variable-origins-none, variable-origins-stop, variable-origins-next}
 use Rattle.files.proofs.origin.check_variables.Statement.{statement}
 use Rattle.files.proofs.origin.check_variables.Tie as tie
 
 abbrev Inv-loop : tie.InvT-loop
 Inv-loop s count low₀ place₀ left₀ low place left =
-    (variableOriginsAt s low place left ≡ variableOriginsAt s 0 0 count) × (place + 65540 * left ≤ 65540 * count)
+    (variableOriginsAt s low place left ≡ variableOriginsAt s 0 0 count) × (place + 65540 * left < offsetLimit)
 
 abbrev μ-loop : tie.MeasureT-loop
 μ-loop s count low₀ place₀ left₀ low place left = left

@@ -3,6 +3,7 @@ use Prim.Native.Nat.{_<_}
 use mathlib.Core.Path.{sym, _∙_}
 use denote.Ref.{now}
 use native.Mathlib.Omega.{arith}
+use borrow.Author.Needs.{needs}
 use Rattle.files.specs.Bytes.{u16At}
 use Rattle.files.specs.PlanFile.{planOf, stepsIn}
 use Rattle.files.specs.Records.{bodyLength}
@@ -23,7 +24,7 @@ add-u16-at : tie.Need-add-u16-at
 add-u16-at c = omega (arith, few c)
 
 u16-at-requires : tie.Need-u16-at-requires
-u16-at-requires c κs = omega (arith, few c)
+u16-at-requires c κs = search needs
 
 returns : tie.Need-returns
 unfolding planOf

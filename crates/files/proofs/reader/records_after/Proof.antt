@@ -43,7 +43,7 @@ use denote.Triple.Table.{entered, cited}
 use denote.Triple.Walked.{says, needs, Stays, stay-none, stay-none-slice, walkOf, goes-none, goes-none-slice, Walks, ends-at, walked, walk-meets}
 use denote.Triple.Clauses.{ensured}
 use denote.Exit.{yes}
-use Rattle.files.specs.Records.{recordEnd, recordsEnd}
+use Rattle.files.specs.Records.{offsetLimit, recordEnd, recordsEnd}
 use Rattle.files.specs.declared.reader.Reader.{Reader}
 use Rattle.files.proofs.Steps.{records-none, records-next}
 use Rattle.files.proofs.reader.Reader as T
@@ -72,7 +72,7 @@ record Turn (f : List ℕ) (n c : ℕ) : Type 0 where
   pub ends : recordsEnd f place left ≡ recordsEnd f n c
   pub room : place + 65540 * left ≤ n + 65540 * c
 
-module _ {M : Type 1} (𝓤 : URA M) (H : Heap 𝓤) (A : Atoms 𝓤) (W : Given 𝓤 H A) (mem : Memory → SProp 𝓤) (run : Routine → Fun 𝓤) (κ : Lft) (q : Share) (s : RefT (List ℕ)) (n c : ℕ) (room : Room u8 (length (s .now))) (fits : n < 2 ^ 64) (fits-c : c < 2 ^ 64) (ok : n + 65540 * c < 549755813888) where
+module _ {M : Type 1} (𝓤 : URA M) (H : Heap 𝓤) (A : Atoms 𝓤) (W : Given 𝓤 H A) (mem : Memory → SProp 𝓤) (run : Routine → Fun 𝓤) (κ : Lft) (q : Share) (s : RefT (List ℕ)) (n c : ℕ) (room : Room u8 (length (s .now))) (fits : n < 2 ^ 64) (fits-c : c < 2 ^ 64) (ok : n + 65540 * c < offsetLimit) where
   abbrev at : Vals f.signature (κ, tt)
   at = (fileVal s ∷ [], (vint w64 n ∷ [], (vint w64 c ∷ [], tt)))
 
@@ -132,7 +132,7 @@ module _ {M : Type 1} (𝓤 : URA M) (H : Heap 𝓤) (A : Atoms 𝓤) (W : Given
         forget ! 4 refl $ forget ! 2 refl $ move ! (1 ∷ 0 ∷ []) $
         again ! ≺ I t (record { place = recordEnd (now s) p; left = k; ends = next-ends; room = next-below (subst (λ (m : ℕ). m < p + 65540) (e .1) (e .2)) }) (subst (λ (m : ℕ). k < m) (sym is-left) (lt-suc-self k))))))
       where
-        ok-p : p < 1099511627776
+        ok-p : p < offsetLimit
         ok-p = omega (arith, below, ok)
 
         fits-p : p < 2 ^ 64

@@ -1,5 +1,5 @@
 -- The loop's invariant: the check of `left` numbers from `place` on is the check from the start.
-use Prim.Native.Nat.{_+_, _*_, _<_}
+use Prim.Native.Nat.{_+_, _*_, _^_, _<_}
 use mathlib.Core.Path.{_≡_}
 use borrow.Author.Needs.{needs}
 use Rattle.files.specs.Records.{numbersAt}
@@ -9,7 +9,7 @@ use Rattle.files.proofs.records.check_numbers.Tie as tie
 
 abbrev Inv-loop : tie.InvT-loop
 Inv-loop limit s at count place₀ left₀ place left =
-    (numbersAt limit s place left ≡ numbersAt limit s at count) × (place + 2 * left < 549755813888)
+    (numbersAt limit s place left ≡ numbersAt limit s at count) × (place + 2 * left < 2 ^ 64)
 
 abbrev μ-loop : tie.MeasureT-loop
 μ-loop limit s at count place₀ left₀ place left = left

@@ -2,6 +2,7 @@
 use Prim.Native.Nat.{_+_, _*_, _<_}
 use mathlib.Core.Path.{_≡_}
 use borrow.Author.Needs.{needs}
+use Rattle.files.specs.Records.{offsetLimit}
 use Rattle.files.specs.TaskFile.{actionsAt}
 use Rattle.files.proofs.Steps.{actions-none, actions-stop, actions-next}
 use Rattle.files.proofs.task.check_actions.Statement.{statement}
@@ -9,7 +10,7 @@ use Rattle.files.proofs.task.check_actions.Tie as tie
 
 abbrev Inv-loop : tie.InvT-loop
 Inv-loop s at count place₀ left₀ place left =
-    (actionsAt s place left ≡ actionsAt s at count) × (place + 65540 * left < 137438953472)
+    (actionsAt s place left ≡ actionsAt s at count) × (place + 65540 * left < offsetLimit)
 
 abbrev μ-loop : tie.MeasureT-loop
 μ-loop s at count place₀ left₀ place left = left

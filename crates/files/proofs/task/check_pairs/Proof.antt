@@ -1,5 +1,5 @@
 -- The loop's invariant: the check of `left` pairs from `place` on, the first variable at least `low`, is the check from the start.
-use Prim.Native.Nat.{_+_, _*_, _<_}
+use Prim.Native.Nat.{_+_, _*_, _^_, _<_}
 use mathlib.Core.Path.{_≡_}
 use borrow.Author.Needs.{needs}
 use Rattle.files.specs.TaskFile.{pairsAt}
@@ -9,7 +9,7 @@ use Rattle.files.proofs.task.check_pairs.Tie as tie
 
 abbrev Inv-loop : tie.InvT-loop
 Inv-loop s at count low₀ place₀ left₀ low place left =
-    (pairsAt s low place left ≡ pairsAt s 0 at count) × (place + 4 * left < 274877906944)
+    (pairsAt s low place left ≡ pairsAt s 0 at count) × (place + 4 * left < 2 ^ 64)
 
 abbrev μ-loop : tie.MeasureT-loop
 μ-loop s at count low₀ place₀ left₀ low place left = left

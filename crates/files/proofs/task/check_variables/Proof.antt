@@ -2,6 +2,7 @@
 use Prim.Native.Nat.{_+_, _*_, _<_}
 use mathlib.Core.Path.{_≡_}
 use borrow.Author.Needs.{needs}
+use Rattle.files.specs.Records.{offsetLimit}
 use Rattle.files.specs.TaskFile.{variablesAt}
 use Rattle.files.proofs.Steps.{variables-none, variables-stop, variables-next}
 use Rattle.files.proofs.task.check_variables.Statement.{statement}
@@ -9,7 +10,7 @@ use Rattle.files.proofs.task.check_variables.Tie as tie
 
 abbrev Inv-loop : tie.InvT-loop
 Inv-loop s at count place₀ left₀ place left =
-    (variablesAt s place left ≡ variablesAt s at count) × (place + 8 * left < 274877906944)
+    (variablesAt s place left ≡ variablesAt s at count) × (place + 8 * left < offsetLimit)
 
 abbrev μ-loop : tie.MeasureT-loop
 μ-loop s at count place₀ left₀ place left = left
