@@ -13,7 +13,7 @@ use Rattle.plans.specs.State.{hasFact}
 use Rattle.marking.specs.Covering.{within, couldCover}
 use Rattle.marking.specs.Dense.{otherThan, missing}
 use Rattle.marking.proofs.RowTests.{any-row, row-fact}
-use Rattle.marking.proofs.Truth.{any-same, all-of-any, count-none}
+use Rattle.files.proofs.Truth.{any-same, all-of-any, count-none}
 
 eqb-swap : (x y : ℕ) → eqb x y ≡ eqb y x
 eqb-swap x y = split (eqb x y) (λ e. e ∙ sym (eq-eqb y x (sym (eqb-true x y e)))) (λ e. e ∙ sym (ne-eqb y x (λ q. eqb-false x y e (sym q))))

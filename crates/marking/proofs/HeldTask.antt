@@ -20,7 +20,7 @@ use Rattle.marking.specs.Links.{setsOther, threatened}
 use Rattle.marking.specs.Dense.{isMarked, otherThan}
 use Rattle.marking.proofs.MarkTables.{marksOf, marksOf-kept, marksOf-relevant, marksOf-inside, Shaped, marksOf-shaped}
 use Rattle.marking.proofs.RowTests.{row-other}
-use Rattle.marking.proofs.Truth.{any-same}
+use Rattle.files.proofs.Truth.{any-same}
 
 -- the marks that arrays hold: a byte per action, 32 per variable
 unfoldable pub heldMarks : Task → List ℕ → List ℕ → Marks

@@ -10,12 +10,10 @@ pub mod LinkLaws
 pub mod MarkTables
 pub mod RoundLaws
 pub mod FixedPoint
-pub mod CountOrder
 pub mod SameMarks
 pub mod MarkCount
 pub mod RoundBound
 pub mod MarkingClosed
-pub mod Truth
 pub mod RowTests
 pub mod SetWhere
 pub mod Places

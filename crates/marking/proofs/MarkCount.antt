@@ -6,7 +6,7 @@ use native.Mathlib.Omega.{arith}
 use Rattle.files.specs.Below.{countBelow, sumBelow}
 use Rattle.files.specs.Task.{Task, variableCount, actionCount, sizeOf, factCount}
 use Rattle.marking.specs.Marks.{Marks, kept, relevant}
-use Rattle.marking.proofs.CountOrder.{count-order, count-same, count-most, sum-order, sum-same}
+use Rattle.files.proofs.CountOrder.{count-order, count-same, count-most, sum-order, sum-same}
 use Rattle.marking.proofs.MarkTables.{Shaped, marksOf-same}
 
 module _ (t : Task) where

@@ -8,7 +8,7 @@ use borrow.Author.Tests.{eqb-true, eq-eqb, ltb-true, lt-ltb}
 use Rattle.files.specs.Below.{anyBelow}
 use Rattle.files.proofs.Logic.{and-split, and-join}
 use Rattle.files.proofs.BelowLaws.{anyBelow-intro, anyBelow-elim}
-use Rattle.marking.proofs.Truth.{same-truth}
+use Rattle.files.proofs.Truth.{same-truth}
 
 module _ (v : ℕ) where
   -- one place, as `set-place` tests it

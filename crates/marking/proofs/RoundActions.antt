@@ -23,7 +23,7 @@ use Rattle.marking.proofs.LinkLaws.{unlinked-intro, gainsAction-intro}
 use Rattle.marking.proofs.Progress.{Progress}
 use Rattle.marking.proofs.RoundLinks.{differ-new, new-differs}
 use Rattle.marking.proofs.RowTests.{any-row, row-fact}
-use Rattle.marking.proofs.Truth.{same-truth, marked-bit, cond-bit}
+use Rattle.files.proofs.Truth.{same-truth, marked-bit, cond-bit}
 
 module _ (d : Arrays) (ok : Valid (held d)) (level : ℕ) (actions facts before threats noted named : List ℕ) (p : Progress d level actions facts before threats noted named) where
   abbrev marks : Marks

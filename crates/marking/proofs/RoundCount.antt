@@ -12,11 +12,11 @@ use Rattle.files.specs.Task.{sizeOf}
 use Rattle.files.proofs.Valid.{Valid}
 use Rattle.marking.specs.Marks.{Marks, kept, relevant}
 use Rattle.marking.specs.Dense.{SetWhere, isMarked, sumOf}
-use Rattle.marking.proofs.CountOrder.{sum-order, sum-same}
+use Rattle.files.proofs.CountOrder.{sum-order, sum-same}
 use Rattle.marking.proofs.HeldTask.{heldMarks, actions-held, factAt, marks-held, kept-held, relevant-held}
 use Rattle.marking.proofs.MarkTables.{marksOf-same}
 use Rattle.marking.proofs.Progress.{Progress}
-use Rattle.marking.proofs.Truth.{same-truth, marked-bit}
+use Rattle.files.proofs.Truth.{same-truth, marked-bit}
 
 -- setting marks makes no entry smaller
 set-more : (test : ℕ → Bool) (old new : List ℕ) (i : ℕ) → SetWhere test old new → i < length old → getD old i 0 ≤ 1 → getD old i 0 ≤ getD new i 0

@@ -23,7 +23,7 @@ use Rattle.marking.proofs.HeldTask.{variables-held, actions-held, cost-
 use Rattle.marking.proofs.CoverRows.{could-same}
 use Rattle.marking.proofs.RoundLaws.{trackedMarks-at}
 use Rattle.marking.proofs.RowTests.{any-row, row-fact}
-use Rattle.marking.proofs.Truth.{any-same, all-any, all-of-any, count-none, bit-marked}
+use Rattle.files.proofs.Truth.{any-same, all-any, all-of-any, count-none, bit-marked}
 
 -- effects by their entries
 same-entries : (x y : ℕ) → sameEffect (entryValue x) (entryValue y) ≡ eqb x y

@@ -22,7 +22,7 @@ use Rattle.marking.proofs.HeldTask.{heldMarks, variables-held, actions-
 use Rattle.marking.proofs.Progress.{Progress}
 use Rattle.marking.proofs.RoundLinks.{differ-new, new-differs}
 use Rattle.marking.proofs.RowTests.{row-fact, row-mentions}
-use Rattle.marking.proofs.Truth.{same-truth, bit-marked, marked-bit, cond-bit}
+use Rattle.files.proofs.Truth.{same-truth, bit-marked, marked-bit, cond-bit}
 
 -- the facts that a row of an accepted task names, by their places
 module _ (d : Arrays) (ok : Valid (held d)) (whole : Bool) (row : List ℕ) (base : ℕ) (valid : (v : ℕ) → v < d .variables → eqb (getD row (base + v) 0) 255 ≡ false → getD row (base + v) 0 < sizeOf (held d) v) where

@@ -19,7 +19,7 @@ use Rattle.marking.specs.Links.{threatened, linked, unlinked, tracked}
 use Rattle.marking.specs.Dense.{SetWhere, isMarked, differ, otherThan, threatens, threatensAnew, linkedEntry, unlinkedAt, trackedAt}
 use Rattle.marking.proofs.HeldTask.{heldMarks, variables-held, start-held, effectAt, threatened-held, kept-held, relevant-held, relevant-inside}
 use Rattle.marking.proofs.Progress.{Progress}
-use Rattle.marking.proofs.Truth.{same-truth, any-same, any-bound, bit-marked, bit-empty, marked-bit, cond-bit}
+use Rattle.files.proofs.Truth.{same-truth, any-same, any-bound, bit-marked, bit-empty, marked-bit, cond-bit}
 
 -- a mark that differs from an earlier one is new
 pub differ-new : (x y : ℕ) → x ≤ 1 → y ≤ 1 → (eqb y 1 ≡ true → eqb x 1 ≡ true) → not (eqb x y) ≡ true → eqb x 1 ≡ true

@@ -29,7 +29,7 @@ use Rattle.marking.proofs.RoundCovering.{counted-now}
 use Rattle.marking.proofs.RoundFacts.{count-marked, count-bit, facts-bit, facts-now, facts-known}
 use Rattle.marking.proofs.RoundLaws.{roundActions, roundFacts, round-marks, setAside}
 use Rattle.marking.proofs.RoundLinks.{threats-now, unlinked-now, unlinked-marked, tracked-now}
-use Rattle.marking.proofs.Truth.{any-same, bit-marked}
+use Rattle.files.proofs.Truth.{any-same, bit-marked}
 
 -- with more marks, no more is linked
 module _ (t : Task) (level : ℕ) (m n : Marks) (more : Among t m n) where

@@ -21,7 +21,7 @@ use Rattle.marking.specs.Rounds.{nextMarks, Marking, markFrom, marking}
 use Rattle.marking.specs.Mark.{factMark}
 use Rattle.marking.specs.Dense.{SetWhere, isMarked, otherThan, rowNames, sumOf, entryMark, Final}
 use Rattle.marking.proofs.HeldTask.{heldMarks, variables-held, actions-held, goal-held, goal-valid, factAt, marks-held, kept-held, relevant-held, held-shaped, effectAt, threatened-held}
-use Rattle.marking.proofs.CountOrder.{sum-order}
+use Rattle.files.proofs.CountOrder.{sum-order}
 use Rattle.marking.proofs.MarkCount.{markCount, markCount-most}
 use Rattle.marking.proofs.MarkTables.{marksOf-same}
 use Rattle.marking.proofs.Progress.{Progress}
@@ -31,7 +31,7 @@ use Rattle.marking.proofs.RoundFacts.{names-held, named-inside}
 use Rattle.marking.proofs.RoundLaws.{first-marks}
 use Rattle.marking.proofs.RoundProgress.{Round, round-held, round-progress, free-marked}
 use Rattle.marking.proofs.SameMarks.{sameMarks-equal, sameMarks-says}
-use Rattle.marking.proofs.Truth.{bit-marked, marked-bit}
+use Rattle.files.proofs.Truth.{bit-marked, marked-bit}
 
 -- the most rounds that there can be
 abbrev pub limit : Arrays → ℕ

@@ -17,7 +17,7 @@ use Rattle.files.proofs.RowLaws.{rowPairs-skip, rowPairs-next}
 use Rattle.plans.specs.State.{admits, hasFact}
 use Rattle.marking.specs.Links.{setsOther}
 use Rattle.marking.specs.Dense.{otherThan}
-use Rattle.marking.proofs.Truth.{same-truth}
+use Rattle.files.proofs.Truth.{same-truth}
 
 module _ (row : List ℕ) (base : ℕ) where
   -- the entry of a variable, and whether there is one

@@ -13,7 +13,7 @@ use Rattle.files.proofs.Valid.{Valid}
 use Rattle.marking.specs.Links.{threatened}
 use Rattle.marking.specs.Dense.{isMarked}
 use Rattle.marking.proofs.HeldTask.{variables-held, size-held}
-use Rattle.marking.proofs.Truth.{bit-marked}
+use Rattle.files.proofs.Truth.{bit-marked}
 use Rattle.reduction.specs.Dense.{namedAt, changedAt, namedValue, keepsAt, newValueAt, newSizeAt, mappedEntry}
 use Rattle.reduction.specs.Named.{named, keptVariable}
 use Rattle.reduction.specs.Renumber.{newValue}

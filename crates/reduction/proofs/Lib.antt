@@ -11,9 +11,7 @@ pub mod ReducedValid
 pub mod Preservation
 pub mod OriginAccepted
 pub mod FilesPreserved
-pub mod Choosing
 pub mod FreshMarks
-pub mod Rows
 pub mod NamedHeld
 pub mod ReducedHeld
 pub mod Filled

@@ -22,7 +22,7 @@ use Rattle.marking.specs.Links.{threatened}
 use Rattle.marking.specs.Dense.{isMarked, differ, otherThan, threatens, threatensAnew, rowNames, namesAnew}
 use Rattle.marking.proofs.HeldTask.{actions-held, size-held, start-held, goal-held, conditions-held, effectAt, threatened-held, condition-valid, goal-valid}
 use Rattle.marking.proofs.RoundFacts.{named-inside, names-held}
-use Rattle.marking.proofs.Truth.{same-truth, any-same, any-bound, all-any, count-none, bit-marked, bit-empty, marked-bit}
+use Rattle.files.proofs.Truth.{same-truth, any-same, any-bound, all-any, count-none, bit-marked, bit-empty, marked-bit}
 use Rattle.reduction.specs.Dense.{unmarked, namedAt, changedAt, namedValue, namedIn, otherNamed, keepsAt, newValueAt, newSizeAt}
 use Rattle.reduction.specs.Named.{named, hasNamed, settled, keptVariable}
 use Rattle.reduction.specs.Renumber.{namedCount, newValue, newSize}

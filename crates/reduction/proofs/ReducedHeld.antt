@@ -16,7 +16,7 @@ use Rattle.files.proofs.Logic.{split, cond-case}
 use Rattle.files.proofs.RowLaws.{rowPairs-none, rowPairs-skip, rowPairs-next}
 use Rattle.files.proofs.Tabulate.{tabulateFrom-length, tabulate-entry, tabulate-is}
 use Rattle.files.proofs.Valid.{Valid}
-use Rattle.marking.proofs.CountOrder.{count-most}
+use Rattle.files.proofs.CountOrder.{count-most}
 use Rattle.marking.proofs.HeldTask.{variables-held, actions-held, size-held, start-held, goal-held, cost-held, conditions-held, effects-held, effect-valid, condition-valid, goal-valid}
 use Rattle.reduction.specs.Dense.{mappedEntry}
 use Rattle.reduction.specs.Named.{named, keptVariable}

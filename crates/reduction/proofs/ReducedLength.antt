@@ -11,7 +11,7 @@ use Rattle.files.specs.Task.{Pair, Action, Task, pair, action, variableCount, a
 use Rattle.files.specs.TaskFile.{actionBody, actionBytes, taskRecords, taskFile}
 use Rattle.files.proofs.Logic.{cond-case}
 use Rattle.files.proofs.Lengths.{record-bytes-length, signed-length, action-body-length, task-records-length}
-use Rattle.marking.proofs.CountOrder.{count-most}
+use Rattle.files.proofs.CountOrder.{count-most}
 use Rattle.reduction.specs.Named.{keptVariable}
 use Rattle.reduction.specs.Renumber.{newVariable, newValue}
 use Rattle.reduction.specs.Task.{keptActions, reducedPairs, reducedAction, reducedBy}

@@ -18,7 +18,7 @@ use Rattle.files.proofs.Valid.{Valid, task-valid}
 use Rattle.plans.specs.State.{hasFact}
 use Rattle.plans.proofs.FactLaws.{fact-here, fact-later, fact-valid}
 use Rattle.marking.specs.Links.{setsOther, threatened}
-use Rattle.marking.proofs.CountOrder.{count-most}
+use Rattle.files.proofs.CountOrder.{count-most}
 use Rattle.reduction.specs.Named.{named, hasNamed, settled, keptVariable}
 use Rattle.reduction.specs.Renumber.{newVariable, namedCount, newValue, newSize}
 use Rattle.reduction.specs.Task.{reducedPairs, reducedAction, reducedBy}

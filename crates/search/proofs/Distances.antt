@@ -21,7 +21,7 @@ use Rattle.search.specs.Table.{Distance, stepTo, atGoal, nextState, thro
 use Rattle.search.proofs.Settled.{Settled}
 use Rattle.search.proofs.Radix.{next-below, next-state}
 use Rattle.search.proofs.DistanceLaws.{Le, le-none, none-le, some-none, le-refl, le-trans, le-antisym, noSteps-le, stepTo-none, stepTo-above, stepTo-keeps, least-left, least-right, least-is}
-use Rattle.search.proofs.Distinct.{Lacks, Distinct, AllBelow, split-eq, distinct-few}
+use Rattle.files.proofs.Distinct.{Lacks, Distinct, AllBelow, split-eq, distinct-few}
 
 -- from the state of number n the steps are applicable in turn, and the goal holds after them
 abbrev pub RunsFrom : Task → ℕ → List ℕ → Type 0

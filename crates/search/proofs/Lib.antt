@@ -4,7 +4,6 @@ pub mod Computes
 pub mod Settled
 pub mod Radix
 pub mod DistanceLaws
-pub mod Distinct
 pub mod Distances
 pub mod ReadOff
 pub mod LeastPlans

@@ -10,7 +10,7 @@ use borrow.Author.Tests.{eqb-true, eqb-false, eq-eqb, le-leb, lt-leb, lt-ltb, le
 use Rattle.files.proofs.Logic.{clash, split, split-le, and-split, and-join}
 use Rattle.plans.specs.State.{State}
 use Rattle.plans.specs.Tally.{meetsEntry}
-use Rattle.marking.proofs.Truth.{same-truth}
+use Rattle.files.proofs.Truth.{same-truth}
 use Rattle.search.specs.Columns.{entryIn, lowered, rowStates, rowWeight, rowState, differsOnly, StepRow}
 use Rattle.search.specs.declared.Entry.{Entry}
 use Rattle.search.proofs.RowNumbers.{weight-most}

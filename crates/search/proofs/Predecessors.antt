@@ -17,7 +17,7 @@ use Rattle.files.proofs.Logic.{clash, split, split-le, and-split, and-join}
 use Rattle.plans.specs.State.{State, allHold, applicable, apply}
 use Rattle.plans.specs.Tally.{meetsEntry}
 use Rattle.plans.proofs.RowStates.{meets-none, meets-some, after-none, after-some}
-use Rattle.marking.proofs.Truth.{same-truth}
+use Rattle.files.proofs.Truth.{same-truth}
 use Rattle.search.specs.States.{stateNumber, stateAt}
 use Rattle.search.specs.Columns.{rowVariables, rowStates, rowState, canHave, canReach, differsOnly, leadsTo}
 use Rattle.search.proofs.RowNumbers.{RowSizes, RowInside, weighted, number-sum, state-alike}

@@ -20,7 +20,7 @@ use Rattle.files.proofs.RowValues.{entryValue, rowPairs-value, rowPairs-behind}
 use Rattle.plans.specs.State.{State, admits, holds, allHold, apply}
 use Rattle.plans.specs.Tally.{meetsEntry, afterEntry}
 use Rattle.plans.proofs.RowStates.{meets-none, meets-some, after-none, after-some}
-use Rattle.marking.proofs.Truth.{same-truth}
+use Rattle.files.proofs.Truth.{same-truth}
 
 module _ (row : List ℕ) (base : ℕ) (s : State) where
   -- whether the value of variable v meets its entry

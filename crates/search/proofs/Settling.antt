@@ -17,7 +17,7 @@ use Rattle.search.specs.Table.{Distance, stepTo, nextState}
 use Rattle.search.proofs.Settled.{Attained, Settled}
 use Rattle.search.proofs.Radix.{next-below, next-state}
 use Rattle.search.proofs.DistanceLaws.{Le, le-none, le-refl, le-trans, le-antisym, noSteps-le, stepTo-none, stepTo-above}
-use Rattle.search.proofs.Distinct.{split-eq}
+use Rattle.files.proofs.Distinct.{split-eq}
 use Rattle.search.proofs.Distances.{step-total, total-none}
 
 -- action a leads from state n to state u

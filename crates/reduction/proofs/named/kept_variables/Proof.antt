@@ -10,7 +10,7 @@ use Rattle.files.specs.Dense.{rowNumbers}
 use Rattle.files.proofs.BelowLaws.{bit-most}
 use Rattle.marking.proofs.SetWhere.{at-end}
 use Rattle.reduction.specs.Dense.{keepsAt}
-use Rattle.reduction.proofs.Choosing.{chosen-none, chosen-next, pushed-length}
+use Rattle.files.proofs.Choosing.{chosen-none, chosen-next, pushed-length}
 use Rattle.reduction.proofs.named.kept_variables.Statement.{statement}
 use Rattle.reduction.proofs.named.kept_variables.Tie as tie
 

@@ -5,7 +5,7 @@ use native.Mathlib.Omega.{arith}
 use lib.ListN.{length, length-set, getD}
 use denote.Ref.{now}
 use Rattle.marking.proofs.LoopCounts.{row-next}
-use Rattle.reduction.proofs.Rows.{below-next}
+use Rattle.files.proofs.Filling.{below-next}
 use borrow.Author.Needs.{needs}
 use Rattle.reduction.proofs.renumber.copy_row.Statement.{statement}
 use Rattle.reduction.proofs.renumber.copy_row.Tie as tie

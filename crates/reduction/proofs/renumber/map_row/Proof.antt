@@ -6,7 +6,7 @@ use lib.ListN.{length, length-set, getD}
 use denote.Ref.{now}
 use Rattle.marking.proofs.LoopCounts.{row-next}
 use Rattle.reduction.specs.Dense.{mappedEntry}
-use Rattle.reduction.proofs.Rows.{below-next}
+use Rattle.files.proofs.Filling.{below-next}
 use borrow.Author.Needs.{needs}
 use Rattle.reduction.proofs.renumber.map_row.Statement.{statement}
 use Rattle.reduction.proofs.renumber.map_row.Tie as tie

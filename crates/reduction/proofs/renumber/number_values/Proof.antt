@@ -9,7 +9,7 @@ use Rattle.files.specs.Below.{countBelow}
 use Rattle.files.proofs.BelowLaws.{bit-most}
 use Rattle.marking.proofs.LoopCounts.{count-next, row-next}
 use Rattle.reduction.specs.Dense.{namedValue, newValueAt}
-use Rattle.reduction.proofs.Rows.{below-next}
+use Rattle.files.proofs.Filling.{below-next}
 use borrow.Author.Needs.{needs}
 use Rattle.reduction.proofs.renumber.number_values.Statement.{statement}
 use Rattle.reduction.proofs.renumber.number_values.Tie as tie
