@@ -5,7 +5,7 @@ use mathlib.Core.Bool.{Bool, true, false}
 use mathlib.Core.List.{List, [], _∷_}
 use mathlib.Core.Option.{some}
 use Rattle.files.specs.Task.{Task, actionCount, actionOf, startOf, valueIn}
-use Rattle.plans.specs.State.{hasFact}
+use Rattle.plans.specs.State.{State, allHold, hasFact}
 use Rattle.plans.proofs.OrderLaws.{NoDearer}
 
 -- an action of A that can take the place of a: it costs no more, asks no more and only what is relevant, and has the same
@@ -15,7 +15,7 @@ pub record StandIn (t : Task) (A : ℕ → Bool) (F L : ℕ → ℕ → Bool) (a
   pub known : to < actionCount t
   pub kept : A to ≡ true
   pub no-dearer : NoDearer (actionOf t to) (actionOf t a)
-  pub asks-less : (v d : ℕ) → hasFact (actionOf t to .conditions) v d ≡ true → hasFact (actionOf t a .conditions) v d ≡ true
+  pub asks-less : (s : State) → allHold (actionOf t a .conditions) s ≡ true → allHold (actionOf t to .conditions) s ≡ true
   pub asks-relevant : (v d : ℕ) → hasFact (actionOf t to .conditions) v d ≡ true → F v d ≡ true
   pub same-effect : (v d : ℕ) → F v d ≡ true → L v d ≡ false → valueIn (actionOf t to .effects) v ≡ valueIn (actionOf t a .effects) v
 

@@ -1,4 +1,4 @@
--- What the test of covering says: the cost, the effects and fewer conditions.
+-- What the test of covering says: the cost, the effects, and fewer conditions, which hold wherever the others do.
 use Prim.Native.Nat.{ℕ, _<_}
 use mathlib.Core.Path.{_≡_, refl, sym, ap, _∙_}
 use mathlib.Core.Bool.{Bool, true, false, not, _||_}
@@ -14,9 +14,11 @@ use Rattle.files.specs.Task.{Pair, Action, Task, variableCount, valueIn}
 use Rattle.files.specs.Accepted.{validPairs}
 use Rattle.files.proofs.BelowLaws.{allBelow-elim}
 use Rattle.files.proofs.Logic.{clash, and-split, or-split}
-use Rattle.plans.specs.State.{hasFact}
+use Rattle.plans.specs.State.{State, holds, allHold, hasFact}
+use Rattle.plans.proofs.AdmitsLaws.{admits-alike}
 use Rattle.plans.proofs.FactLaws.{fact-all, all-facts}
 use Rattle.plans.proofs.OrderLaws.{NoDearer}
+use Rattle.plans.proofs.StateLaws.{each-allHold, allHold-each}
 use Rattle.marking.specs.Covering.{sameEffect, within, couldCover, covers}
 use Rattle.marking.proofs.Parts.{part-shorter}
 
@@ -34,11 +36,24 @@ pub within-self : (conditions : List Pair) → within conditions conditions ≡ 
 unfolding within
 within-self conditions = all-facts (hasFact conditions) conditions (λ v d h. h)
 
+-- a condition that stands in conditions that hold, holds
+stands-holds : (others : List Pair) (s : State) → allHold others s ≡ true → (c : Pair) → hasFact others (c .variable) (c .value) ≡ true → holds c s ≡ true
+unfolding holds
+stands-holds others s e c h =
+    let other = allHold-each others s (c .variable) (c .value) e h in
+    admits-alike c (other .0) (s (c .variable)) (other .1) (other .2)
+
+pub within-holds : (conditions others : List Pair) (s : State) → within conditions others ≡ true → allHold others s ≡ true → allHold conditions s ≡ true
+unfolding within
+within-holds conditions others s e h =
+    each-allHold (λ c. hasFact others (c .variable) (c .value)) conditions s (stands-holds others s h) e
+
 -- b covers a
 pub record Covers (t : Task) (tracked : ℕ → Bool) (b a : Action) : Type 0 where
   pub no-dearer : NoDearer b a
   pub same-effect : (v : ℕ) → v < variableCount t → tracked v ≡ true → valueIn (b .effects) v ≡ valueIn (a .effects) v
-  pub asks-less : (v d : ℕ) → hasFact (b .conditions) v d ≡ true → hasFact (a .conditions) v d ≡ true
+  pub asks-less : (s : State) → allHold (a .conditions) s ≡ true → allHold (b .conditions) s ≡ true
+  pub among : (v d : ℕ) → hasFact (b .conditions) v d ≡ true → hasFact (a .conditions) v d ≡ true
   pub not-all : within (a .conditions) (b .conditions) ≡ false
 
 pub covers-says : (t : Task) (tracked : ℕ → Bool) (b a : Action) → covers t tracked b a ≡ true → Covers t tracked b a
@@ -57,7 +72,8 @@ covers-says t tracked b a e =
           (λ untracked. clash k (not-true (tracked v) untracked))
           (λ same. same)
           (or-split (not (tracked v)) _ (allBelow-elim (variableCount t) agrees (both .1) v l)));
-      asks-less = λ v d h. within-says (b .conditions) (a .conditions) v d (conditions .0) h;
+      asks-less = λ s h. within-holds (b .conditions) (a .conditions) s (conditions .0) h;
+      among = λ v d h. within-says (b .conditions) (a .conditions) v d (conditions .0) h;
       not-all = not-true (within (a .conditions) (b .conditions)) (conditions .1);
     }
 
@@ -66,4 +82,4 @@ covers-fewer t tracked b a vb va c =
     ⊎-elim
     (λ shorter. shorter)
     (λ same. clash (ap (within (a .conditions)) same ∙ within-self (a .conditions)) (c .not-all))
-    (part-shorter t 0 0 (a .conditions) (b .conditions) va vb (c .asks-less))
+    (part-shorter t 0 0 (a .conditions) (b .conditions) va vb (c .among))

@@ -78,15 +78,15 @@ module _ (t : Task) (w : Valid t) (level : ℕ) (m : Marks) (fixed : Fixed t lev
       let both = and-split (kept m b) (covers t trackedNow (actionOf t b) (actionOf t a)) e in
       let c = covers-says t trackedNow (actionOf t b) (actionOf t a) (both .1) in
       let fewer = covers-fewer t trackedNow (actionOf t b) (actionOf t a) (w .action b .conditions) (w .action a .conditions) c in
-      let s = descend fewer (both .0) in
+      let k = descend fewer (both .0) in
       record {
-        to = s .to;
-        known = s .known;
-        kept = s .kept;
-        no-dearer = noDearer-trans (actionOf t (s .to)) (actionOf t b) (actionOf t a) (s .no-dearer) (c .no-dearer);
-        asks-less = λ v d h. c .asks-less v d (s .asks-less v d h);
-        asks-relevant = s .asks-relevant;
-        same-effect = λ v d r u. s .same-effect v d r u ∙ c .same-effect v (relevant-inside v d r .0) (is-tracked v d r u);
+        to = k .to;
+        known = k .known;
+        kept = k .kept;
+        no-dearer = noDearer-trans (actionOf t (k .to)) (actionOf t b) (actionOf t a) (k .no-dearer) (c .no-dearer);
+        asks-less = λ s h. k .asks-less s (c .asks-less s h);
+        asks-relevant = k .asks-relevant;
+        same-effect = λ v d r u. k .same-effect v d r u ∙ c .same-effect v (relevant-inside v d r .0) (is-tracked v d r u);
       }
 
   coverer : (a : ℕ) → setAside t level m (m .actions) a ≡ true → (b : ℕ) × (b < actionCount t) × (kept m b && covers t trackedNow (actionOf t b) (actionOf t a) ≡ true)
@@ -107,7 +107,7 @@ module _ (t : Task) (w : Valid t) (level : ℕ) (m : Marks) (fixed : Fixed t lev
         known = l;
         kept = e;
         no-dearer = noDearer-self (actionOf t a);
-        asks-less = λ v d h. h;
+        asks-less = λ s h. h;
         asks-relevant = asks-relevant a l e counts;
         same-effect = λ v d r u. refl;
       })

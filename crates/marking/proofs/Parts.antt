@@ -11,6 +11,7 @@ use Rattle.files.specs.Accepted.{validPairs}
 use Rattle.files.proofs.Done.{facts}
 use Rattle.files.proofs.Logic.{clash}
 use Rattle.plans.specs.State.{hasFact}
+use Rattle.plans.proofs.AdmitsLaws.{admits-value}
 use Rattle.plans.proofs.FactLaws.{fact-here, fact-later, fact-none, fact-cases, fact-valid}
 
 -- the pairs behind the first, whose variables are above its own
@@ -40,7 +41,7 @@ part-shorter t low least (p ∷ whole) (q ∷ part) w r h =
     ⊎-elim
     (λ here.
     let same-variable : p .variable ≡ q .variable = here .0 in
-    let same-value : p .value ≡ q .value = here .1 in
+    let same-value : p .value ≡ q .value = admits-value p (q .value) (here .1) in
     ⊎-elim
     (λ shorter. inl (omega arith))
     (λ same. inr (λ i. record { variable = sym same-variable i; value = sym same-value i } ∷ same i))

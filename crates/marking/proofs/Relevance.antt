@@ -1,18 +1,18 @@
 -- The relevance theorem: a closed marking loses no cheapest plan. Beside every plan stands one of kept actions alone that is
 -- no worse, and strictly better unless the plan uses kept actions alone itself.
 use Prim.Native.Nat.{ℕ, _<_}
-use mathlib.Core.Path.{_≡_, sym, ap, _∙_}
+use mathlib.Core.Path.{_≡_, refl, sym, ap, _∙_}
 use mathlib.Core.Bool.{Bool, true, false}
 use mathlib.Core.List.{List, [], _∷_}
 use mathlib.Core.Logic.{_⊎_, inl, inr, ⊎-elim}
 use mathlib.Core.Option.{some}
-use Rattle.files.specs.Task.{Task, actionCount, actionOf, valueIn}
+use Rattle.files.specs.Task.{Pair, Task, actionCount, actionOf, valueIn}
 use Rattle.files.proofs.Logic.{clash, split, split-option}
-use Rattle.plans.specs.State.{State, startState, applicable, apply}
+use Rattle.plans.specs.State.{State, startState, allHold, hasFact, applicable, apply}
 use Rattle.plans.specs.Plan.{IsPlan, totalOf, atMost, Best}
 use Rattle.plans.proofs.OrderLaws.{atMost-refl, atMost-trans, addStep-above, addStep-cheaper, addStep-cheaper-strict, addStep-drops}
 use Rattle.plans.proofs.RunLaws.{Runs, runs-plan, plan-runs}
-use Rattle.plans.proofs.StateLaws.{allHold-fact, fact-allHold, apply-sets, apply-leaves}
+use Rattle.plans.proofs.StateLaws.{allHold-carries, apply-sets, apply-leaves}
 use Rattle.marking.proofs.Closed.{StandIn, Closed, AllKept}
 
 -- a state r that has of s what is relevant, and every linked fact
@@ -66,6 +66,10 @@ module _ (t : Task) (A : ℕ → Bool) (F L : ℕ → ℕ → Bool) (closed : Cl
         links = h .links;
       }
 
+  -- conditions that admit only what is relevant hold in r where they hold in s
+  follows-hold : (conditions : List Pair) (s r : State) → Follows F L s r → ((v d : ℕ) → hasFact conditions v d ≡ true → F v d ≡ true) → allHold conditions s ≡ true → allHold conditions r ≡ true
+  follows-hold conditions s r h relevant e = allHold-carries conditions s r e (λ v admitted. h .facts v (s v) (relevant v (s v) admitted) refl)
+
   beside-kept : (a : ℕ) (p : List ℕ) (r : State) (k : StandIn t A F L a) → A a ≡ true → applicable (actionOf t (k .to)) r ≡ true → Beside t A (apply (actionOf t (k .to)) r) p → Beside t A r (a ∷ p)
   unfolding totalOf
   beside-kept a p r k ka h q =
@@ -97,7 +101,7 @@ module _ (t : Task) (A : ℕ → Bool) (F L : ℕ → ℕ → Bool) (closed : Cl
   simulated [] s r h q =
       record {
         list = [];
-        runs = fact-allHold (t .goal) r (λ v d e. h .facts v d (closed .goal-relevant v d e) (allHold-fact (t .goal) s v d q e));
+        runs = follows-hold (t .goal) s r h (closed .goal-relevant) q;
         kept = tt;
         no-worse = atMost-refl (totalOf t []);
         better = inl tt;
@@ -107,8 +111,7 @@ module _ (t : Task) (A : ℕ → Bool) (F L : ℕ → ℕ → Bool) (closed : Cl
       (λ ka.
       let k = closed .stand-in a (q .0) ka in
       beside-kept a p r k ka
-      (fact-allHold (actionOf t (k .to) .conditions) r
-      (λ v d e. h .facts v d (k .asks-relevant v d e) (allHold-fact (actionOf t a .conditions) s v d (q .1) (k .asks-less v d e))))
+      (follows-hold (actionOf t (k .to) .conditions) s r h (k .asks-relevant) (k .asks-less s (q .1)))
       (simulated p (apply (actionOf t a) s) (apply (actionOf t (k .to)) r) (follows-kept s r a k h) (q .2)))
       (λ ka. beside-dropped a p r (simulated p (apply (actionOf t a) s) r (follows-dropped s r a (q .0) ka h) (q .2)))
 

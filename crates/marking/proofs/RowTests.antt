@@ -14,7 +14,8 @@ use Rattle.files.specs.Dense.{rowPairs}
 use Rattle.files.proofs.BelowLaws.{anyBelow-intro, anyBelow-elim}
 use Rattle.files.proofs.Logic.{clash, split, split-le, and-split, and-join, or-split, or-left, or-right}
 use Rattle.files.proofs.RowLaws.{rowPairs-skip, rowPairs-next}
-use Rattle.plans.specs.State.{admits, hasFact}
+use Rattle.plans.specs.State.{hasFact}
+use Rattle.plans.proofs.FactLaws.{fact-values}
 use Rattle.marking.specs.Links.{setsOther}
 use Rattle.marking.specs.Dense.{otherThan}
 use Rattle.files.proofs.Truth.{same-truth}
@@ -96,8 +97,7 @@ module _ (row : List ℕ) (base : ℕ) where
         anyBelow-intro n (λ w. not (eqb (entryAt w) 255) && (eqb w v && g (entryAt w))) v h (and-join (both .0) (and-join (eq-eqb v v refl) (both .1))))
 
     pub row-fact : (value : ℕ) → hasFact (rowPairs row base 0 n) v value ≡ not (eqb (entryAt v) 255) && eqb (entryAt v) value
-    unfolding hasFact admits
-    row-fact value = any-row (λ w d. eqb w v && eqb d value) n ∙ at-one (λ d. eqb d value)
+    row-fact value = fact-values (rowPairs row base 0 n) v value ∙ any-row (λ w d. eqb w v && eqb d value) n ∙ at-one (λ d. eqb d value)
 
     pub row-other : (value : ℕ) → setsOther (rowPairs row base 0 n) v value ≡ otherThan (entryAt v) value
     unfolding setsOther otherThan

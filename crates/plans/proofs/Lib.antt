@@ -1,6 +1,8 @@
--- Laws about the crate's definitions: the order on cost and steps, plans by their steps, and rows of entries as states.
+-- Laws about the crate's definitions: the order on cost and steps, facts and states by what
+-- conditions admit, plans by their steps, and rows of entries as states.
 pub mod Computes
 pub mod OrderLaws
+pub mod AdmitsLaws
 pub mod FactLaws
 pub mod StateLaws
 pub mod RunLaws

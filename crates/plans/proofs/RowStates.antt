@@ -9,14 +9,15 @@ use native.Mathlib.Omega.{arith}
 use lib.ListN.{length, getD, List·getD-eq-default}
 use lib.Dec.{eqb}
 use borrow.Author.Tests.{eqb-true, eqb-false, eq-eqb, ne-eqb}
-use Rattle.files.specs.Task.{Pair, valueIn}
+use Rattle.files.specs.Task.{Pair, pair, valueIn}
 use Rattle.files.specs.Dense.{rowPairs}
 use Rattle.files.proofs.Countdown.{one-more}
 use Rattle.files.proofs.Logic.{split, split-le}
 use Rattle.files.proofs.RowLaws.{rowPairs-none, rowPairs-skip, rowPairs-next}
 use Rattle.files.proofs.RowValues.{entryValue, rowPairs-value, rowPairs-behind}
-use Rattle.plans.specs.State.{admits, holds, allHold}
+use Rattle.plans.specs.State.{holds, allHold}
 use Rattle.plans.specs.Tally.{listState, meetsEntry, afterEntry}
+use Rattle.plans.proofs.AdmitsLaws.{admits-is}
 
 -- entries
 pub meets-none : (condition value : ℕ) → condition ≡ 255 → true ≡ meetsEntry condition value
@@ -38,7 +39,7 @@ after-some effect value d = rw (ne-eqb effect 255 d) refl
 -- conditions, as a loop that counts down wants them
 module _ (row state : List ℕ) (v left : ℕ) where
   hold-step : 0 < left → allHold (rowPairs row 0 v left) (listState state) ≡ (meetsEntry (getD row v 0) (getD state v 0) && allHold (rowPairs row 0 (v + 1) (left - 1)) (listState state))
-  unfolding allHold holds admits listState
+  unfolding allHold holds listState
   hold-step h =
       let x = getD row v 0 in
       let is : x ≡ getD row (0 + v) 0 = ap (λ (n : ℕ). getD row n 0) (omega arith) in
@@ -49,7 +50,7 @@ module _ (row state : List ℕ) (v left : ℕ) where
       ∙ ap (λ (t : Bool). t && rest) (meets-none x (getD state v 0) (eqb-true x 255 e)))
       (λ e.
       ap (λ (l : List Pair). allHold l (listState state)) (rowPairs-next row 0 v left x (one-more left h) is (eqb-false x 255 e))
-      ∙ ap (λ (t : Bool). t && rest) (meets-some x (getD state v 0) (eqb-false x 255 e)))
+      ∙ ap (λ (t : Bool). t && rest) (admits-is (pair v x) (getD state v 0) ∙ meets-some x (getD state v 0) (eqb-false x 255 e)))
 
   pub hold-next : (whole b : Bool) → allHold (rowPairs row 0 v left) (listState state) ≡ whole → 0 < left → b ≡ meetsEntry (getD row v 0) (getD state v 0) → b ≡ true
       → allHold (rowPairs row 0 (v + 1) (left - 1)) (listState state) ≡ whole

@@ -1,21 +1,22 @@
 -- Plans of kept actions and plans of the reduced task are the same, by new and by original numbers.
 use Prim.Native.Nat.{ℕ, _+_, _<_}
 use mathlib.Core.Path.{_≡_, refl, sym, ap, ap₂, subst, subst⁻¹, _∙_}
-use mathlib.Core.Bool.{Bool, true}
+use mathlib.Core.Bool.{Bool, true, false, _&&_}
 use mathlib.Core.List.{List, [], _∷_, map}
 use mathlib.Core.Option.{Option·map}
 use Rattle.files.specs.Task.{Pair, Action, Task, variableCount, actionCount, actionOf, startOf, valueIn}
 use Rattle.files.proofs.Logic.{split, split-option}
 use Rattle.files.proofs.Valid.{Valid}
-use Rattle.plans.specs.State.{State, startState, allHold, applicable, apply}
+use Rattle.plans.specs.State.{State, startState, admits, holds, allHold, applicable, apply}
 use Rattle.plans.specs.Plan.{Total, addStep, totalOf}
-use Rattle.plans.proofs.StateLaws.{allHold-fact, fact-allHold, apply-sets, apply-leaves}
+use Rattle.plans.proofs.FactLaws.{fact-later}
+use Rattle.plans.proofs.StateLaws.{apply-sets, apply-leaves}
 use Rattle.plans.proofs.RunLaws.{Runs}
 use Rattle.marking.proofs.Closed.{AllKept}
 use Rattle.reduction.specs.Named.{settled, keptVariable}
 use Rattle.reduction.specs.Renumber.{newVariable, newValue}
 use Rattle.reduction.specs.Task.{reducedPairs, reducedAction, reducedBy}
-use Rattle.reduction.proofs.KeptFacts.{NamedFacts, goal-named, conditions-named, settled-start, dropped-start, newValue-injective, reduced-was, reduced-fact, reduced-value}
+use Rattle.reduction.proofs.KeptFacts.{NamedFacts, reducedPair, reduced-value, settled-start, goal-named, conditions-named, first-known, reducedPair-admits, dropped-admits}
 use Rattle.reduction.proofs.KeptVariables.{reduced-start}
 use Rattle.reduction.proofs.KeptActions.{originalOf, reducedOf, reduced-known, original-reduced, original-known, original-kept, reduced-action, kept-action}
 
@@ -34,29 +35,25 @@ module _ (t : Task) (A : ℕ → Bool) (ok : Valid t) where
   unfolding startState
   start-reduces = record { on-kept = reduced-start t A; on-settled = λ v e. refl }
 
-  -- the same conditions hold
-  hold-to : (s r : State) → Reduces s r → (pairs : List Pair) → NamedFacts t A pairs → allHold pairs s ≡ true → allHold (reducedPairs t A pairs) r ≡ true
-  hold-to s r same pairs n h =
-      fact-allHold (reducedPairs t A pairs) r
-      (λ w e f.
-      let was = reduced-was t A pairs w e f in
-      let v = was .oldVariable in
-      ap r (sym (was .same-variable))
-      ∙ same .on-kept v (n v (was .oldValue) (was .is-fact) .1 .known) (was .is-kept)
-      ∙ ap (newValue t A v) (allHold-fact pairs s v (was .oldValue) h (was .is-fact))
-      ∙ was .same-value)
+  -- the same conditions hold, one by one
+  reducedPair-holds : (s r : State) → Reduces s r → (p : Pair) (ps : List Pair) → NamedFacts t A (p ∷ ps) → keptVariable t A (p .variable) ≡ true → holds (reducedPair t A p) r ≡ holds p s
+  unfolding holds
+  reducedPair-holds s r same p ps n k =
+      ap (admits (reducedPair t A p)) (same .on-kept (p .variable) (first-known t A p ps n) k) ∙ reducedPair-admits t A p ps n (s (p .variable))
 
-  hold-from : (s r : State) → Reduces s r → (pairs : List Pair) → NamedFacts t A pairs → allHold (reducedPairs t A pairs) r ≡ true → allHold pairs s ≡ true
-  hold-from s r same pairs n h =
-      fact-allHold pairs s
-      (λ v value f.
-      let fact = n v value f in
-      split (keptVariable t A v)
-      (λ k.
-      newValue-injective t A v value (s v) (fact .0) (fact .1 .inside)
-      (sym (same .on-kept v (fact .1 .known) k)
-      ∙ allHold-fact (reducedPairs t A pairs) r (newVariable t A v) (newValue t A v value) h (reduced-fact t A pairs v value k f)))
-      (λ k. let start = dropped-start t A v value (fact .0) (fact .1 .inside) k in same .on-settled v (start .0) ∙ sym (start .1)))
+  dropped-holds : (s r : State) → Reduces s r → (p : Pair) (ps : List Pair) → NamedFacts t A (p ∷ ps) → keptVariable t A (p .variable) ≡ false → holds p s ≡ true
+  unfolding holds
+  dropped-holds s r same p ps n k =
+      let start = dropped-admits t A p ps n k in ap (admits p) (same .on-settled (p .variable) (start .0)) ∙ start .1
+
+  hold-same : (s r : State) → Reduces s r → (pairs : List Pair) → NamedFacts t A pairs → allHold (reducedPairs t A pairs) r ≡ allHold pairs s
+  unfolding allHold reducedPairs
+  hold-same s r same [] n = refl
+  hold-same s r same (p ∷ ps) n =
+      let later = hold-same s r same ps (λ v value f. n v value (fact-later p ps v value f)) in
+      split (keptVariable t A (p .variable))
+      (λ k. rw k (ap₂ _&&_ (reducedPair-holds s r same p ps n k) later))
+      (λ k. rw (k, dropped-holds s r same p ps n k) later)
 
   -- the states after a kept action
   reducedAction-value : (a : Action) (v : ℕ) → keptVariable t A v ≡ true → valueIn (reducedAction t A a .effects) (newVariable t A v) ≡ Option·map (newValue t A v) (valueIn (a .effects) v)
@@ -84,42 +81,34 @@ module _ (t : Task) (A : ℕ → Bool) (ok : Valid t) where
           (λ q. apply-leaves (actionOf t a) s v q ∙ same .on-settled v e)
           (λ x q. apply-sets (actionOf t a) s v x q ∙ settled-start t A a v x e known kept q)
 
-  applicable-to : (s r : State) → Reduces s r → (a : ℕ) → a < actionCount t → A a ≡ true → applicable (actionOf t a) s ≡ true → applicable (reducedAction t A (actionOf t a)) r ≡ true
+  applicable-same : (s r : State) → Reduces s r → (a : ℕ) → a < actionCount t → A a ≡ true → applicable (reducedAction t A (actionOf t a)) r ≡ applicable (actionOf t a) s
   unfolding applicable reducedAction
-  applicable-to s r same a known kept h = hold-to s r same (actionOf t a .conditions) (conditions-named t A ok a known kept) h
+  applicable-same s r same a known kept = hold-same s r same (actionOf t a .conditions) (conditions-named t A ok a known kept)
 
-  applicable-from : (s r : State) → Reduces s r → (a : ℕ) → a < actionCount t → A a ≡ true → applicable (reducedAction t A (actionOf t a)) r ≡ true → applicable (actionOf t a) s ≡ true
-  unfolding applicable reducedAction
-  applicable-from s r same a known kept h = hold-from s r same (actionOf t a .conditions) (conditions-named t A ok a known kept) h
-
-  goal-to : (s r : State) → Reduces s r → allHold (t .goal) s ≡ true → allHold (reducedBy t A .goal) r ≡ true
+  goal-same : (s r : State) → Reduces s r → allHold (reducedBy t A .goal) r ≡ allHold (t .goal) s
   unfolding reducedBy
-  goal-to s r same h = hold-to s r same (t .goal) (goal-named t A ok) h
-
-  goal-from : (s r : State) → Reduces s r → allHold (reducedBy t A .goal) r ≡ true → allHold (t .goal) s ≡ true
-  unfolding reducedBy
-  goal-from s r same h = hold-from s r same (t .goal) (goal-named t A ok) h
+  goal-same s r same = hold-same s r same (t .goal) (goal-named t A ok)
 
   -- plans, step by step
   runs-to : (s r : State) → Reduces s r → (p : List ℕ) → Runs t s p → AllKept A p → Runs (reducedBy t A) r (map (reducedOf A) p)
-  runs-to s r same [] h k = goal-to s r same h
+  runs-to s r same [] h k = goal-same s r same ∙ h
   runs-to s r same (a ∷ p) h k =
       let e = kept-action t A a (h .0) (k .0) in (
         reduced-known t A a (h .0) (k .0),
-        subst⁻¹ (λ (x : Action). applicable x r ≡ true) e (applicable-to s r same a (h .0) (k .0) (h .1)),
+        subst⁻¹ (λ (x : Action). applicable x r ≡ true) e (applicable-same s r same a (h .0) (k .0) ∙ h .1),
         subst⁻¹ (λ (x : Action). Runs (reducedBy t A) (apply x r) (map (reducedOf A) p)) e
             (runs-to (apply (actionOf t a) s) (apply (reducedAction t A (actionOf t a)) r) (step-reduces s r a (h .0) (k .0) same) p (h .2) (k .1)),
       )
 
   runs-from : (s r : State) → Reduces s r → (p : List ℕ) → Runs (reducedBy t A) r p → Runs t s (map (originalOf t A) p)
-  runs-from s r same [] h = goal-from s r same h
+  runs-from s r same [] h = sym (goal-same s r same) ∙ h
   runs-from s r same (i ∷ p) h =
       let a = originalOf t A i in
       let known = original-known t A i (h .0) in
       let kept = original-kept t A i (h .0) in
       let e = reduced-action t A i (h .0) in (
         known,
-        applicable-from s r same a known kept (subst (λ (x : Action). applicable x r ≡ true) e (h .1)),
+        sym (applicable-same s r same a known kept) ∙ subst (λ (x : Action). applicable x r ≡ true) e (h .1),
         runs-from (apply (actionOf t a) s) (apply (reducedAction t A (actionOf t a)) r) (step-reduces s r a known kept same) p
             (subst (λ (x : Action). Runs (reducedBy t A) (apply x r) p) e (h .2)),
       )

@@ -1,20 +1,21 @@
--- What the kept actions ask is named, dropped variables keep their start value, and new numbers tell kept facts apart.
+-- What the kept actions ask is named, dropped variables keep their start value, and new numbers tell kept facts apart: by
+-- them a condition admits the same values.
 use Prim.Native.Nat.{ℕ, _<_}
-use mathlib.Core.Path.{_≡_, refl, sym, ap, subst, _∙_}
+use mathlib.Core.Path.{_≡_, refl, sym, ap, _∙_}
 use mathlib.Core.Bool.{Bool, true, false, not, _&&_, _||_}
 use mathlib.Core.List.{List, [], _∷_}
-use mathlib.Core.Logic.{⊎-elim}
 use mathlib.Core.Option.{some, Option·map}
 use native.Mathlib.Omega.{arith}
 use lib.Dec.{eqb}
 use borrow.Author.Tests.{eqb-true, eqb-false, eq-eqb, ne-eqb, not-true}
 use Rattle.files.specs.Below.{allBelow, countBelow}
-use Rattle.files.specs.Task.{Pair, pair, actionCount, actionOf, sizeOf, startOf, valueIn, Task}
-use Rattle.files.proofs.Logic.{clash, split, cond-case, and-split, and-join, or-left, or-right}
+use Rattle.files.specs.Task.{Pair, Task, pair, variableCount, actionCount, actionOf, sizeOf, startOf, valueIn}
+use Rattle.files.proofs.Logic.{clash, split, and-split, and-join, or-left, or-right}
 use Rattle.files.proofs.BelowLaws.{anyBelow-intro, allBelow-elim, count-strict, rank-injective}
 use Rattle.files.proofs.Valid.{Valid}
-use Rattle.plans.specs.State.{hasFact}
-use Rattle.plans.proofs.FactLaws.{FactValid, fact-here, fact-later, fact-none, fact-cases, fact-valid}
+use Rattle.plans.specs.State.{admits, hasFact}
+use Rattle.plans.proofs.AdmitsLaws.{admits-some, admits-renumbered}
+use Rattle.plans.proofs.FactLaws.{FactValid, fact-first, fact-valid}
 use Rattle.marking.proofs.LinkLaws.{unthreatened-effect}
 use Rattle.marking.specs.Links.{threatened}
 use Rattle.reduction.specs.Named.{named, hasNamed, settled, keptVariable}
@@ -61,72 +62,6 @@ module _ (t : Task) (A : ℕ → Bool) where
   unfolding newVariable
   newVariable-injective u v ku kv e = rank-injective (keptVariable t A) u v ku kv e
 
-  -- a fact of reduced pairs, and the fact that it was
-  pub record Was (pairs : List Pair) (variable value : ℕ) : Type 0 where
-    pub oldVariable : ℕ
-    pub oldValue : ℕ
-    pub is-kept : keptVariable t A oldVariable ≡ true
-    pub is-fact : hasFact pairs oldVariable oldValue ≡ true
-    pub same-variable : newVariable t A oldVariable ≡ variable
-    pub same-value : newValue t A oldVariable oldValue ≡ value
-
-  pub reduced-was : (pairs : List Pair) (variable value : ℕ) → hasFact (reducedPairs t A pairs) variable value ≡ true → Was pairs variable value
-  unfolding reducedPairs
-  reduced-was [] w e h = clash h (fact-none w e)
-  reduced-was (p ∷ ps) w e h =
-      let later : Was ps w e → Was (p ∷ ps) w e
-      = λ r.
-      record {
-        oldVariable = r .oldVariable;
-        oldValue = r .oldValue;
-        is-kept = r .is-kept;
-        is-fact = fact-later p ps (r .oldVariable) (r .oldValue) (r .is-fact);
-        same-variable = r .same-variable;
-        same-value = r .same-value;
-      } in
-      let first = pair (newVariable t A (p .variable)) (newValue t A (p .variable) (p .value)) in
-      split (keptVariable t A (p .variable))
-      (λ k.
-      let h′ : hasFact (first ∷ reducedPairs t A ps) w e ≡ true = rw k at h in
-      ⊎-elim
-      (λ here.
-      record {
-        oldVariable = p .variable;
-        oldValue = p .value;
-        is-kept = k;
-        is-fact = fact-here p ps;
-        same-variable = here .0;
-        same-value = here .1;
-      })
-      (λ there. later (reduced-was ps w e there))
-      (fact-cases first (reducedPairs t A ps) w e h′))
-      (λ k. let h′ : hasFact (reducedPairs t A ps) w e ≡ true = rw k at h in later (reduced-was ps w e h′))
-
-  pub reduced-fact : (pairs : List Pair) (v value : ℕ) → keptVariable t A v ≡ true → hasFact pairs v value ≡ true → hasFact (reducedPairs t A pairs) (newVariable t A v) (newValue t A v value) ≡ true
-  unfolding reducedPairs
-  reduced-fact [] v value kv h = clash h (fact-none v value)
-  reduced-fact (p ∷ ps) v value kv h =
-      let first = pair (newVariable t A (p .variable)) (newValue t A (p .variable) (p .value)) in
-      cond-case
-      (λ (l : List Pair). hasFact l (newVariable t A v) (newValue t A v value) ≡ true)
-      (keptVariable t A (p .variable))
-      (first ∷ reducedPairs t A ps)
-      (reducedPairs t A ps)
-      (λ k.
-      ⊎-elim
-      (λ here.
-      subst
-      (λ (w : ℕ). hasFact (first ∷ reducedPairs t A ps) (newVariable t A w) (newValue t A w value) ≡ true)
-      (here .0)
-      (subst (λ (x : ℕ). hasFact (first ∷ reducedPairs t A ps) (newVariable t A (p .variable)) (newValue t A (p .variable) x) ≡ true) (here .1) (fact-here first (reducedPairs t A ps))))
-      (λ there. fact-later first (reducedPairs t A ps) (newVariable t A v) (newValue t A v value) (reduced-fact ps v value kv there))
-      (fact-cases p ps v value h))
-      (λ k.
-      ⊎-elim
-      (λ here. clash (ap (keptVariable t A) (here .0) ∙ kv) k)
-      (λ there. reduced-fact ps v value kv there)
-      (fact-cases p ps v value h))
-
   -- what reduced effects set a kept variable to
   pub reduced-value : (effects : List Pair) (v : ℕ) → keptVariable t A v ≡ true → valueIn (reducedPairs t A effects) (newVariable t A v) ≡ Option·map (newValue t A v) (valueIn effects v)
   unfolding reducedPairs
@@ -147,7 +82,7 @@ module _ (t : Task) (A : ℕ → Bool) where
       let e : eqb (p .variable) v ≡ false = ne-eqb (p .variable) v (λ q. clash (ap (keptVariable t A) q ∙ kv) k) in
       rw (k, e) (reduced-value ps v kv))
 
-  -- facts of the task that are named
+  -- conditions that admit named values of the task alone
   abbrev pub NamedFacts : List Pair → Type 0
   NamedFacts pairs = (v value : ℕ) → hasFact pairs v value ≡ true → (named t A v value ≡ true) × FactValid t 0 v value
 
@@ -162,3 +97,27 @@ module _ (t : Task) (A : ℕ → Bool) where
         (anyBelow-intro (actionCount t) (λ b. A b && hasFact (actionOf t b .conditions) v value) a known (and-join kept h)),
     fact-valid t 0 (actionOf t a .conditions) v value (ok .action a .conditions) h,
   )
+
+  abbrev pub reducedPair : Pair → Pair
+  reducedPair p = pair (newVariable t A (p .variable)) (newValue t A (p .variable) (p .value))
+
+  -- the first of such conditions: on a kept variable it admits the new numbers of the values that it admits; a dropped
+  -- variable is settled, and it admits the start value
+  module _ (p : Pair) (ps : List Pair) (n : NamedFacts (p ∷ ps)) where
+    first-named : (value : ℕ) → admits p value ≡ true → (named t A (p .variable) value ≡ true) × FactValid t 0 (p .variable) value
+    first-named value e = n (p .variable) value (fact-first p ps value e)
+
+    pub first-known : p .variable < variableCount t
+    first-known = let some-value = admits-some p in first-named (some-value .0) (some-value .1) .1 .known
+
+    pub reducedPair-admits : (value : ℕ) → admits (reducedPair p) (newValue t A (p .variable) value) ≡ admits p value
+    reducedPair-admits value =
+        admits-renumbered p (newVariable t A (p .variable)) (newValue t A (p .variable)) value
+        (λ d e same. let fact = first-named d e in newValue-injective (p .variable) d value (fact .0) (fact .1 .inside) same)
+
+    pub dropped-admits : keptVariable t A (p .variable) ≡ false → (settled t A (p .variable) ≡ true) × (admits p (startOf t (p .variable)) ≡ true)
+    dropped-admits k =
+        let some-value = admits-some p in
+        let fact = first-named (some-value .0) (some-value .1) in
+        let start = dropped-start (p .variable) (some-value .0) (fact .0) (fact .1 .inside) k in
+        (start .0, sym (ap (admits p) (start .1)) ∙ some-value .1)

@@ -10,15 +10,16 @@ use lib.Dec.{eqb}
 use lib.ListN.{getD}
 use borrow.Author.Tests.{eqb-true, eqb-false}
 use Rattle.files.specs.Below.{allBelow}
-use Rattle.files.specs.Task.{Pair, Action, valueIn}
+use Rattle.files.specs.Task.{Pair, Action, pair, valueIn}
 use Rattle.files.specs.Dense.{rowPairs}
 use Rattle.files.proofs.BelowLaws.{allBelow-intro, allBelow-elim}
 use Rattle.files.proofs.Countdown.{one-more}
 use Rattle.files.proofs.Logic.{split, split-le, and-split, and-join}
 use Rattle.files.proofs.RowLaws.{rowPairs-none, rowPairs-skip, rowPairs-next}
 use Rattle.files.proofs.RowValues.{entryValue, rowPairs-value, rowPairs-behind}
-use Rattle.plans.specs.State.{State, admits, holds, allHold, apply}
+use Rattle.plans.specs.State.{State, holds, allHold, apply}
 use Rattle.plans.specs.Tally.{meetsEntry, afterEntry}
+use Rattle.plans.proofs.AdmitsLaws.{admits-is}
 use Rattle.plans.proofs.RowStates.{meets-none, meets-some, after-none, after-some}
 use Rattle.files.proofs.Truth.{same-truth}
 
@@ -28,7 +29,7 @@ module _ (row : List ℕ) (base : ℕ) (s : State) where
   meetsAt v = meetsEntry (getD row (base + v) 0) (s v)
 
   hold-more : (v left rest : ℕ) → left ≡ suc rest → allHold (rowPairs row base v left) s ≡ meetsAt v && allHold (rowPairs row base (v + 1) rest) s
-  unfolding allHold holds admits
+  unfolding allHold holds
   hold-more v left rest more =
       let x = getD row (base + v) 0 in
       let later : Bool = allHold (rowPairs row base (v + 1) rest) s in
@@ -38,7 +39,7 @@ module _ (row : List ℕ) (base : ℕ) (s : State) where
       ∙ ap (λ (t : Bool). t && later) (meets-none x (s v) (eqb-true x 255 e)))
       (λ e.
       ap (λ (l : List Pair). allHold l s) (rowPairs-next row base v left x more refl (eqb-false x 255 e))
-      ∙ ap (λ (t : Bool). t && later) (meets-some x (s v) (eqb-false x 255 e)))
+      ∙ ap (λ (t : Bool). t && later) (admits-is (pair v x) (s v) ∙ meets-some x (s v) (eqb-false x 255 e)))
 
   -- conditions, as a loop that counts down wants them
   module _ (v left : ℕ) where
