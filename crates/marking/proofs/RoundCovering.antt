@@ -8,12 +8,11 @@ use lib.Dec.{eqb}
 use lib.ListN.{getD}
 use borrow.Author.Tests.{eqb-true, eqb-false, eq-eqb, ne-eqb}
 use Rattle.files.specs.Below.{anyBelow, allBelow, bit}
-use Rattle.files.specs.Dense.{Arrays, rowPairs, held}
+use Rattle.files.specs.Dense.{Arrays, held}
 use Rattle.files.specs.Task.{Pair, actionOf, actionCount, variableCount, valueIn}
 use Rattle.files.proofs.Logic.{split}
 use Rattle.files.proofs.RowValues.{entryValue, rowPairs-value}
 use Rattle.files.proofs.Tabulate.{tabulate-entry}
-use Rattle.plans.specs.State.{hasFact}
 use Rattle.marking.specs.Marks.{Marks}
 use Rattle.marking.specs.Links.{tracked}
 use Rattle.marking.specs.Covering.{sameEffect, couldCover, covers, covered}
@@ -22,8 +21,7 @@ use Rattle.marking.specs.Dense.{isMarked, askedBy, unlike, coversAt, cov
 use Rattle.marking.proofs.HeldTask.{variables-held, actions-held, cost-held, conditions-held, effectAt, effects-held}
 use Rattle.marking.proofs.CoverRows.{could-same}
 use Rattle.marking.proofs.RoundLaws.{trackedMarks-at}
-use Rattle.marking.proofs.RowTests.{any-row, row-fact}
-use Rattle.files.proofs.Truth.{any-same, all-any, all-of-any, count-none, bit-marked}
+use Rattle.files.proofs.Truth.{any-same, all-any, count-none, bit-marked}
 
 -- effects by their entries
 same-entries : (x y : ℕ) → sameEffect (entryValue x) (entryValue y) ≡ eqb x y

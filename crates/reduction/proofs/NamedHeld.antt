@@ -17,7 +17,6 @@ use Rattle.files.proofs.Logic.{clash, split, split-le, and-split, or-split}
 use Rattle.files.proofs.Valid.{Valid}
 use Rattle.plans.specs.State.{hasFact}
 use Rattle.plans.proofs.FactLaws.{fact-valid}
-use Rattle.marking.specs.Marks.{names}
 use Rattle.marking.specs.Links.{threatened}
 use Rattle.marking.specs.Dense.{isMarked, differ, otherThan, threatens, threatensAnew, rowNames, namesAnew}
 use Rattle.marking.proofs.HeldTask.{actions-held, size-held, start-held, goal-held, conditions-held, effectAt, threatened-held, condition-valid, goal-valid}
