@@ -19,14 +19,14 @@ checkedNumbers c =
 unfoldable pub markedNumbers : Marked → List ℕ
 markedNumbers m =
     m .outcome .number ∷ m .outcome .file ∷ m .outcome .place ∷ m .rounds ∷ 0 ∷ 0
-    ∷ m .actions ∷ m .facts ∷ 0 ∷ 0 ∷ 0 ∷ 0 ∷ []
+    ∷ m .«action_marks» ∷ m .«fact_marks» ∷ 0 ∷ 0 ∷ 0 ∷ 0 ∷ []
 
 unfoldable pub reducedNumbers : Reduced → List ℕ
 reducedNumbers r =
     r .outcome .number ∷ r .outcome .file ∷ r .outcome .place ∷ r .rounds ∷ 0 ∷ 0
-    ∷ r .actions ∷ r .facts ∷ r .reduced ∷ r .origin ∷ 0 ∷ 0 ∷ []
+    ∷ r .«action_marks» ∷ r .«fact_marks» ∷ r .reduced ∷ r .origin ∷ 0 ∷ 0 ∷ []
 
 unfoldable pub plannedNumbers : Planned → List ℕ
 plannedNumbers p =
     p .outcome .number ∷ p .outcome .file ∷ p .outcome .place ∷ p .rounds ∷ p .cost .0 ∷ p .steps .0
-    ∷ p .actions ∷ p .facts ∷ p .reduced ∷ p .origin ∷ p .table ∷ p .plan ∷ []
+    ∷ p .«action_marks» ∷ p .«fact_marks» ∷ p .reduced ∷ p .origin ∷ p .table ∷ p .plan ∷ []

@@ -67,8 +67,8 @@ fn print_answer(answer: search::Planned) {
     let cost = answer.cost;
     let steps = answer.steps;
     lines::print_outcome(outcome);
-    lines::print_next(answer.actions);
-    lines::print_next(answer.facts);
+    lines::print_next(answer.action_marks);
+    lines::print_next(answer.fact_marks);
     lines::print_next(answer.reduced);
     lines::print_next(answer.origin);
     lines::print_next(answer.table);

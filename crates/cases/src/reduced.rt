@@ -66,8 +66,8 @@ fn reduce_into(
 fn print_answer(answer: reduction::Reduced) {
     let outcome = answer.outcome;
     lines::print_outcome(outcome);
-    lines::print_next(answer.actions);
-    lines::print_next(answer.facts);
+    lines::print_next(answer.action_marks);
+    lines::print_next(answer.fact_marks);
     lines::print_next(answer.reduced);
     lines::print_next(answer.origin);
     lines::print_next(answer.rounds);

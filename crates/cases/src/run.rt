@@ -108,9 +108,9 @@ fn mark_file(file: &[u8], actions: &mut [u8], facts: &mut [u8]) {
     let outcome = marked.outcome;
     lines::print_outcome(outcome);
     lines::print_byte(b' ');
-    lines::print_number(marked.actions);
+    lines::print_number(marked.action_marks);
     lines::print_byte(b' ');
-    lines::print_number(marked.facts);
+    lines::print_number(marked.fact_marks);
     lines::print_byte(b' ');
     lines::print_number(marked.rounds);
     lines::print_byte(b' ');

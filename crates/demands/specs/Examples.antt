@@ -3,7 +3,7 @@ use Prim.Native.Nat.{ℕ}
 use mathlib.Core.List.{List, [], _∷_, _++_}
 use lib.ListN.{replicate}
 use Rattle.files.specs.Bytes.{u16Bytes}
-use Rattle.files.specs.Examples.{fileE, fileWithoutLine, fileLampAlone, outcomeNumbers, Case, case}
+use Rattle.files.specs.Examples.{fileE, fileWithoutLine, fileLampAlone, outcomeParts, Case, case}
 use Rattle.files.specs.Records.{recordBytes}
 use Rattle.files.specs.TaskFile.{checkTask}
 use Rattle.files.specs.PlanFile.{planFile}
@@ -36,10 +36,10 @@ reducedE =
 
 -- answers as numbers
 abbrev pub checkNumbers : Checked → List ℕ
-checkNumbers c = outcomeNumbers (c .outcome) ++ (c .cost .0 ∷ c .steps .0 ∷ [])
+checkNumbers c = outcomeParts (c .outcome) ++ (c .cost .0 ∷ c .steps .0 ∷ [])
 
 abbrev pub planNumbers : Planned → List ℕ
-planNumbers p = outcomeNumbers (p .outcome) ++ (p .cost .0 ∷ p .steps .0 ∷ [])
+planNumbers p = outcomeParts (p .outcome) ++ (p .cost .0 ∷ p .steps .0 ∷ [])
 
 -- buffers that held 9 before
 abbrev pub used : ℕ → List ℕ
@@ -49,15 +49,15 @@ used n = replicate n 9
 abbrev pub keptNumbers : List ℕ → ℕ → List ℕ
 keptNumbers file level =
     let m = mark file level 7 8 in
-    outcomeNumbers (m .outcome) ++ (m .rounds ∷ []) ++ markedActions file level (used 7) (used 8)
+    outcomeParts (m .outcome) ++ (m .rounds ∷ []) ++ markedActions file level (used 7) (used 8)
 
 unfoldable pub cases : List Case
 cases =
     -- empty file, 1 at 0
-    case (outcomeNumbers (checkTask [])) (1 ∷ 0 ∷ 0 ∷ [])
+    case (outcomeParts (checkTask [])) (1 ∷ 0 ∷ 0 ∷ [])
     -- header with 65 variables, 4 at 4; 64 passes there, and the file ends at 8
-    ∷ case (outcomeNumbers (checkTask (headerOf 65))) (4 ∷ 0 ∷ 4 ∷ [])
-    ∷ case (outcomeNumbers (checkTask (headerOf 64))) (1 ∷ 0 ∷ 8 ∷ [])
+    ∷ case (outcomeParts (checkTask (headerOf 65))) (4 ∷ 0 ∷ 4 ∷ [])
+    ∷ case (outcomeParts (checkTask (headerOf 64))) (1 ∷ 0 ∷ 8 ∷ [])
     -- level 1 keeps all in 3 rounds; 2 keeps 0 1 2 4 in 3; 3 keeps 0 1 2 in 3; 4 keeps 0 1 in 2
     ∷ case (keptNumbers fileE 1) (0 ∷ 0 ∷ 0 ∷ 3 ∷ 1 ∷ 1 ∷ 1 ∷ 1 ∷ 1 ∷ 1 ∷ 1 ∷ [])
     ∷ case (keptNumbers fileE 2) (0 ∷ 0 ∷ 0 ∷ 3 ∷ 1 ∷ 1 ∷ 1 ∷ 0 ∷ 1 ∷ 0 ∷ 0 ∷ [])

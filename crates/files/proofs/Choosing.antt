@@ -14,9 +14,9 @@ use Rattle.files.proofs.RowLaws.{rowNumbers-length}
 use Rattle.files.proofs.Tabulate.{tabulate-is, tabulate-entry}
 
 -- an entry of the numbers so far
-row-entry : (l : List ℕ) (k i : ℕ) → i < k → getD (rowNumbers l 0 k) i 0 ≡ getD l i 0
+row-cell : (l : List ℕ) (k i : ℕ) → i < k → getD (rowNumbers l 0 k) i 0 ≡ getD l i 0
 unfolding rowNumbers
-row-entry l k i h = tabulate-entry (λ (j : ℕ). getD l (0 + j) 0) k i 0 h ∙ ap (λ (n : ℕ). getD l n 0) (omega arith)
+row-cell l k i h = tabulate-entry (λ (j : ℕ). getD l (0 + j) 0) k i 0 h ∙ ap (λ (n : ℕ). getD l n 0) (omega arith)
 
 -- a list with these entries
 row-is : (n : ℕ) (row list : List ℕ) → length list ≡ n → ((i : ℕ) → i < n → getD row i 0 ≡ getD list i 0) → rowNumbers row 0 n ≡ list
@@ -41,7 +41,7 @@ row-append l k x h =
     rw (← here) (getD-set-same l k x 0 h ∙ sym (getD-at (rowNumbers l 0 k) x [] 0 k (rowNumbers-length l 0 k))))
     (λ a.
     getD-set-other l k i x 0 (omega arith)
-    ∙ sym (List·getD-append (rowNumbers l 0 k) (x ∷ []) 0 i (omega (arith, rowNumbers-length l 0 k)) ∙ row-entry l k i a)))
+    ∙ sym (List·getD-append (rowNumbers l 0 k) (x ∷ []) 0 i (omega (arith, rowNumbers-length l 0 k)) ∙ row-cell l k i a)))
 
 -- a number more where a test passes
 row-pushed : (t : Bool) (l : List ℕ) (k x : ℕ) → k < length l → rowNumbers (cond t (set l k x) l) 0 (k + bit t) ≡ rowNumbers l 0 k ++ cond t (x ∷ []) []

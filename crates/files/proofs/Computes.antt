@@ -8,9 +8,9 @@ use Rattle.files.specs.PlanFile.{stepsIn, checkPlanFile, planOf, planFil
 use Rattle.files.specs.Reading.{readTask, readOrigin, readPlan}
 use Rattle.files.specs.Accepted.{validSigner, validPairs, validVariable, validAction, acceptedTask, rising, validValues, acceptedOrigin, acceptedPlan}
 use Rattle.files.specs.Dense.{rowPairs, rowVariable, rowAction, held, rowNumbers, rowOrigin, heldOrigin}
-use Rattle.files.specs.Rows.{cleared, stored, filled, filledRows, sizeEntries, startEntries, costEntries, conditionLists, effectLists}
+use Rattle.files.specs.Rows.{cleared, stored, filled, filledRows, storedSizes, storedStarts, storedCosts, conditionLists, effectLists}
 use Rattle.files.specs.Lengths.{actionNeeded, actionsNeeded, taskNeeded, originsNeeded, originNeeded}
 
 unfoldable pub computes : Unit {0}
-unfolding isDone guard andThen inSecond fits overwrite after u16At u32At u16Bytes u32Bytes placed bodyLength kindAt recordEnd recordsEnd bodyRule bodyFits headAt numbersAt signOffAt sizeFits signerOf numbersFrom numberBytes recordBytes signed headerAt variablesIn actionsIn variableAt variablesAt variablePlace sizeAt pairAt pairsAt goalAt conditionsIn effectsIn actionLength effectsPlace actionFormAt actionAt actionsAt goalPlace actionsPlace checkTask pairsFrom variablesFrom actionFrom actionsFrom taskOf actionPlace pairBytes variableBytes actionBody actionBytes taskRecords taskFile valuesIn variableOriginAt variableOriginsAt actionOriginsAt variableOriginsFrom originVariablesIn originActionsPlace checkOrigin originsFrom originOf originBody variableOriginBytes originFile stepsIn checkPlanFile planOf planFile readTask readOrigin readPlan validSigner validPairs validVariable validAction acceptedTask rising validValues acceptedOrigin acceptedPlan rowPairs rowVariable rowAction held rowNumbers rowOrigin heldOrigin cleared stored filled filledRows sizeEntries startEntries costEntries conditionLists effectLists actionNeeded actionsNeeded taskNeeded originsNeeded originNeeded
+unfolding isDone guard andThen inSecond fits overwrite after u16At u32At u16Bytes u32Bytes placed bodyLength kindAt recordEnd recordsEnd bodyRule bodyFits headAt numbersAt signOffAt sizeFits signerOf numbersFrom numberBytes recordBytes signed headerAt variablesIn actionsIn variableAt variablesAt variablePlace sizeAt pairAt pairsAt goalAt conditionsIn effectsIn actionLength effectsPlace actionFormAt actionAt actionsAt goalPlace actionsPlace checkTask pairsFrom variablesFrom actionFrom actionsFrom taskOf actionPlace pairBytes variableBytes actionBody actionBytes taskRecords taskFile valuesIn variableOriginAt variableOriginsAt actionOriginsAt variableOriginsFrom originVariablesIn originActionsPlace checkOrigin originsFrom originOf originBody variableOriginBytes originFile stepsIn checkPlanFile planOf planFile readTask readOrigin readPlan validSigner validPairs validVariable validAction acceptedTask rising validValues acceptedOrigin acceptedPlan rowPairs rowVariable rowAction held rowNumbers rowOrigin heldOrigin cleared stored filled filledRows storedSizes storedStarts storedCosts conditionLists effectLists actionNeeded actionsNeeded taskNeeded originsNeeded originNeeded
 computes = tt

@@ -1,5 +1,5 @@
 -- How the decoder's arrays are filled, step by step, as a loop that counts down wants it: what filling in the rest gives,
--- `whole`, is given again one entry further on, or is what the array holds.
+-- `whole`, is given again one cell further on, or is what the array holds.
 use Prim.Native.Nat.{ℕ, _+_, _-_, _%_, _≤_, _<_}
 use mathlib.Core.Path.{_≡_, refl, sym, ap, ap₂, _∙_}
 use mathlib.Core.List.{List}
@@ -8,7 +8,7 @@ use borrow.Author.Tests.{lt-ltb, le-ltb}
 use Rattle.files.specs.Bytes.{u16At, u32At, placed}
 use Rattle.files.specs.Records.{recordEnd}
 use Rattle.files.specs.TaskFile.{pairsFrom, variablesFrom, conditionsIn, effectsIn, effectsPlace, actionFrom, actionsFrom}
-use Rattle.files.specs.Rows.{cleared, stored, filled, filledRows, sizeEntries, startEntries, costEntries, conditionLists, effectLists}
+use Rattle.files.specs.Rows.{cleared, stored, filled, filledRows, storedSizes, storedStarts, storedCosts, conditionLists, effectLists}
 use Rattle.files.proofs.Countdown.{one-more, none-left}
 
 pub cleared-next : (row whole : List ℕ) (at k : ℕ) → cleared row at k ≡ whole → 0 < k → cleared (set row at 255) (at + 1) (k - 1) ≡ whole
@@ -39,43 +39,43 @@ pub filled-none : (row whole : List ℕ) (base : ℕ) (s : List ℕ) (at k : ℕ
 unfolding filled pairsFrom
 filled-none row whole base s at k w h = sym (ap (λ (n : ℕ). filled row base (pairsFrom s at n)) (none-left k h)) ∙ w
 
--- an entry for each variable
-pub sizes-next : (b whole : List ℕ) (i : ℕ) (s : List ℕ) (at k x : ℕ) → placed b i (sizeEntries (variablesFrom s at k)) ≡ whole → 0 < k → x ≡ u16At s (at + 4)
-    → placed (set b i (x % 256)) (i + 1) (sizeEntries (variablesFrom s (at + 8) (k - 1))) ≡ whole
-unfolding placed sizeEntries variablesFrom
+-- a cell for each variable
+pub sizes-next : (b whole : List ℕ) (i : ℕ) (s : List ℕ) (at k x : ℕ) → placed b i (storedSizes (variablesFrom s at k)) ≡ whole → 0 < k → x ≡ u16At s (at + 4)
+    → placed (set b i (x % 256)) (i + 1) (storedSizes (variablesFrom s (at + 8) (k - 1))) ≡ whole
+unfolding placed storedSizes variablesFrom
 sizes-next b whole i s at k x w h e =
-    ap (λ (y : ℕ). placed (set b i (y % 256)) (i + 1) (sizeEntries (variablesFrom s (at + 8) (k - 1)))) e
-    ∙ sym (ap (λ (n : ℕ). placed b i (sizeEntries (variablesFrom s at n))) (one-more k h))
+    ap (λ (y : ℕ). placed (set b i (y % 256)) (i + 1) (storedSizes (variablesFrom s (at + 8) (k - 1)))) e
+    ∙ sym (ap (λ (n : ℕ). placed b i (storedSizes (variablesFrom s at n))) (one-more k h))
     ∙ w
 
-pub starts-next : (b whole : List ℕ) (i : ℕ) (s : List ℕ) (at k x : ℕ) → placed b i (startEntries (variablesFrom s at k)) ≡ whole → 0 < k → x ≡ u16At s (at + 6)
-    → placed (set b i (x % 256)) (i + 1) (startEntries (variablesFrom s (at + 8) (k - 1))) ≡ whole
-unfolding placed startEntries variablesFrom
+pub starts-next : (b whole : List ℕ) (i : ℕ) (s : List ℕ) (at k x : ℕ) → placed b i (storedStarts (variablesFrom s at k)) ≡ whole → 0 < k → x ≡ u16At s (at + 6)
+    → placed (set b i (x % 256)) (i + 1) (storedStarts (variablesFrom s (at + 8) (k - 1))) ≡ whole
+unfolding placed storedStarts variablesFrom
 starts-next b whole i s at k x w h e =
-    ap (λ (y : ℕ). placed (set b i (y % 256)) (i + 1) (startEntries (variablesFrom s (at + 8) (k - 1)))) e
-    ∙ sym (ap (λ (n : ℕ). placed b i (startEntries (variablesFrom s at n))) (one-more k h))
+    ap (λ (y : ℕ). placed (set b i (y % 256)) (i + 1) (storedStarts (variablesFrom s (at + 8) (k - 1)))) e
+    ∙ sym (ap (λ (n : ℕ). placed b i (storedStarts (variablesFrom s at n))) (one-more k h))
     ∙ w
 
-pub sizes-none : (b whole : List ℕ) (i : ℕ) (s : List ℕ) (at k : ℕ) → placed b i (sizeEntries (variablesFrom s at k)) ≡ whole → k ≤ 0 → b ≡ whole
-unfolding placed sizeEntries variablesFrom
-sizes-none b whole i s at k w h = sym (ap (λ (n : ℕ). placed b i (sizeEntries (variablesFrom s at n))) (none-left k h)) ∙ w
+pub sizes-none : (b whole : List ℕ) (i : ℕ) (s : List ℕ) (at k : ℕ) → placed b i (storedSizes (variablesFrom s at k)) ≡ whole → k ≤ 0 → b ≡ whole
+unfolding placed storedSizes variablesFrom
+sizes-none b whole i s at k w h = sym (ap (λ (n : ℕ). placed b i (storedSizes (variablesFrom s at n))) (none-left k h)) ∙ w
 
-pub starts-none : (b whole : List ℕ) (i : ℕ) (s : List ℕ) (at k : ℕ) → placed b i (startEntries (variablesFrom s at k)) ≡ whole → k ≤ 0 → b ≡ whole
-unfolding placed startEntries variablesFrom
-starts-none b whole i s at k w h = sym (ap (λ (n : ℕ). placed b i (startEntries (variablesFrom s at n))) (none-left k h)) ∙ w
+pub starts-none : (b whole : List ℕ) (i : ℕ) (s : List ℕ) (at k : ℕ) → placed b i (storedStarts (variablesFrom s at k)) ≡ whole → k ≤ 0 → b ≡ whole
+unfolding placed storedStarts variablesFrom
+starts-none b whole i s at k w h = sym (ap (λ (n : ℕ). placed b i (storedStarts (variablesFrom s at n))) (none-left k h)) ∙ w
 
 -- an entry for each action
-pub costs-next : (b whole : List ℕ) (i : ℕ) (s : List ℕ) (at k x next : ℕ) → placed b i (costEntries (actionsFrom s at k)) ≡ whole → 0 < k → x ≡ u32At s (at + 4) → next ≡ recordEnd s at
-    → placed (set b i x) (i + 1) (costEntries (actionsFrom s next (k - 1))) ≡ whole
-unfolding placed costEntries actionsFrom actionFrom
+pub costs-next : (b whole : List ℕ) (i : ℕ) (s : List ℕ) (at k x next : ℕ) → placed b i (storedCosts (actionsFrom s at k)) ≡ whole → 0 < k → x ≡ u32At s (at + 4) → next ≡ recordEnd s at
+    → placed (set b i x) (i + 1) (storedCosts (actionsFrom s next (k - 1))) ≡ whole
+unfolding placed storedCosts actionsFrom actionFrom
 costs-next b whole i s at k x next w h ex en =
-    ap₂ (λ (y m : ℕ). placed (set b i y) (i + 1) (costEntries (actionsFrom s m (k - 1)))) ex en
-    ∙ sym (ap (λ (n : ℕ). placed b i (costEntries (actionsFrom s at n))) (one-more k h))
+    ap₂ (λ (y m : ℕ). placed (set b i y) (i + 1) (storedCosts (actionsFrom s m (k - 1)))) ex en
+    ∙ sym (ap (λ (n : ℕ). placed b i (storedCosts (actionsFrom s at n))) (one-more k h))
     ∙ w
 
-pub costs-none : (b whole : List ℕ) (i : ℕ) (s : List ℕ) (at k : ℕ) → placed b i (costEntries (actionsFrom s at k)) ≡ whole → k ≤ 0 → b ≡ whole
-unfolding placed costEntries actionsFrom
-costs-none b whole i s at k w h = sym (ap (λ (n : ℕ). placed b i (costEntries (actionsFrom s at n))) (none-left k h)) ∙ w
+pub costs-none : (b whole : List ℕ) (i : ℕ) (s : List ℕ) (at k : ℕ) → placed b i (storedCosts (actionsFrom s at k)) ≡ whole → k ≤ 0 → b ≡ whole
+unfolding placed storedCosts actionsFrom
+costs-none b whole i s at k w h = sym (ap (λ (n : ℕ). placed b i (storedCosts (actionsFrom s at n))) (none-left k h)) ∙ w
 
 -- a row for each action
 pub conditions-next : (rows blank rows′ whole : List ℕ) (base : ℕ) (s : List ℕ) (at k count next : ℕ) → filledRows rows base (conditionLists (actionsFrom s at k)) ≡ whole → 0 < k

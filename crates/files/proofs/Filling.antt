@@ -1,4 +1,4 @@
--- An array that is filled from the front: what holds of each entry before v and of the new one holds of each before v + 1,
+-- An array that is filled from the front: what holds of each cell before v and of the new one holds of each before v + 1,
 -- and what holds of each entry from v on holds of each from v + 1 on.
 use Prim.Native.Nat.{ℕ, _+_, _≤_, _<_}
 use mathlib.Core.Path.{_≡_, sym, subst, _∙_}
@@ -27,7 +27,7 @@ zeros-entry n w =
     (λ a. List·getD-eq-default {A = ℕ} (replicate n 0) 0 (omega (arith, length-replicate {A = ℕ} n 0)))
     (λ a. getD-replicate {A = ℕ} n w 0 0 a)
 
--- the entries before a row, where one of the row's is set
+-- the cells before a row, where one of the row's is set
 pub below-next : (l₀ l : List ℕ) (base i x : ℕ) → ((j : ℕ) → j < base → getD l j 0 ≡ getD l₀ j 0)
     → (j : ℕ) → j < base → getD (set l (base + i) x) j 0 ≡ getD l₀ j 0
 below-next l₀ l base i x before j h = getD-set-other l (base + i) j x 0 (omega arith) ∙ before j h

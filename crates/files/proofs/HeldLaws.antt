@@ -12,15 +12,15 @@ use Rattle.files.specs.Records.{bodyLength}
 use Rattle.files.specs.TaskFile.{variablesIn, actionsIn, goalPlace, actionsPlace, checkTask, pairsFrom, variablesFrom, actionsFrom, taskOf}
 use Rattle.files.specs.Accepted.{validPairs}
 use Rattle.files.specs.Dense.{rowPairs, rowVariable, rowAction, held, arrays}
-use Rattle.files.specs.Rows.{cleared, filled, filledRows, sizeEntries, startEntries, costEntries, conditionLists, effectLists}
+use Rattle.files.specs.Rows.{cleared, filled, filledRows, storedSizes, storedStarts, storedCosts, conditionLists, effectLists}
 use Rattle.files.proofs.Done.{facts}
 use Rattle.files.proofs.Valid.{Valid, task-valid}
 use Rattle.files.proofs.TaskChecked.{variable-count, action-count, task-accepted}
 use Rattle.files.proofs.Placed.{placed-in}
 use Rattle.files.proofs.Tabulate.{tabulate-is}
-use Rattle.files.proofs.RowLaws.{Ordered, entryOf, row-entry, rows-entry, rowPairs-is}
+use Rattle.files.proofs.RowLaws.{Ordered, cellOf, row-cell, rows-cell, rowPairs-is}
 
--- a list of numbers placed at the front of an array, one for each entry of a list
+-- a list of numbers placed at the front of an array, one for each cell of a list
 entry-placed : {A : Type 0} (f : A → ℕ) (l : List A) (d : A) (b : List ℕ) (i : ℕ) → f d ≡ 0 → length l ≤ length b → i < length l
     → getD (placed b 0 (map f l)) i 0 ≡ f (getD l i d)
 entry-placed f l d b i z r h =
@@ -31,16 +31,16 @@ entry-placed f l d b i z r h =
 
 module _ (t : Task) (ok : Valid t) where
   -- the pairs of an accepted task are ordered
-  pub pairs-ordered : (low : ℕ) (ps : List Pair) → validPairs t low ps ≡ true → Ordered (variableCount t) low ps
+  pub pairs-ordered : (at-least : ℕ) (ps : List Pair) → validPairs t at-least ps ≡ true → Ordered (variableCount t) at-least ps
   unfolding validPairs
-  pairs-ordered low [] e = tt
-  pairs-ordered low (p ∷ ps) e =
+  pairs-ordered at-least [] e = tt
+  pairs-ordered at-least (p ∷ ps) e =
       let q = simp facts at e in
       (q .0, q .1 .0, omega (arith, q .1 .1 .0, ok .size-most (p .variable)), pairs-ordered (p .variable + 1) ps (q .1 .1 .1))
 
   held-variables : (sizes starts : List ℕ) → 64 ≤ length sizes → 64 ≤ length starts
-      → tabulate (variableCount t) (rowVariable (placed sizes 0 (sizeEntries (t .variables))) (placed starts 0 (startEntries (t .variables)))) ≡ t .variables
-  unfolding rowVariable sizeEntries startEntries
+      → tabulate (variableCount t) (rowVariable (placed sizes 0 (storedSizes (t .variables))) (placed starts 0 (storedStarts (t .variables)))) ≡ t .variables
+  unfolding rowVariable storedSizes storedStarts
   held-variables sizes starts a b =
       tabulate-is _ (variableCount t) (t .variables) (variable 0 0) refl
       (λ v h.
@@ -55,7 +55,7 @@ module _ (t : Task) (ok : Valid t) where
   held-goal : (goal : List ℕ) → 64 ≤ length goal → rowPairs (filled (cleared goal 0 64) 0 (t .goal)) 0 0 (variableCount t) ≡ t .goal
   held-goal goal r =
       rowPairs-is (variableCount t) _ 0 0 (variableCount t) (t .goal) (omega arith) (pairs-ordered 0 (t .goal) (ok .goal))
-      (λ v a b. row-entry (variableCount t) goal 0 (t .goal) v (ok .variables-few) (omega (arith, ok .variables-few)) (omega arith) (pairs-ordered 0 (t .goal) (ok .goal)))
+      (λ v a b. row-cell (variableCount t) goal 0 (t .goal) v (ok .variables-few) (omega (arith, ok .variables-few)) (omega arith) (pairs-ordered 0 (t .goal) (ok .goal)))
 
   -- the rows of one list of pairs an action
   held-rows : (f : Action → List Pair) (rows : List ℕ) → f (action 0 [] []) ≡ [] → 64 * actionCount t ≤ length rows
@@ -68,13 +68,13 @@ module _ (t : Task) (ok : Valid t) where
       rowPairs-is (variableCount t) _ (64 * a) 0 (variableCount t) (f (actionOf t a)) (omega arith) (o a h)
       (λ v x y.
       ap (λ (i : ℕ). getD (filledRows rows 0 lists) i 0) (omega arith)
-      ∙ rows-entry (variableCount t) rows 0 lists a v (ok .variables-few) (omega (arith, ok .variables-few)) (omega arith) (omega arith)
+      ∙ rows-cell (variableCount t) rows 0 lists a v (ok .variables-few) (omega (arith, ok .variables-few)) (omega arith) (omega arith)
       (λ k l. rw at (o k (omega arith)))
-      ∙ ap (λ (ps : List Pair). entryOf ps v) (at a))
+      ∙ ap (λ (ps : List Pair). cellOf ps v) (at a))
 
   held-actions : (costs conditions effects : List ℕ) → actionCount t ≤ length costs → 64 * actionCount t ≤ length conditions → 64 * actionCount t ≤ length effects
-      → tabulate (actionCount t) (rowAction (variableCount t) (placed costs 0 (costEntries (t .actions))) (filledRows conditions 0 (conditionLists (t .actions))) (filledRows effects 0 (effectLists (t .actions)))) ≡ t .actions
-  unfolding rowAction costEntries conditionLists effectLists
+      → tabulate (actionCount t) (rowAction (variableCount t) (placed costs 0 (storedCosts (t .actions))) (filledRows conditions 0 (conditionLists (t .actions))) (filledRows effects 0 (effectLists (t .actions)))) ≡ t .actions
+  unfolding rowAction storedCosts conditionLists effectLists
   held-actions costs conditions effects a b c =
       tabulate-is _ (actionCount t) (t .actions) (action 0 [] []) refl
       (λ k h.
@@ -86,10 +86,10 @@ module _ (t : Task) (ok : Valid t) where
   pub held-task : (sizes starts goal costs conditions effects : List ℕ)
       → 64 ≤ length sizes → 64 ≤ length starts → 64 ≤ length goal → actionCount t ≤ length costs → 64 * actionCount t ≤ length conditions → 64 * actionCount t ≤ length effects
       → held (arrays (variableCount t) (actionCount t)
-      (placed sizes 0 (sizeEntries (t .variables)))
-      (placed starts 0 (startEntries (t .variables)))
+      (placed sizes 0 (storedSizes (t .variables)))
+      (placed starts 0 (storedStarts (t .variables)))
       (filled (cleared goal 0 64) 0 (t .goal))
-      (placed costs 0 (costEntries (t .actions)))
+      (placed costs 0 (storedCosts (t .actions)))
       (filledRows conditions 0 (conditionLists (t .actions)))
       (filledRows effects 0 (effectLists (t .actions))))
       ≡ t
@@ -114,11 +114,11 @@ module _ (f : List ℕ) (octets : Octets f) (passes : checkTask f .number ≡ 0)
   pub held-file : (variables actions goalAt at length′ : ℕ) (sizes₀ sizes starts₀ starts goal₀ blank goal costs₀ costs conditions₀ conditions effects₀ effects : List ℕ)
       → variables ≡ variablesIn f → actions ≡ actionsIn f → goalAt ≡ goalPlace f → at ≡ actionsPlace f → length′ ≡ bodyLength f goalAt
       → 64 ≤ length sizes₀ → 64 ≤ length starts₀ → 64 ≤ length goal₀ → 512 ≤ length costs₀ → 32768 ≤ length conditions₀ → 32768 ≤ length effects₀
-      → sizes ≡ placed sizes₀ 0 (sizeEntries (variablesFrom f 8 variables))
-      → starts ≡ placed starts₀ 0 (startEntries (variablesFrom f 8 variables))
+      → sizes ≡ placed sizes₀ 0 (storedSizes (variablesFrom f 8 variables))
+      → starts ≡ placed starts₀ 0 (storedStarts (variablesFrom f 8 variables))
       → blank ≡ cleared goal₀ 0 64
       → goal ≡ filled blank 0 (pairsFrom f (goalAt + 4) (length′ / 4))
-      → costs ≡ placed costs₀ 0 (costEntries (actionsFrom f at actions))
+      → costs ≡ placed costs₀ 0 (storedCosts (actionsFrom f at actions))
       → conditions ≡ filledRows conditions₀ 0 (conditionLists (actionsFrom f at actions))
       → effects ≡ filledRows effects₀ 0 (effectLists (actionsFrom f at actions))
       → held (arrays (variablesIn f) (actionsIn f) sizes starts goal costs conditions effects) ≡ taskOf f
@@ -128,13 +128,13 @@ module _ (f : List ℕ) (octets : Octets f) (passes : checkTask f .number ≡ 0)
       let listed : List Action = actionsFrom f (actionsPlace f) (actionsIn f) in
       let read : actionsFrom f at actions ≡ listed = ap₂ (actionsFrom f) et ea in
       let known : variablesFrom f 8 variables ≡ variablesFrom f 8 (variablesIn f) = ap (variablesFrom f 8) ev in
-      let size : sizes ≡ placed sizes₀ 0 (sizeEntries (t .variables)) = es ∙ ap (λ (l : List Variable). placed sizes₀ 0 (sizeEntries l)) known in
-      let start : starts ≡ placed starts₀ 0 (startEntries (t .variables)) = er ∙ ap (λ (l : List Variable). placed starts₀ 0 (startEntries l)) known in
+      let size : sizes ≡ placed sizes₀ 0 (storedSizes (t .variables)) = es ∙ ap (λ (l : List Variable). placed sizes₀ 0 (storedSizes l)) known in
+      let start : starts ≡ placed starts₀ 0 (storedStarts (t .variables)) = er ∙ ap (λ (l : List Variable). placed starts₀ 0 (storedStarts l)) known in
       let count : length′ ≡ bodyLength f (goalPlace f) = el ∙ ap (bodyLength f) eg in
       let aim : goal ≡ filled (cleared goal₀ 0 64) 0 (t .goal) =
       eo ∙ ap (λ (l : List ℕ). filled l 0 (pairsFrom f (goalAt + 4) (length′ / 4))) eb
       ∙ ap₂ (λ (p n : ℕ). filled (cleared goal₀ 0 64) 0 (pairsFrom f (p + 4) (n / 4))) eg count in
-      let cost : costs ≡ placed costs₀ 0 (costEntries (t .actions)) = ec ∙ ap (λ (l : List Action). placed costs₀ 0 (costEntries l)) read in
+      let cost : costs ≡ placed costs₀ 0 (storedCosts (t .actions)) = ec ∙ ap (λ (l : List Action). placed costs₀ 0 (storedCosts l)) read in
       let asked : conditions ≡ filledRows conditions₀ 0 (conditionLists (t .actions)) = ed ∙ ap (λ (l : List Action). filledRows conditions₀ 0 (conditionLists l)) read in
       let set : effects ≡ filledRows effects₀ 0 (effectLists (t .actions)) = ef ∙ ap (λ (l : List Action). filledRows effects₀ 0 (effectLists l)) read in
       let vc : variablesIn f ≡ variableCount t = sym (variable-count f) in

@@ -139,10 +139,10 @@ module _ (s : List ℕ) where
   variables-in at zero end e h = in-done (omega arith)
   variables-in at (suc count) end e h = in-both (variable-in at h) (variables-in (at + 8) count end (omega arith))
 
-  pairs-in : {P : Type 0} → P → (low at count : ℕ) → at + 4 * count ≤ length s → InFile P (pairsAt s low at count)
+  pairs-in : {P : Type 0} → P → (at-least at count : ℕ) → at + 4 * count ≤ length s → InFile P (pairsAt s at-least at count)
   unfolding pairsAt pairAt
-  pairs-in k low at zero h = in-done k
-  pairs-in {P} k low at (suc count) h =
+  pairs-in k at-least at zero h = in-done k
+  pairs-in {P} k at-least at (suc count) h =
       let inside : (at ≤ length s) × (at + 2 ≤ length s) = omega arith in
       in-both {Q = P} (search (in-guard, in-done)) (λ k. pairs-in k (u16At s at + 1) (at + 4) count (omega arith))
 
@@ -176,23 +176,23 @@ module _ (s : List ℕ) where
       (λ end. in-both (goal-in (goalPlace s) end) (actions-in (actionsPlace s) (actionsIn s)))))
       .outcome
 
-  variable-origin-in : (low at : ℕ) → at ≤ length s → InFile (recordEnd s at ≤ length s) (variableOriginAt s low at)
+  variable-origin-in : (at-least at : ℕ) → at ≤ length s → InFile (recordEnd s at ≤ length s) (variableOriginAt s at-least at)
   unfolding variableOriginAt bodyRule recordEnd valuesIn
-  variable-origin-in low at h =
+  variable-origin-in at-least at h =
       in-both (head-in at 6 h)
       (λ body. in-guard _ 6 (at + 4) _ refl (omega arith)
       (λ e. in-guard _ 5 (at + 4) _ refl (omega arith)
       (λ e. numbers-in (body .1) 32 (at + 6) (valuesIn s at) (omega arith))))
 
-  variable-origins-in : (low at count : ℕ) → at ≤ length s → InFile (recordsEnd s at count ≤ length s) (variableOriginsAt s low at count)
+  variable-origins-in : (at-least at count : ℕ) → at ≤ length s → InFile (recordsEnd s at count ≤ length s) (variableOriginsAt s at-least at count)
   unfolding variableOriginsAt recordsEnd
-  variable-origins-in low at zero h = in-done h
-  variable-origins-in low at (suc count) h = in-both (variable-origin-in low at h) (variable-origins-in (u16At s (at + 4) + 1) (recordEnd s at) count)
+  variable-origins-in at-least at zero h = in-done h
+  variable-origins-in at-least at (suc count) h = in-both (variable-origin-in at-least at h) (variable-origins-in (u16At s (at + 4) + 1) (recordEnd s at) count)
 
-  action-origins-in : {P : Type 0} → P → (low at count : ℕ) → at + 2 * count ≤ length s → InFile P (actionOriginsAt s low at count)
+  action-origins-in : {P : Type 0} → P → (at-least at count : ℕ) → at + 2 * count ≤ length s → InFile P (actionOriginsAt s at-least at count)
   unfolding actionOriginsAt
-  action-origins-in k low at zero h = in-done k
-  action-origins-in k low at (suc count) h =
+  action-origins-in k at-least at zero h = in-done k
+  action-origins-in k at-least at (suc count) h =
       in-guard _ 6 at _ refl (omega arith)
       (λ e. in-guard _ 5 at _ refl (omega arith) (λ e. action-origins-in k (u16At s at + 1) (at + 2) count (omega arith)))
 

@@ -38,7 +38,7 @@ origin-bytes-few (v ∷ vs) h =
 
 module _ (f : List ℕ) where
   -- a variable origin whose check is done
-  module _ (low at : ℕ) (e : variableOriginAt f low at .number ≡ 0) where
+  module _ (at-least at : ℕ) (e : variableOriginAt f at-least at .number ≡ 0) where
     origin-recorded : Octets f → Recorded f at 6 (originBody (originRead f at))
     unfolding variableOriginAt headAt bodyFits bodyRule recordEnd valuesIn originBody u16Bytes
     origin-recorded o =
@@ -61,56 +61,56 @@ module _ (f : List ℕ) where
         let count = numbers-length f (at + 6) (valuesIn f at) in
         simp facts (omega arith, (omega arith, numbers-under 32 f (at + 6) (valuesIn f at) (found .1 .1 .1)))
 
-  pub origins-checked : (low at count : ℕ) → variableOriginsAt f low at count .number ≡ 0 → allOf validValues (originsFrom f at count) ≡ true
+  pub origins-checked : (at-least at count : ℕ) → variableOriginsAt f at-least at count .number ≡ 0 → allOf validValues (originsFrom f at count) ≡ true
   unfolding variableOriginsAt originsFrom
-  origins-checked low at zero e = refl
-  origins-checked low at (suc count) e =
+  origins-checked at-least at zero e = refl
+  origins-checked at-least at (suc count) e =
       let found = simp facts at e in
-      simp facts (origin-checked low at (found .0), origins-checked (u16At f (at + 4) + 1) (recordEnd f at) count (found .1))
+      simp facts (origin-checked at-least at (found .0), origins-checked (u16At f (at + 4) + 1) (recordEnd f at) count (found .1))
 
-  pub origins-rise : (low at count : ℕ) → variableOriginsAt f low at count .number ≡ 0 → rising 64 low (numbersOf (originsFrom f at count)) ≡ true
+  pub origins-rise : (at-least at count : ℕ) → variableOriginsAt f at-least at count .number ≡ 0 → rising 64 at-least (numbersOf (originsFrom f at count)) ≡ true
   unfolding variableOriginsAt variableOriginAt originsFrom rising
-  origins-rise low at zero e = refl
-  origins-rise low at (suc count) e =
+  origins-rise at-least at zero e = refl
+  origins-rise at-least at (suc count) e =
       let found = simp facts at e in
       simp facts (found .0 .1 .0, (found .0 .1 .1 .0, origins-rise (u16At f (at + 4) + 1) (recordEnd f at) count (found .1)))
 
   module _ (o : Octets f) where
-    pub origins-end : (low at count : ℕ) → variableOriginsAt f low at count .number ≡ 0 → at + length (variableOriginBytes (originsFrom f at count)) ≡ recordsEnd f at count
+    pub origins-end : (at-least at count : ℕ) → variableOriginsAt f at-least at count .number ≡ 0 → at + length (variableOriginBytes (originsFrom f at count)) ≡ recordsEnd f at count
     unfolding variableOriginsAt originsFrom variableOriginBytes recordsEnd recordEnd
-    origins-end low at zero e = add-zero at
-    origins-end low at (suc count) e =
+    origins-end at-least at zero e = add-zero at
+    origins-end at-least at (suc count) e =
         let found = simp facts at e in
         let first = originBody (originRead f at) in
         omega (
           arith,
-          origin-recorded low at (found .0) o .long,
+          origin-recorded at-least at (found .0) o .long,
           record-bytes-length 6 first,
           length-append (recordBytes 6 first) (variableOriginBytes (originsFrom f (recordEnd f at) count)),
           origins-end (u16At f (at + 4) + 1) (recordEnd f at) count (found .1),
         )
 
-    pub origins-stand : (low at count : ℕ) → at ≤ length f → variableOriginsAt f low at count .number ≡ 0 → Stands f at (variableOriginBytes (originsFrom f at count))
+    pub origins-stand : (at-least at count : ℕ) → at ≤ length f → variableOriginsAt f at-least at count .number ≡ 0 → Stands f at (variableOriginBytes (originsFrom f at count))
     unfolding variableOriginsAt originsFrom variableOriginBytes recordEnd
-    origins-stand low at zero h e = stands-none f at h
-    origins-stand low at (suc count) h e =
+    origins-stand at-least at zero h e = stands-none f at h
+    origins-stand at-least at (suc count) h e =
         let found = simp facts at e in
         let first = originBody (originRead f at) in
-        let r = origin-recorded low at (found .0) o in
+        let r = origin-recorded at-least at (found .0) o in
         let long = record-bytes-length 6 first in
         stands-join (recordBytes 6 first) (variableOriginBytes (originsFrom f (recordEnd f at) count)) (omega (arith, r .long)) (record-stands o r)
         (origins-stand (u16At f (at + 4) + 1) (recordEnd f at) count (omega (arith, r .long, r .stands .room)) (found .1))
 
   -- a variable origin that stands
-  record OriginRead (low at : ℕ) (v : VariableOrigin) : Type 0 where
-    pass : variableOriginAt f low at .number ≡ 0
+  record OriginRead (at-least at : ℕ) (v : VariableOrigin) : Type 0 where
+    pass : variableOriginAt f at-least at .number ≡ 0
     same : originRead f at ≡ v
     kind : kindAt f at ≡ 6
     end : recordEnd f at ≡ at + length (recordBytes 6 (originBody v))
 
-  origin-read : (low at : ℕ) (v : VariableOrigin) → Stands f at (recordBytes 6 (originBody v)) → low ≤ v .variable → v .variable < 64 → validValues v ≡ true → OriginRead low at v
+  origin-read : (at-least at : ℕ) (v : VariableOrigin) → Stands f at (recordBytes 6 (originBody v)) → at-least ≤ v .variable → v .variable < 64 → validValues v ≡ true → OriginRead at-least at v
   unfolding variableOriginAt headAt bodyFits bodyRule recordEnd valuesIn originBody validValues u16Bytes
-  origin-read low at v s l k h =
+  origin-read at-least at v s l k h =
       let valid = simp facts at h in
       let long = origin-body-length v in
       let r = recorded 6 (originBody v) s (omega arith) (omega arith) in
@@ -151,19 +151,19 @@ module _ (f : List ℕ) where
   one-counted at (suc bound) n k l rest = rw (eq-eqb (kindAt f at) 6 k) (ap suc (rest bound (omega arith)))
 
   -- variable origins that stand in a row, with another kind of record behind them
-  pub record OriginsRead (low at : ℕ) (vs : List VariableOrigin) : Type 0 where
-    pub pass : variableOriginsAt f low at (length vs) .number ≡ 0
+  pub record OriginsRead (at-least at : ℕ) (vs : List VariableOrigin) : Type 0 where
+    pub pass : variableOriginsAt f at-least at (length vs) .number ≡ 0
     pub same : originsFrom f at (length vs) ≡ vs
     pub end : recordsEnd f at (length vs) ≡ at + length (variableOriginBytes vs)
     pub counted : (bound : ℕ) → length vs < bound → (kindAt f (recordsEnd f at (length vs)) ≡ 6 → ⊥) → variableOriginsFrom f at bound ≡ length vs
 
-  pub origins-read : (low : ℕ) (vs : List VariableOrigin) (at : ℕ) → Stands f at (variableOriginBytes vs) → rising 64 low (numbersOf vs) ≡ true → allOf validValues vs ≡ true → OriginsRead low at vs
+  pub origins-read : (at-least : ℕ) (vs : List VariableOrigin) (at : ℕ) → Stands f at (variableOriginBytes vs) → rising 64 at-least (numbersOf vs) ≡ true → allOf validValues vs ≡ true → OriginsRead at-least at vs
   unfolding variableOriginsAt originsFrom recordsEnd variableOriginBytes rising
-  origins-read low [] at s h g = record { pass = refl; same = refl; end = omega arith; counted = λ bound l d. none-counted at bound d }
-  origins-read low (v ∷ vs) at s h g =
+  origins-read at-least [] at s h g = record { pass = refl; same = refl; end = omega arith; counted = λ bound l d. none-counted at bound d }
+  origins-read at-least (v ∷ vs) at s h g =
       let rises = simp facts at h in
       let valid = simp facts at g in
-      let first = origin-read low at v (stands-left (recordBytes 6 (originBody v)) (variableOriginBytes vs) s) (rises .0) (rises .1 .0) (valid .0) in
+      let first = origin-read at-least at v (stands-left (recordBytes 6 (originBody v)) (variableOriginBytes vs) s) (rises .0) (rises .1 .0) (valid .0) in
       let next : u16At f (at + 4) ≡ v .variable = ap (λ (w : VariableOrigin). w .variable) (first .same) in
       let rest =
       origins-read (v .variable + 1) vs (recordEnd f at)

@@ -30,10 +30,10 @@ pairs-stand f o at (suc count) h =
     (pairs-stand f o (at + 4) count (omega arith))
 
 module _ (f : List ℕ) (t : Task) where
-  pub pairs-read : Valid t → (low : ℕ) (ps : List Pair) (at : ℕ) → Stands f at (pairBytes ps) → validPairs t low ps ≡ true → pairsFrom f at (length ps) ≡ ps
+  pub pairs-read : Valid t → (at-least : ℕ) (ps : List Pair) (at : ℕ) → Stands f at (pairBytes ps) → validPairs t at-least ps ≡ true → pairsFrom f at (length ps) ≡ ps
   unfolding pairsFrom pairBytes u16Bytes validPairs
-  pairs-read valid low [] at s h = refl
-  pairs-read valid low (p ∷ ps) at s h =
+  pairs-read valid at-least [] at s h = refl
+  pairs-read valid at-least (p ∷ ps) at s h =
       let first = simp facts at h in
       let both = stands-left (u16Bytes (p .variable) ++ u16Bytes (p .value)) (pairBytes ps) s in
       let few = valid .variables-few in
@@ -49,19 +49,19 @@ module _ (f : List ℕ) (t : Task) where
 
   -- the check is done where the pairs read are the task's, and only there
   module _ (states : States f t) where
-    pub pairs-checked : (low at count : ℕ) → pairsAt f low at count .number ≡ 0 → validPairs t low (pairsFrom f at count) ≡ true
+    pub pairs-checked : (at-least at count : ℕ) → pairsAt f at-least at count .number ≡ 0 → validPairs t at-least (pairsFrom f at count) ≡ true
     unfolding pairsAt pairAt pairsFrom validPairs
-    pairs-checked low at zero e = refl
-    pairs-checked low at (suc count) e =
+    pairs-checked at-least at zero e = refl
+    pairs-checked at-least at (suc count) e =
         let found = simp facts at e in
         let known : u16At f at < variableCount t = omega (arith, states .count) in
         let inside : u16At f (at + 2) < sizeOf t (u16At f at) = omega (arith, states .size (u16At f at) known) in
         simp facts (found .0 .0, (known, (inside, pairs-checked (u16At f at + 1) (at + 4) count (found .1))))
 
-    pub pairs-pass : (low at count : ℕ) → validPairs t low (pairsFrom f at count) ≡ true → pairsAt f low at count .number ≡ 0
+    pub pairs-pass : (at-least at count : ℕ) → validPairs t at-least (pairsFrom f at count) ≡ true → pairsAt f at-least at count .number ≡ 0
     unfolding pairsAt pairAt pairsFrom validPairs
-    pairs-pass low at zero e = refl
-    pairs-pass low at (suc count) e =
+    pairs-pass at-least at zero e = refl
+    pairs-pass at-least at (suc count) e =
         let found = simp facts at e in
         let known : u16At f at < variablesIn f = omega (arith, states .count) in
         let inside : u16At f (at + 2) < sizeAt f (u16At f at) = omega (arith, states .size (u16At f at) (found .1 .0)) in

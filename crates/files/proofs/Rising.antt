@@ -13,33 +13,33 @@ use Rattle.files.proofs.Done.{facts}
 use Rattle.files.proofs.Numbers.{allUnder}
 
 module _ (limit : ℕ) where
-  -- there are at most as many as numbers from `low` on
-  pub rising-few : (low : ℕ) (ns : List ℕ) → low ≤ limit → rising limit low ns ≡ true → low + length ns ≤ limit
+  -- there are at most as many as numbers from `at-least` on
+  pub rising-few : (at-least : ℕ) (ns : List ℕ) → at-least ≤ limit → rising limit at-least ns ≡ true → at-least + length ns ≤ limit
   unfolding rising
-  rising-few low [] l h = omega arith
-  rising-few low (n ∷ ns) l h =
+  rising-few at-least [] l h = omega arith
+  rising-few at-least (n ∷ ns) l h =
       let first = simp facts at h in
       omega (arith, rising-few (n + 1) ns (omega arith) (first .1 .1))
 
-  pub rising-under : (low : ℕ) (ns : List ℕ) → rising limit low ns ≡ true → allUnder limit ns ≡ true
+  pub rising-under : (at-least : ℕ) (ns : List ℕ) → rising limit at-least ns ≡ true → allUnder limit ns ≡ true
   unfolding rising
-  rising-under low [] h = refl
-  rising-under low (n ∷ ns) h =
+  rising-under at-least [] h = refl
+  rising-under at-least (n ∷ ns) h =
       let first = simp facts at h in
       simp facts (first .1 .0, rising-under (n + 1) ns (first .1 .1))
 
 -- the check of action origins is done where they rise, and only there
 module _ (f : List ℕ) where
-  pub action-origins-checked : (low at count : ℕ) → actionOriginsAt f low at count .number ≡ 0 → rising 512 low (numbersFrom f at count) ≡ true
+  pub action-origins-checked : (at-least at count : ℕ) → actionOriginsAt f at-least at count .number ≡ 0 → rising 512 at-least (numbersFrom f at count) ≡ true
   unfolding actionOriginsAt numbersFrom rising
-  action-origins-checked low at zero e = refl
-  action-origins-checked low at (suc count) e =
+  action-origins-checked at-least at zero e = refl
+  action-origins-checked at-least at (suc count) e =
       let found = simp facts at e in
       simp facts (found .0, (found .1 .0, action-origins-checked (u16At f at + 1) (at + 2) count (found .1 .1)))
 
-  pub action-origins-pass : (low at count : ℕ) → rising 512 low (numbersFrom f at count) ≡ true → actionOriginsAt f low at count .number ≡ 0
+  pub action-origins-pass : (at-least at count : ℕ) → rising 512 at-least (numbersFrom f at count) ≡ true → actionOriginsAt f at-least at count .number ≡ 0
   unfolding actionOriginsAt numbersFrom rising
-  action-origins-pass low at zero e = refl
-  action-origins-pass low at (suc count) e =
+  action-origins-pass at-least at zero e = refl
+  action-origins-pass at-least at (suc count) e =
       let found = simp facts at e in
       simp facts (found .0, (found .1 .0, action-origins-pass (u16At f at + 1) (at + 2) count (found .1 .1)))

@@ -16,14 +16,14 @@ use Rattle.files.specs.Rows.{cleared, stored, filled, filledRows}
 use Rattle.files.proofs.Countdown.{none-left}
 use Rattle.files.proofs.Tabulate.{tabulateFrom-length}
 
--- pairs on variables from `low` on and below n that strictly rise, with values that a row can hold
+-- pairs on variables from `at-least` on and below n that strictly rise, with values that a row can hold
 abbrev pub Ordered : ℕ → ℕ → List Pair → Type 0
-Ordered n low [] = Unit {0}
-Ordered n low (p ∷ ps) = (low ≤ p .variable) × (p .variable < n) × (p .value < 255) × Ordered n (p .variable + 1) ps
+Ordered n at-least [] = Unit {0}
+Ordered n at-least (p ∷ ps) = (at-least ≤ p .variable) × (p .variable < n) × (p .value < 255) × Ordered n (p .variable + 1) ps
 
--- the entry that a row has for a variable
-abbrev pub entryOf : List Pair → ℕ → ℕ
-entryOf ps v = Option·getD (valueIn ps v) 255
+-- the cell that a row has for a variable
+abbrev pub cellOf : List Pair → ℕ → ℕ
+cellOf ps v = Option·getD (valueIn ps v) 255
 
 pub valueIn-here : (p : Pair) (ps : List Pair) (v : ℕ) → p .variable ≡ v → valueIn (p ∷ ps) v ≡ some (p .value)
 valueIn-here p ps v e = ap (λ (t : Bool). cond t (some (p .value)) (valueIn ps v)) (eq-eqb (p .variable) v e)
@@ -31,9 +31,9 @@ valueIn-here p ps v e = ap (λ (t : Bool). cond t (some (p .value)) (valueIn ps 
 pub valueIn-past : (p : Pair) (ps : List Pair) (v : ℕ) → (p .variable ≡ v → ⊥) → valueIn (p ∷ ps) v ≡ valueIn ps v
 valueIn-past p ps v d = ap (λ (t : Bool). cond t (some (p .value)) (valueIn ps v)) (ne-eqb (p .variable) v d)
 
-pub valueIn-below : (n low : ℕ) (ps : List Pair) (v : ℕ) → Ordered n low ps → v < low → valueIn ps v ≡ none
-valueIn-below n low [] v o h = refl
-valueIn-below n low (p ∷ ps) v o h =
+pub valueIn-below : (n at-least : ℕ) (ps : List Pair) (v : ℕ) → Ordered n at-least ps → v < at-least → valueIn ps v ≡ none
+valueIn-below n at-least [] v o h = refl
+valueIn-below n at-least (p ∷ ps) v o h =
     valueIn-past p ps v (λ q. omega (arith, o .0)) ∙ valueIn-below n (p .variable + 1) ps v (o .3) (omega (arith, o .0))
 
 -- lengths
@@ -108,11 +108,11 @@ stored-past row base w value v d = go (ltb w 64)
     go true = getD-set-other row (base + w) (base + v) (value % 256) 0 (λ q. d (omega arith))
     go false = refl
 
-filled-in : (n low : ℕ) (row : List ℕ) (base : ℕ) (ps : List Pair) (v : ℕ) → n ≤ 64 → base + 64 ≤ length row → Ordered n low ps
+filled-in : (n at-least : ℕ) (row : List ℕ) (base : ℕ) (ps : List Pair) (v : ℕ) → n ≤ 64 → base + 64 ≤ length row → Ordered n at-least ps
     → getD (filled row base ps) (base + v) 0 ≡ Option·getD (valueIn ps v) (getD row (base + v) 0)
 unfolding filled
-filled-in n low row base [] v b r o = refl
-filled-in n low row base (p ∷ ps) v b r o =
+filled-in n at-least row base [] v b r o = refl
+filled-in n at-least row base (p ∷ ps) v b r o =
     go
     (filled-in n (p .variable + 1) (stored row base (p .variable) (p .value)) base ps v b (omega (arith, stored-length row base (p .variable) (p .value))) (o .3))
     (eqb (p .variable) v)
@@ -136,24 +136,24 @@ filled-in n low row base (p ∷ ps) v b r o =
         ∙ ap (Option·getD (valueIn ps v)) (stored-past row base (p .variable) (p .value) v past)
         ∙ sym (ap (λ (x : Option ℕ). Option·getD x (getD row (base + v) 0)) (valueIn-past p ps v past))
 
--- a cleared row that is filled has the entries of the pairs
-pub row-entry : (n : ℕ) (row : List ℕ) (base : ℕ) (ps : List Pair) (v : ℕ) → n ≤ 64 → v < 64 → base + 64 ≤ length row → Ordered n 0 ps
-    → getD (filled (cleared row base 64) base ps) (base + v) 0 ≡ entryOf ps v
-row-entry n row base ps v b h r o =
+-- a cleared row that is filled has the cells of the pairs
+pub row-cell : (n : ℕ) (row : List ℕ) (base : ℕ) (ps : List Pair) (v : ℕ) → n ≤ 64 → v < 64 → base + 64 ≤ length row → Ordered n 0 ps
+    → getD (filled (cleared row base 64) base ps) (base + v) 0 ≡ cellOf ps v
+row-cell n row base ps v b h r o =
     filled-in n 0 (cleared row base 64) base ps v b (omega (arith, cleared-length row base 64)) o
     ∙ ap (Option·getD (valueIn ps v)) (cleared-in row base 64 v r h)
 
-pub rows-entry : (n : ℕ) (rows : List ℕ) (base : ℕ) (lists : List (List Pair)) (a v : ℕ) → n ≤ 64 → v < 64 → base + 64 * length lists ≤ length rows → a < length lists
-    → ((k : ℕ) → k < length lists → Ordered n 0 (getD lists k [])) → getD (filledRows rows base lists) (base + 64 * a + v) 0 ≡ entryOf (getD lists a []) v
+pub rows-cell : (n : ℕ) (rows : List ℕ) (base : ℕ) (lists : List (List Pair)) (a v : ℕ) → n ≤ 64 → v < 64 → base + 64 * length lists ≤ length rows → a < length lists
+    → ((k : ℕ) → k < length lists → Ordered n 0 (getD lists k [])) → getD (filledRows rows base lists) (base + 64 * a + v) 0 ≡ cellOf (getD lists a []) v
 unfolding filledRows
-rows-entry n rows base [] a v b h r k o = absurd (omega arith)
-rows-entry n rows base (ps ∷ rest) zero v b h r k o =
+rows-cell n rows base [] a v b h r k o = absurd (omega arith)
+rows-cell n rows base (ps ∷ rest) zero v b h r k o =
     filledRows-before (filled (cleared rows base 64) base ps) (base + 64) rest (base + 64 * 0 + v) (omega arith)
     ∙ ap (λ (i : ℕ). getD (filled (cleared rows base 64) base ps) i 0) (omega arith)
-    ∙ row-entry n rows base ps v b h (omega arith) (o 0 (omega arith))
-rows-entry n rows base (ps ∷ rest) (suc a) v b h r k o =
+    ∙ row-cell n rows base ps v b h (omega arith) (o 0 (omega arith))
+rows-cell n rows base (ps ∷ rest) (suc a) v b h r k o =
     ap (λ (i : ℕ). getD (filledRows (filled (cleared rows base 64) base ps) (base + 64) rest) i 0) (omega arith)
-    ∙ rows-entry n (filled (cleared rows base 64) base ps) (base + 64) rest a v b h
+    ∙ rows-cell n (filled (cleared rows base 64) base ps) (base + 64) rest a v b h
     (omega (arith, filled-length (cleared rows base 64) base ps, cleared-length rows base 64))
     (omega arith)
     (λ i l. o (suc i) (omega arith))
@@ -163,7 +163,7 @@ pub rowNumbers-length : (row : List ℕ) (base count : ℕ) → length (rowNumbe
 unfolding rowNumbers
 rowNumbers-length row base count = tabulateFrom-length (λ (i : ℕ). getD row (base + i) 0) 0 count
 
--- the pairs of a row, one entry after another
+-- the pairs of a row, one cell after another
 pub rowPairs-none : (row : List ℕ) (base v left : ℕ) → left ≤ 0 → rowPairs row base v left ≡ []
 unfolding rowPairs
 rowPairs-none row base v left h = ap (rowPairs row base v) (none-left left h)
@@ -179,13 +179,13 @@ module _ (row : List ℕ) (base v left : ℕ) {rest : ℕ} (value : ℕ) (more :
       ap (rowPairs row base v) more
       ∙ rw (ne-eqb (getD row (base + v) 0) 255 (λ q. d (is ∙ q))) (ap (λ (n : ℕ). pair v n ∷ rowPairs row base (v + 1) rest) (sym is))
 
--- a row with the entries of pairs holds just those pairs
-Ordered-from : (n low next : ℕ) (ps : List Pair) → Ordered n low ps → ((p : Pair) → low ≤ p .variable → next ≤ p .variable) → Ordered n next ps
-Ordered-from n low next [] o h = tt
-Ordered-from n low next (p ∷ ps) o h = (h p (o .0), o .1, o .2, o .3)
+-- a row with the cells of pairs holds just those pairs
+Ordered-from : (n at-least next : ℕ) (ps : List Pair) → Ordered n at-least ps → ((p : Pair) → at-least ≤ p .variable → next ≤ p .variable) → Ordered n next ps
+Ordered-from n at-least next [] o h = tt
+Ordered-from n at-least next (p ∷ ps) o h = (h p (o .0), o .1, o .2, o .3)
 
 pub rowPairs-is : (n : ℕ) (row : List ℕ) (base v count : ℕ) (ps : List Pair) → v + count ≡ n → Ordered n v ps
-    → ((w : ℕ) → v ≤ w → w < n → getD row (base + w) 0 ≡ entryOf ps w) → rowPairs row base v count ≡ ps
+    → ((w : ℕ) → v ≤ w → w < n → getD row (base + w) 0 ≡ cellOf ps w) → rowPairs row base v count ≡ ps
 unfolding rowPairs
 rowPairs-is n row base v zero [] e o h = refl
 rowPairs-is n row base v zero (p ∷ ps) e o h = absurd (omega (arith, o .0, o .1))
@@ -199,8 +199,8 @@ rowPairs-is n row base v (suc count) (p ∷ ps) e o h =
     (eqb (p .variable) v)
     refl
   where
-    go : (Ordered n (v + 1) ps → ((w : ℕ) → v + 1 ≤ w → w < n → getD row (base + w) 0 ≡ entryOf ps w) → rowPairs row base (v + 1) count ≡ ps)
-        → (Ordered n (v + 1) (p ∷ ps) → ((w : ℕ) → v + 1 ≤ w → w < n → getD row (base + w) 0 ≡ entryOf (p ∷ ps) w) → rowPairs row base (v + 1) count ≡ p ∷ ps)
+    go : (Ordered n (v + 1) ps → ((w : ℕ) → v + 1 ≤ w → w < n → getD row (base + w) 0 ≡ cellOf ps w) → rowPairs row base (v + 1) count ≡ ps)
+        → (Ordered n (v + 1) (p ∷ ps) → ((w : ℕ) → v + 1 ≤ w → w < n → getD row (base + w) 0 ≡ cellOf (p ∷ ps) w) → rowPairs row base (v + 1) count ≡ p ∷ ps)
         → (t : Bool) → eqb (p .variable) v ≡ t → rowPairs row base v (suc count) ≡ p ∷ ps
     go rest more true q =
         let here : p .variable ≡ v = eqb-true (p .variable) v q in

@@ -1,4 +1,4 @@
--- What a row's pairs say of a variable is what its entry says; and rows with the same entries hold the same pairs.
+-- What a row's pairs say of a variable is what its cell says; and rows with the same cells hold the same pairs.
 use Prim.Native.Nat.{ℕ, zero, suc, _+_, _≤_, _<_}
 use mathlib.Core.Path.{_≡_, refl, sym, ap, _∙_}
 use mathlib.Core.Bool.{Bool, cond}
@@ -14,8 +14,8 @@ use Rattle.files.proofs.Logic.{split, split-le}
 use Rattle.files.proofs.RowLaws.{valueIn-here, valueIn-past, rowPairs-skip, rowPairs-next}
 
 -- an entry as a value: 255 is none
-abbrev pub entryValue : ℕ → Option ℕ
-entryValue entry = cond (eqb entry 255) none (some entry)
+abbrev pub cellValue : ℕ → Option ℕ
+cellValue cell = cond (eqb cell 255) none (some cell)
 
 module _ (row : List ℕ) (base : ℕ) where
   -- variables before the row's part have no pair in it
@@ -44,7 +44,7 @@ module _ (row : List ℕ) (base : ℕ) where
       ∙ valueIn-past (pair v (getD row (base + v) 0)) (rowPairs row base (v + 1) count) w (λ q. omega arith)
       ∙ later)
 
-  pub rowPairs-value : (v count w : ℕ) → v ≤ w → w < v + count → valueIn (rowPairs row base v count) w ≡ entryValue (getD row (base + w) 0)
+  pub rowPairs-value : (v count w : ℕ) → v ≤ w → w < v + count → valueIn (rowPairs row base v count) w ≡ cellValue (getD row (base + w) 0)
   rowPairs-value v zero w a b = absurd (omega arith)
   rowPairs-value v (suc count) w a b =
       split-le w v
@@ -54,21 +54,21 @@ module _ (row : List ℕ) (base : ℕ) where
       x : ℕ
       x = getD row (base + v) 0
 
-      here : v ≡ w → valueIn (rowPairs row base v (suc count)) w ≡ entryValue (getD row (base + w) 0)
+      here : v ≡ w → valueIn (rowPairs row base v (suc count)) w ≡ cellValue (getD row (base + w) 0)
       here e =
           split (eqb x 255)
           (λ q.
           ap (λ (l : List Pair). valueIn l w) (rowPairs-skip row base v (suc count) x refl refl (eqb-true x 255 q))
           ∙ rowPairs-before (v + 1) count w (omega arith)
           ∙ sym (ap (λ (t : Bool). cond t none (some x)) q)
-          ∙ ap (λ (u : ℕ). entryValue (getD row (base + u) 0)) e)
+          ∙ ap (λ (u : ℕ). cellValue (getD row (base + u) 0)) e)
           (λ q.
           ap (λ (l : List Pair). valueIn l w) (rowPairs-next row base v (suc count) x refl refl (eqb-false x 255 q))
           ∙ valueIn-here (pair v x) (rowPairs row base (v + 1) count) w e
           ∙ sym (ap (λ (t : Bool). cond t none (some x)) q)
-          ∙ ap (λ (u : ℕ). entryValue (getD row (base + u) 0)) e)
+          ∙ ap (λ (u : ℕ). cellValue (getD row (base + u) 0)) e)
 
-      past : v < w → valueIn (rowPairs row base (v + 1) count) w ≡ entryValue (getD row (base + w) 0) → valueIn (rowPairs row base v (suc count)) w ≡ entryValue (getD row (base + w) 0)
+      past : v < w → valueIn (rowPairs row base (v + 1) count) w ≡ cellValue (getD row (base + w) 0) → valueIn (rowPairs row base v (suc count)) w ≡ cellValue (getD row (base + w) 0)
       past l later =
           split (eqb x 255)
           (λ q. ap (λ (l : List Pair). valueIn l w) (rowPairs-skip row base v (suc count) x refl refl (eqb-true x 255 q)) ∙ later)
@@ -77,7 +77,7 @@ module _ (row : List ℕ) (base : ℕ) where
           ∙ valueIn-past (pair v x) (rowPairs row base (v + 1) count) w (λ z. omega arith)
           ∙ later)
 
--- a row of n entries that copies k entries of another, with no pair behind them
+-- a row of n cells that copies k cells of another, with no pair behind them
 pub rowPairs-copied : (row other : List ℕ) (from to v k n : ℕ) → k ≤ n
     → ((w : ℕ) → v ≤ w → w < v + k → getD row (to + w) 0 ≡ getD other (from + w) 0)
     → ((w : ℕ) → v + k ≤ w → w < v + n → getD row (to + w) 0 ≡ 255)

@@ -71,7 +71,7 @@ module _ {f : List ℕ} {at : ℕ} where
   pub stands-u16 : (n : ℕ) → Stands f at (u16Bytes n) → n < 65536 → u16At f at ≡ n
   unfolding u16At u16Bytes
   stands-u16 n s h =
-      let low : getD f at 0 ≡ n % 256 = same-place f at (at + 0) (omega arith) ∙ s .same 0 (omega arith) in
+      let at-least : getD f at 0 ≡ n % 256 = same-place f at (at + 0) (omega arith) ∙ s .same 0 (omega arith) in
       let high : getD f (at + 1) 0 ≡ n / 256 % 256 = s .same 1 (omega arith) in
       omega arith
 

@@ -59,22 +59,22 @@ pub variables-next : (s : List ℕ) (at k : ℕ) (whole r : Outcome) → variabl
 variables-next s at k whole r w h e z = goes-on _ _ _ r e z refl ∙ sym (variables-step s at k h) ∙ w
 
 -- pairs
-pairs-step : (s : List ℕ) (low at k : ℕ) → 0 < k → pairsAt s low at k ≡ andThen (pairAt s low at) (pairsAt s (u16At s at + 1) (at + 4) (k - 1))
+pairs-step : (s : List ℕ) (at-least at k : ℕ) → 0 < k → pairsAt s at-least at k ≡ andThen (pairAt s at-least at) (pairsAt s (u16At s at + 1) (at + 4) (k - 1))
 unfolding pairsAt
-pairs-step s low at k h = ap (pairsAt s low at) (one-more k h)
+pairs-step s at-least at k h = ap (pairsAt s at-least at) (one-more k h)
 
-pub pairs-none : (s : List ℕ) (low at k : ℕ) (whole r : Outcome) → pairsAt s low at k ≡ whole → k ≤ 0 → r ≡ done → r ≡ whole
+pub pairs-none : (s : List ℕ) (at-least at k : ℕ) (whole r : Outcome) → pairsAt s at-least at k ≡ whole → k ≤ 0 → r ≡ done → r ≡ whole
 unfolding pairsAt
-pairs-none s low at k whole r w h e = e ∙ sym (ap (pairsAt s low at) (none-left k h)) ∙ w
+pairs-none s at-least at k whole r w h e = e ∙ sym (ap (pairsAt s at-least at) (none-left k h)) ∙ w
 
-pub pairs-stop : (s : List ℕ) (low at k : ℕ) (whole r : Outcome) → pairsAt s low at k ≡ whole → 0 < k → r ≡ pairAt s low at → (r .number ≡ 0 → ⊥) → r ≡ whole
-pairs-stop s low at k whole r w h e d = stops _ _ r e d ∙ sym (pairs-step s low at k h) ∙ w
+pub pairs-stop : (s : List ℕ) (at-least at k : ℕ) (whole r : Outcome) → pairsAt s at-least at k ≡ whole → 0 < k → r ≡ pairAt s at-least at → (r .number ≡ 0 → ⊥) → r ≡ whole
+pairs-stop s at-least at k whole r w h e d = stops _ _ r e d ∙ sym (pairs-step s at-least at k h) ∙ w
 
-pub pairs-next : (s : List ℕ) (low at k : ℕ) (whole r : Outcome) (variable : ℕ) → pairsAt s low at k ≡ whole → 0 < k → r ≡ pairAt s low at → r .number ≡ 0 → variable ≡ u16At s at → pairsAt s (variable + 1) (at + 4) (k - 1) ≡ whole
-pairs-next s low at k whole r variable w h e z f =
+pub pairs-next : (s : List ℕ) (at-least at k : ℕ) (whole r : Outcome) (variable : ℕ) → pairsAt s at-least at k ≡ whole → 0 < k → r ≡ pairAt s at-least at → r .number ≡ 0 → variable ≡ u16At s at → pairsAt s (variable + 1) (at + 4) (k - 1) ≡ whole
+pairs-next s at-least at k whole r variable w h e z f =
     ap (λ (v : ℕ). pairsAt s (v + 1) (at + 4) (k - 1)) f
     ∙ goes-on _ _ _ r e z refl
-    ∙ sym (pairs-step s low at k h)
+    ∙ sym (pairs-step s at-least at k h)
     ∙ w
 
 -- actions, and the sign-off behind them
@@ -97,49 +97,49 @@ actions-next s at k whole r next w h e z f =
     ∙ w
 
 -- variable origins
-variable-origins-step : (s : List ℕ) (low at k : ℕ) → 0 < k → variableOriginsAt s low at k ≡ andThen (variableOriginAt s low at) (variableOriginsAt s (u16At s (at + 4) + 1) (recordEnd s at) (k - 1))
+variable-origins-step : (s : List ℕ) (at-least at k : ℕ) → 0 < k → variableOriginsAt s at-least at k ≡ andThen (variableOriginAt s at-least at) (variableOriginsAt s (u16At s (at + 4) + 1) (recordEnd s at) (k - 1))
 unfolding variableOriginsAt
-variable-origins-step s low at k h = ap (variableOriginsAt s low at) (one-more k h)
+variable-origins-step s at-least at k h = ap (variableOriginsAt s at-least at) (one-more k h)
 
-pub variable-origins-none : (s : List ℕ) (low at k : ℕ) (whole r : Outcome) → variableOriginsAt s low at k ≡ whole → k ≤ 0 → r ≡ done → r ≡ whole
+pub variable-origins-none : (s : List ℕ) (at-least at k : ℕ) (whole r : Outcome) → variableOriginsAt s at-least at k ≡ whole → k ≤ 0 → r ≡ done → r ≡ whole
 unfolding variableOriginsAt
-variable-origins-none s low at k whole r w h e = e ∙ sym (ap (variableOriginsAt s low at) (none-left k h)) ∙ w
+variable-origins-none s at-least at k whole r w h e = e ∙ sym (ap (variableOriginsAt s at-least at) (none-left k h)) ∙ w
 
-pub variable-origins-stop : (s : List ℕ) (low at k : ℕ) (whole r : Outcome) → variableOriginsAt s low at k ≡ whole → 0 < k → r ≡ variableOriginAt s low at → (r .number ≡ 0 → ⊥) → r ≡ whole
-variable-origins-stop s low at k whole r w h e d = stops _ _ r e d ∙ sym (variable-origins-step s low at k h) ∙ w
+pub variable-origins-stop : (s : List ℕ) (at-least at k : ℕ) (whole r : Outcome) → variableOriginsAt s at-least at k ≡ whole → 0 < k → r ≡ variableOriginAt s at-least at → (r .number ≡ 0 → ⊥) → r ≡ whole
+variable-origins-stop s at-least at k whole r w h e d = stops _ _ r e d ∙ sym (variable-origins-step s at-least at k h) ∙ w
 
-pub variable-origins-next : (s : List ℕ) (low at k : ℕ) (whole r : Outcome) (variable next : ℕ) → variableOriginsAt s low at k ≡ whole → 0 < k → r ≡ variableOriginAt s low at → r .number ≡ 0 → variable ≡ u16At s (at + 4) → next ≡ recordEnd s at → variableOriginsAt s (variable + 1) next (k - 1) ≡ whole
-variable-origins-next s low at k whole r variable next w h e z f g =
+pub variable-origins-next : (s : List ℕ) (at-least at k : ℕ) (whole r : Outcome) (variable next : ℕ) → variableOriginsAt s at-least at k ≡ whole → 0 < k → r ≡ variableOriginAt s at-least at → r .number ≡ 0 → variable ≡ u16At s (at + 4) → next ≡ recordEnd s at → variableOriginsAt s (variable + 1) next (k - 1) ≡ whole
+variable-origins-next s at-least at k whole r variable next w h e z f g =
     ap (λ (v : ℕ). variableOriginsAt s (v + 1) next (k - 1)) f
     ∙ ap (λ (p : ℕ). variableOriginsAt s (u16At s (at + 4) + 1) p (k - 1)) g
     ∙ goes-on _ _ _ r e z refl
-    ∙ sym (variable-origins-step s low at k h)
+    ∙ sym (variable-origins-step s at-least at k h)
     ∙ w
 
 -- action origins: they fall, or stop at one that is too large
-action-origins-step : (s : List ℕ) (low at k : ℕ) → 0 < k → actionOriginsAt s low at k ≡ guard (leb low (u16At s at)) 6 at (guard (ltb (u16At s at) 512) 5 at (actionOriginsAt s (u16At s at + 1) (at + 2) (k - 1)))
+action-origins-step : (s : List ℕ) (at-least at k : ℕ) → 0 < k → actionOriginsAt s at-least at k ≡ guard (leb at-least (u16At s at)) 6 at (guard (ltb (u16At s at) 512) 5 at (actionOriginsAt s (u16At s at + 1) (at + 2) (k - 1)))
 unfolding actionOriginsAt
-action-origins-step s low at k h = ap (actionOriginsAt s low at) (one-more k h)
+action-origins-step s at-least at k h = ap (actionOriginsAt s at-least at) (one-more k h)
 
-pub action-origins-none : (s : List ℕ) (low at k : ℕ) (whole r : Outcome) → actionOriginsAt s low at k ≡ whole → k ≤ 0 → r ≡ done → r ≡ whole
+pub action-origins-none : (s : List ℕ) (at-least at k : ℕ) (whole r : Outcome) → actionOriginsAt s at-least at k ≡ whole → k ≤ 0 → r ≡ done → r ≡ whole
 unfolding actionOriginsAt
-action-origins-none s low at k whole r w h e = e ∙ sym (ap (actionOriginsAt s low at) (none-left k h)) ∙ w
+action-origins-none s at-least at k whole r w h e = e ∙ sym (ap (actionOriginsAt s at-least at) (none-left k h)) ∙ w
 
-pub action-origins-fall : (s : List ℕ) (low at k : ℕ) (whole : Outcome) (n : ℕ) (r : Outcome) → actionOriginsAt s low at k ≡ whole → 0 < k → n ≡ u16At s at → n < low → r ≡ refusal 6 at → r ≡ whole
-action-origins-fall s low at k whole n r w h e l f =
-    stops-le _ _ 6 at _ r low n refl e l f ∙ sym (action-origins-step s low at k h) ∙ w
+pub action-origins-fall : (s : List ℕ) (at-least at k : ℕ) (whole : Outcome) (n : ℕ) (r : Outcome) → actionOriginsAt s at-least at k ≡ whole → 0 < k → n ≡ u16At s at → n < at-least → r ≡ refusal 6 at → r ≡ whole
+action-origins-fall s at-least at k whole n r w h e l f =
+    stops-le _ _ 6 at _ r at-least n refl e l f ∙ sym (action-origins-step s at-least at k h) ∙ w
 
-pub action-origins-stop : (s : List ℕ) (low at k : ℕ) (whole : Outcome) (n : ℕ) (r : Outcome) → actionOriginsAt s low at k ≡ whole → 0 < k → n ≡ u16At s at → low ≤ n → 512 ≤ n → r ≡ refusal 5 at → r ≡ whole
-action-origins-stop s low at k whole n r w h e l m f =
-    goes-le _ _ 6 at _ r low n refl e l (stops-lt _ _ 5 at _ r n 512 e refl m f)
-    ∙ sym (action-origins-step s low at k h)
+pub action-origins-stop : (s : List ℕ) (at-least at k : ℕ) (whole : Outcome) (n : ℕ) (r : Outcome) → actionOriginsAt s at-least at k ≡ whole → 0 < k → n ≡ u16At s at → at-least ≤ n → 512 ≤ n → r ≡ refusal 5 at → r ≡ whole
+action-origins-stop s at-least at k whole n r w h e l m f =
+    goes-le _ _ 6 at _ r at-least n refl e l (stops-lt _ _ 5 at _ r n 512 e refl m f)
+    ∙ sym (action-origins-step s at-least at k h)
     ∙ w
 
-pub action-origins-next : (s : List ℕ) (low at k : ℕ) (whole : Outcome) (n : ℕ) → actionOriginsAt s low at k ≡ whole → 0 < k → n ≡ u16At s at → low ≤ n → n < 512 → actionOriginsAt s (n + 1) (at + 2) (k - 1) ≡ whole
-action-origins-next s low at k whole n w h e l m =
+pub action-origins-next : (s : List ℕ) (at-least at k : ℕ) (whole : Outcome) (n : ℕ) → actionOriginsAt s at-least at k ≡ whole → 0 < k → n ≡ u16At s at → at-least ≤ n → n < 512 → actionOriginsAt s (n + 1) (at + 2) (k - 1) ≡ whole
+action-origins-next s at-least at k whole n w h e l m =
     ap (λ (v : ℕ). actionOriginsAt s (v + 1) (at + 2) (k - 1)) e
-    ∙ goes-le _ _ 6 at _ _ low n refl e l (goes-lt _ _ 5 at _ _ n 512 e refl m refl)
-    ∙ sym (action-origins-step s low at k h)
+    ∙ goes-le _ _ 6 at _ _ at-least n refl e l (goes-lt _ _ 5 at _ _ n 512 e refl m refl)
+    ∙ sym (action-origins-step s at-least at k h)
     ∙ w
 
 -- how many variable origins stand in a row

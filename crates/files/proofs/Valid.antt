@@ -26,21 +26,21 @@ all-anywhere f [] d i a h = h
 all-anywhere f (x ∷ xs) d zero a h = simp facts at a .0
 all-anywhere f (x ∷ xs) d (suc i) a h = all-anywhere f xs d i (simp facts at a .1) h
 
--- a pair of the task, whose variable is at least `low`
-pub record ValidPair (t : Task) (low : ℕ) (p : Pair) : Type 0 where
-  pub above : low ≤ p .variable
+-- a pair of the task, whose variable is at least `at-least`
+pub record ValidPair (t : Task) (at-least : ℕ) (p : Pair) : Type 0 where
+  pub above : at-least ≤ p .variable
   pub known : p .variable < variableCount t
   pub inside : p .value < sizeOf t (p .variable)
 
 module _ (t : Task) where
   -- the value that a list gives a variable
-  pub value-valid : (low : ℕ) (ps : List Pair) (v x : ℕ) → validPairs t low ps ≡ true → valueIn ps v ≡ some x → ValidPair t low (pair v x)
+  pub value-valid : (at-least : ℕ) (ps : List Pair) (v x : ℕ) → validPairs t at-least ps ≡ true → valueIn ps v ≡ some x → ValidPair t at-least (pair v x)
   unfolding validPairs
-  value-valid low [] v x h e = let z : _≡_ {A = ℕ} 0 1 = cc in absurd (omega arith)
-  value-valid low (p ∷ ps) v x h e =
+  value-valid at-least [] v x h e = let z : _≡_ {A = ℕ} 0 1 = cc in absurd (omega arith)
+  value-valid at-least (p ∷ ps) v x h e =
       go (eqb (p .variable) v) refl e (λ q. value-valid (p .variable + 1) ps v x (simp facts at h .1 .1 .1) q)
     where
-      go : (b : Bool) → eqb (p .variable) v ≡ b → cond b (some (p .value)) (valueIn ps v) ≡ some x → (valueIn ps v ≡ some x → ValidPair t (p .variable + 1) (pair v x)) → ValidPair t low (pair v x)
+      go : (b : Bool) → eqb (p .variable) v ≡ b → cond b (some (p .value)) (valueIn ps v) ≡ some x → (valueIn ps v ≡ some x → ValidPair t (p .variable + 1) (pair v x)) → ValidPair t at-least (pair v x)
       go true q r rest =
           let first = simp facts at h in
           let same-variable : p .variable ≡ v = eqb-true (p .variable) v q in

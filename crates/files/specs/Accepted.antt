@@ -13,11 +13,11 @@ use Rattle.files.specs.OriginFile.{VariableOrigin, Origin}
 unfoldable pub validSigner : ℕ → Bool
 validSigner signer = leb 1 signer && ltb signer (2 ^ 32)
 
--- pairs of the task whose variables strictly rise, the first at least `low`
+-- pairs of the task whose variables strictly rise, the first at least `atLeast`
 unfoldable pub validPairs : Task → ℕ → List Pair → Bool
-validPairs t low [] = true
-validPairs t low (p ∷ ps) =
-    leb low (p .variable)
+validPairs t atLeast [] = true
+validPairs t atLeast (p ∷ ps) =
+    leb atLeast (p .variable)
     && (ltb (p .variable) (variableCount t)
     && (ltb (p .value) (sizeOf t (p .variable))
     && validPairs t (p .variable + 1) ps))
@@ -43,10 +43,10 @@ acceptedTask t =
     && (allOf (validAction t) (t .actions)
     && leb (length (taskFile t 1)) 65536)))))
 
--- numbers that strictly rise below a limit, the first at least `low`
+-- numbers that strictly rise below a limit, the first at least `atLeast`
 unfoldable pub rising : ℕ → ℕ → List ℕ → Bool
-rising limit low [] = true
-rising limit low (n ∷ ns) = leb low n && (ltb n limit && rising limit (n + 1) ns)
+rising limit atLeast [] = true
+rising limit atLeast (n ∷ ns) = leb atLeast n && (ltb n limit && rising limit (n + 1) ns)
 
 unfoldable pub validValues : VariableOrigin → Bool
 validValues o = leb 1 (length (o .values)) && (leb (length (o .values)) 32 && allOf (λ n. ltb n 32) (o .values))

@@ -8,7 +8,7 @@ use Rattle.files.specs.Below.{tabulate}
 use Rattle.files.specs.Task.{Pair, Variable, Action, Task, pair, variable, action}
 use Rattle.files.specs.OriginFile.{VariableOrigin, Origin}
 
--- an entry per variable, an entry per action, and for each action a row of 64 entries, one per variable;
+-- a cell per variable, a cell per action, and for each action a row of 64 cells, one per variable;
 -- in a row 255 stands for no pair
 pub record Arrays : Type 0 where
   pub variables : ℕ
@@ -20,14 +20,14 @@ pub record Arrays : Type 0 where
   pub conditions : List ℕ
   pub effects : List ℕ
 
--- the pairs of `count` entries of the row at `base`, from variable v on
+-- the pairs of `count` cells of the row at `base`, from variable v on
 unfoldable pub rowPairs : List ℕ → ℕ → ℕ → ℕ → List Pair
 rowPairs row base v zero = []
 rowPairs row base v (suc count) =
     let rest = rowPairs row base (v + 1) count in
     cond (eqb (getD row (base + v) 0) 255) rest (pair v (getD row (base + v) 0) ∷ rest)
 
--- variable v and action a, by their entries
+-- variable v and action a, by their cells
 unfoldable pub rowVariable : List ℕ → List ℕ → ℕ → Variable
 rowVariable sizes starts v = variable (getD sizes v 0) (getD starts v 0)
 
@@ -56,7 +56,7 @@ pub record OriginArrays : Type 0 where
   pub values : List ℕ
   pub originals : List ℕ
 
--- the numbers of `count` entries from `base` on
+-- the numbers of `count` cells from `base` on
 unfoldable pub rowNumbers : List ℕ → ℕ → ℕ → List ℕ
 rowNumbers row base count = tabulate count (λ i. getD row (base + i) 0)
 

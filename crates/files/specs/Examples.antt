@@ -42,8 +42,8 @@ abbrev pub fileLampAlone : List ℕ
 fileLampAlone = taskFile (record { variables = variablesE; goal = pair 1 1 ∷ []; actions = lineActions ++ otherActions }) 7
 
 -- an outcome as numbers
-abbrev pub outcomeNumbers : Outcome → List ℕ
-outcomeNumbers o = o .number ∷ o .file ∷ o .place ∷ []
+abbrev pub outcomeParts : Outcome → List ℕ
+outcomeParts o = o .number ∷ o .file ∷ o .place ∷ []
 
 -- a row of the table
 pub record Case : Type 0 where

@@ -21,25 +21,25 @@ pub record Origin : Type 0 where
 unfoldable pub valuesIn : List ℕ → ℕ → ℕ
 valuesIn s at = (bodyLength s at - 2) / 2
 
--- the variable origin at `at`, whose variable is to be at least `low`
+-- the variable origin at `at`, whose variable is to be at least `atLeast`
 unfoldable pub variableOriginAt : List ℕ → ℕ → ℕ → Outcome
-variableOriginAt s low at =
+variableOriginAt s atLeast at =
     andThen (headAt s at 6)
-    (guard (leb low (u16At s (at + 4))) 6 (at + 4)
+    (guard (leb atLeast (u16At s (at + 4))) 6 (at + 4)
     (guard (ltb (u16At s (at + 4)) 64) 5 (at + 4)
     (numbersAt 32 s (at + 6) (valuesIn s at))))
 
 unfoldable pub variableOriginsAt : List ℕ → ℕ → ℕ → ℕ → Outcome
-variableOriginsAt s low at zero = done
-variableOriginsAt s low at (suc count) =
-    andThen (variableOriginAt s low at)
+variableOriginsAt s atLeast at zero = done
+variableOriginsAt s atLeast at (suc count) =
+    andThen (variableOriginAt s atLeast at)
     (variableOriginsAt s (u16At s (at + 4) + 1) (recordEnd s at) count)
 
--- `count` rising numbers of original actions, the first at least `low`
+-- `count` rising numbers of original actions, the first at least `atLeast`
 unfoldable pub actionOriginsAt : List ℕ → ℕ → ℕ → ℕ → Outcome
-actionOriginsAt s low at zero = done
-actionOriginsAt s low at (suc count) =
-    guard (leb low (u16At s at)) 6 at
+actionOriginsAt s atLeast at zero = done
+actionOriginsAt s atLeast at (suc count) =
+    guard (leb atLeast (u16At s at)) 6 at
     (guard (ltb (u16At s at) 512) 5 at
     (actionOriginsAt s (u16At s at + 1) (at + 2) count))
 

@@ -6,12 +6,12 @@ use lib.Dec.{ltb}
 use lib.ListN.{set}
 use Rattle.files.specs.Task.{Pair, Variable, Action}
 
--- `count` entries from `at` on that say no pair
+-- `count` cells from `at` on that say no pair
 unfoldable pub cleared : List ℕ → ℕ → ℕ → List ℕ
 cleared row at zero = row
 cleared row at (suc count) = cleared (set row at 255) (at + 1) count
 
--- the entry of a variable below 64 set to the lower byte of a value
+-- the cell of a variable below 64 set to the lower byte of a value
 unfoldable pub stored : List ℕ → ℕ → ℕ → ℕ → List ℕ
 stored row base v value = cond (ltb v 64) (set row (base + v) (value % 256)) row
 
@@ -19,20 +19,20 @@ unfoldable pub filled : List ℕ → ℕ → List Pair → List ℕ
 filled row base [] = row
 filled row base (p ∷ ps) = filled (stored row base (p .variable) (p .value)) base ps
 
--- a row of 64 entries for each list of pairs
+-- a row of 64 cells for each list of pairs
 unfoldable pub filledRows : List ℕ → ℕ → List (List Pair) → List ℕ
 filledRows rows base [] = rows
 filledRows rows base (ps ∷ rest) = filledRows (filled (cleared rows base 64) base ps) (base + 64) rest
 
 -- what is stored of variables and actions
-unfoldable pub sizeEntries : List Variable → List ℕ
-sizeEntries variables = map (λ v. v .size % 256) variables
+unfoldable pub storedSizes : List Variable → List ℕ
+storedSizes variables = map (λ v. v .size % 256) variables
 
-unfoldable pub startEntries : List Variable → List ℕ
-startEntries variables = map (λ v. v .start % 256) variables
+unfoldable pub storedStarts : List Variable → List ℕ
+storedStarts variables = map (λ v. v .start % 256) variables
 
-unfoldable pub costEntries : List Action → List ℕ
-costEntries actions = map (λ a. a .cost) actions
+unfoldable pub storedCosts : List Action → List ℕ
+storedCosts actions = map (λ a. a .cost) actions
 
 unfoldable pub conditionLists : List Action → List (List Pair)
 conditionLists actions = map (λ a. a .conditions) actions

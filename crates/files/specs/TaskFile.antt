@@ -42,18 +42,18 @@ variablePlace v = 8 * v + 8
 unfoldable pub sizeAt : List ℕ → ℕ → ℕ
 sizeAt s v = u16At s (variablePlace v + 4)
 
--- the pair at `at`, whose variable is to be at least `low`
+-- the pair at `at`, whose variable is to be at least `atLeast`
 unfoldable pub pairAt : List ℕ → ℕ → ℕ → Outcome
-pairAt s low at =
-    guard (leb low (u16At s at)) 6 at
+pairAt s atLeast at =
+    guard (leb atLeast (u16At s at)) 6 at
     (guard (ltb (u16At s at) (variablesIn s)) 5 at
     (guard (ltb (u16At s (at + 2)) (sizeAt s (u16At s at))) 5 (at + 2)
     done))
 
 -- pairs in a list strictly rise by variable
 unfoldable pub pairsAt : List ℕ → ℕ → ℕ → ℕ → Outcome
-pairsAt s low at zero = done
-pairsAt s low at (suc count) = andThen (pairAt s low at) (pairsAt s (u16At s at + 1) (at + 4) count)
+pairsAt s atLeast at zero = done
+pairsAt s atLeast at (suc count) = andThen (pairAt s atLeast at) (pairsAt s (u16At s at + 1) (at + 4) count)
 
 unfoldable pub goalAt : List ℕ → ℕ → Outcome
 goalAt s at = andThen (headAt s at 3) (pairsAt s 0 (at + 4) (bodyLength s at / 4))

@@ -1,12 +1,12 @@
-// An accepted task file into dense arrays: an entry per variable and action, and for each action
-// a row of 64 entries, one per variable, in which 255 stands for no pair.
+// An accepted task file into dense arrays: a cell per variable and action, and for each action
+// a row of 64 cells, one per variable, in which 255 stands for no pair.
 ghost use mathlib.Core.Path.{_≡_};
 ghost use Prim.Native.Nat.{_+_, _*_, _^_, _<_, _≤_};
 ghost use lib.ListN.{length};
 ghost use Rattle.files.specs.Bytes.{placed};
 ghost use Rattle.files.specs.Dense.{held, arrays};
 ghost use Rattle.files.specs.Records.{offsetLimit};
-ghost use Rattle.files.specs.Rows.{cleared, stored, filled, filledRows, sizeEntries, startEntries, costEntries, conditionLists, effectLists};
+ghost use Rattle.files.specs.Rows.{cleared, stored, filled, filledRows, storedSizes, storedStarts, storedCosts, conditionLists, effectLists};
 ghost use Rattle.files.specs.TaskFile.{pairsFrom, variablesFrom, actionsFrom, checkTask, taskOf, variablesIn, actionsIn};
 use crate::Outcome;
 use crate::bytes;
@@ -14,7 +14,7 @@ use crate::reader;
 use crate::records;
 use crate::task;
 
-// Clears the row of 64 entries at `base`.
+// Clears the row of 64 cells at `base`.
 fn clear_row(row: &mut [u8], base: usize)
     requires { ⌜ base + 64 ≤ length (now row) ⌝ }
     ensures { λ r. ⌜ now (row .exit) ≡ cleared (now (row .entry)) base 64 ⌝ }
@@ -28,7 +28,7 @@ fn clear_row(row: &mut [u8], base: usize)
     }
 }
 
-// Stores a value in the entry of a variable below 64.
+// Stores a value in the cell of a variable below 64.
 fn store(row: &mut [u8], base: usize, variable: usize, value: usize)
     requires { ⌜ base + 64 ≤ length (now row) ⌝ }
     ensures { λ r. ⌜ now (row .exit) ≡ stored (now (row .entry)) base variable value ⌝ }
@@ -57,7 +57,7 @@ fn fill_row(row: &mut [u8], base: usize, s: &[u8], at: usize, count: usize)
 // The domain sizes and start values of `count` variables.
 fn read_variables(sizes: &mut [u8], starts: &mut [u8], s: &[u8], count: usize)
     requires { ⌜ (count ≤ 64) × (64 ≤ length (now sizes)) × (64 ≤ length (now starts)) ⌝ }
-    ensures { λ r. ⌜ (now (sizes .exit) ≡ placed (now (sizes .entry)) 0 (sizeEntries (variablesFrom (now (s .entry)) 8 count))) × (now (starts .exit) ≡ placed (now (starts .entry)) 0 (startEntries (variablesFrom (now (s .entry)) 8 count))) ⌝ }
+    ensures { λ r. ⌜ (now (sizes .exit) ≡ placed (now (sizes .entry)) 0 (storedSizes (variablesFrom (now (s .entry)) 8 count))) × (now (starts .exit) ≡ placed (now (starts .entry)) 0 (storedStarts (variablesFrom (now (s .entry)) 8 count))) ⌝ }
 {
     let mut i: usize = 0;
     let mut place: usize = 8;
@@ -74,7 +74,7 @@ fn read_variables(sizes: &mut [u8], starts: &mut [u8], s: &[u8], count: usize)
 // The costs of `count` actions from `at` on.
 fn read_costs(costs: &mut [u32], s: &[u8], at: usize, count: usize)
     requires { ⌜ (count ≤ length (now costs)) × (at + 65540 * count < offsetLimit) ⌝ }
-    ensures { λ r. ⌜ now (costs .exit) ≡ placed (now (costs .entry)) 0 (costEntries (actionsFrom (now (s .entry)) at count)) ⌝ }
+    ensures { λ r. ⌜ now (costs .exit) ≡ placed (now (costs .entry)) 0 (storedCosts (actionsFrom (now (s .entry)) at count)) ⌝ }
 {
     let mut i: usize = 0;
     let mut place = at;

@@ -20,17 +20,17 @@ fn values_in(s: &[u8], at: usize) -> usize
     (body - 2) / 2
 }
 
-// The variable origin at `at`, whose variable is to be at least `low`.
-fn check_variable(s: &[u8], low: usize, at: usize) -> Outcome
+// The variable origin at `at`, whose variable is to be `at_least` or above.
+fn check_variable(s: &[u8], at_least: usize, at: usize) -> Outcome
     requires { ⌜ at < offsetLimit ⌝ }
-    ensures { λ r. ⌜ r ≡ variableOriginAt (now (s .entry)) low at ⌝ }
+    ensures { λ r. ⌜ r ≡ variableOriginAt (now (s .entry)) «at_least» at ⌝ }
 {
     let head = records::check_head(s, at, 6);
     if head.number != 0 {
         return head;
     }
     let variable = bytes::u16_at(s, at + 4);
-    if variable < low {
+    if variable < at_least {
         return outcomes::refuse(6, at + 4);
     }
     if 64 <= variable {
@@ -44,15 +44,15 @@ pub(crate) fn check_variables(s: &[u8], count: usize) -> Outcome
     requires { ⌜ 65540 * count < offsetLimit ⌝ }
     ensures { λ r. ⌜ r ≡ variableOriginsAt (now (s .entry)) 0 0 count ⌝ }
 {
-    let mut low: usize = 0;
+    let mut at_least: usize = 0;
     let mut place: usize = 0;
     let mut left = count;
     while 0 < left {
-        let variable = check_variable(s, low, place);
+        let variable = check_variable(s, at_least, place);
         if variable.number != 0 {
             return variable;
         }
-        low = bytes::u16_at(s, place + 4) + 1;
+        at_least = bytes::u16_at(s, place + 4) + 1;
         place = reader::record_after(s, place);
         left -= 1;
     }
@@ -64,18 +64,18 @@ pub(crate) fn check_actions(s: &[u8], at: usize, count: usize) -> Outcome
     requires { ⌜ at + 2 * count < 2 ^ 64 ⌝ }
     ensures { λ r. ⌜ r ≡ actionOriginsAt (now (s .entry)) 0 at count ⌝ }
 {
-    let mut low: usize = 0;
+    let mut at_least: usize = 0;
     let mut place = at;
     let mut left = count;
     while 0 < left {
         let action = bytes::u16_at(s, place);
-        if action < low {
+        if action < at_least {
             return outcomes::refuse(6, place);
         }
         if 512 <= action {
             return outcomes::refuse(5, place);
         }
-        low = action + 1;
+        at_least = action + 1;
         place += 2;
         left -= 1;
     }

@@ -88,13 +88,13 @@ fn size_at(s: &[u8], at: usize) -> usize
     bytes::u16_at(s, 8 * variable + 8 + 4)
 }
 
-// The pair at `at`, whose variable is to be at least `low`.
-fn check_pair(s: &[u8], low: usize, at: usize) -> Outcome
+// The pair at `at`, whose variable is to be `at_least` or above.
+fn check_pair(s: &[u8], at_least: usize, at: usize) -> Outcome
     requires { ⌜ at + 2 < 2 ^ 64 ⌝ }
-    ensures { λ r. ⌜ r ≡ pairAt (now (s .entry)) low at ⌝ }
+    ensures { λ r. ⌜ r ≡ pairAt (now (s .entry)) «at_least» at ⌝ }
 {
     let variable = bytes::u16_at(s, at);
-    if variable < low {
+    if variable < at_least {
         return outcomes::refuse(6, at);
     }
     let variables = variables_in(s);
@@ -114,15 +114,15 @@ fn check_pairs(s: &[u8], at: usize, count: usize) -> Outcome
     requires { ⌜ at + 4 * count < 2 ^ 64 ⌝ }
     ensures { λ r. ⌜ r ≡ pairsAt (now (s .entry)) 0 at count ⌝ }
 {
-    let mut low: usize = 0;
+    let mut at_least: usize = 0;
     let mut place = at;
     let mut left = count;
     while 0 < left {
-        let pair = check_pair(s, low, place);
+        let pair = check_pair(s, at_least, place);
         if pair.number != 0 {
             return pair;
         }
-        low = bytes::u16_at(s, place) + 1;
+        at_least = bytes::u16_at(s, place) + 1;
         place += 4;
         left -= 1;
     }

@@ -13,7 +13,7 @@ ghost use Rattle.files.specs.TaskFile.{pairBytes, variableBytes, actionB
 use crate::bytes;
 use crate::records;
 
-// How many pairs the first `count` entries of the row at `base` have.
+// How many pairs the first `count` cells of the row at `base` have.
 fn pairs_in(rows: &[u8], base: usize, count: usize) -> usize
     requires { ⌜ (base + count ≤ length (now rows)) × (count ≤ 64) ⌝ }
     ensures { λ r. ⌜ (r ≡ length (rowPairs (now (rows .entry)) base 0 count)) × (r ≤ 64) ⌝ }

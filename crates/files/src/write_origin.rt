@@ -36,7 +36,7 @@ pub fn origin_needed(variables: usize, actions: usize, sizes: &[u8; 64]) -> usiz
     16 + origins_needed(sizes, variables) + 2 * actions
 }
 
-// Writes `count` entries of a row from `base` on as numbers of 2 bytes.
+// Writes `count` cells of a row from `base` on as numbers of 2 bytes.
 fn put_values(buffer: &mut [u8], at: usize, values: &[u8], base: usize, count: usize)
     requires { ⌜ (base + count ≤ length (now values)) × (at + 2 * count ≤ length (now buffer)) ⌝ }
     ensures { λ r. ⌜ now (buffer .exit) ≡ placed (now (buffer .entry)) at (numberBytes (rowNumbers (now (values .entry)) base count)) ⌝ }

@@ -44,7 +44,7 @@ module _ (task : List ℕ) (level : ℕ) (b : MarkBuffers) where
       let whole = markWhole (taskOf task) level in
       record {
         outcome = ap (listed (markRefusals task)) (sym row-is) ∙ mark-listed;
-        numbers = answer-by _ _ _ whole noMarks row-is (λ e. λ i. record { outcome = listed-itself _ o mark-listed e i; actions = whole .actions; facts = whole .facts; rounds = whole .rounds });
+        numbers = answer-by _ _ _ whole noMarks row-is (λ e. λ i. record { outcome = listed-itself _ o mark-listed e i; «action_marks» = whole .«action_marks»; «fact_marks» = whole .«fact_marks»; rounds = whole .rounds });
         buffers =
             split (isDone o)
             (λ e. rw e (λ i. record { actions = after-yes o (actionMarksOf (taskOf task) level) (b .actions) e i; facts = after-yes o (factMarksOf (taskOf task) level) (b .facts) e i }))

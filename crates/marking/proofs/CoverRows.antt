@@ -18,7 +18,7 @@ use Rattle.files.proofs.Truth.{any-same, all-of-any, count-none}
 eqb-swap : (x y : ℕ) → eqb x y ≡ eqb y x
 eqb-swap x y = split (eqb x y) (λ e. e ∙ sym (eq-eqb y x (sym (eqb-true x y e)))) (λ e. e ∙ sym (ne-eqb y x (λ q. eqb-false x y e (sym q))))
 
--- an entry that is there stands in the other row where the other has the same entry
+-- a cell that is there stands in the other row where the other has the same cell
 lacking : (x y : ℕ) → not (eqb x 255) && not (not (eqb y 255) && eqb y x) ≡ not (eqb x 255) && not (eqb x y)
 lacking x y =
     split (eqb x 255)

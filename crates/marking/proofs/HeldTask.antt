@@ -1,4 +1,4 @@
--- The task that arrays hold, by their entries; and the marks that arrays hold.
+-- The task that arrays hold, by their cells; and the marks that arrays hold.
 use Prim.Native.Nat.{ℕ, _+_, _*_, _<_}
 use mathlib.Core.Path.{_≡_, refl, sym, ap, ap₂, _∙_}
 use mathlib.Core.Bool.{Bool, true, false, cond, _&&_}
@@ -70,7 +70,7 @@ module _ (d : Arrays) where
   abbrev pub effectAt : ℕ → ℕ → ℕ
   effectAt a v = getD (d .effects) (64 * a + v) 0
 
-  -- a variable is threatened, by the entries of the effects
+  -- a variable is threatened, by the cells of the effects
   pub threatened-held : (A : ℕ → Bool) (v : ℕ) → v < d .variables → threatened (held d) A v ≡ anyBelow (d .actions) (λ a. A a && otherThan (effectAt a v) (getD (d .starts) v 0))
   unfolding threatened
   threatened-held A v h =
@@ -104,20 +104,20 @@ module _ (d : Arrays) where
     pub held-shaped : Shaped (held d) (heldMarks (held d) actions facts)
     held-shaped = rw marks-held (marksOf-shaped (held d) (isMarked actions) factAt)
 
--- the entries of an accepted task's rows
+-- the cells of an accepted task's rows
 module _ (d : Arrays) (ok : Valid (held d)) where
-  pub entry-valid : (row : List ℕ) (base v : ℕ) → validPairs (held d) 0 (rowPairs row base 0 (d .variables)) ≡ true → v < d .variables → eqb (getD row (base + v) 0) 255 ≡ false → getD row (base + v) 0 < sizeOf (held d) v
-  entry-valid row base v w h there =
+  pub cell-valid : (row : List ℕ) (base v : ℕ) → validPairs (held d) 0 (rowPairs row base 0 (d .variables)) ≡ true → v < d .variables → eqb (getD row (base + v) 0) 255 ≡ false → getD row (base + v) 0 < sizeOf (held d) v
+  cell-valid row base v w h there =
       let x = getD row (base + v) 0 in
       value-valid (held d) 0 (rowPairs row base 0 (d .variables)) v x w
       (rowPairs-value row base 0 (d .variables) v (omega arith) (omega arith) ∙ ap (λ (b : Bool). cond b none (some x)) there)
       .inside
 
   pub effect-valid : (a v : ℕ) → a < d .actions → v < d .variables → eqb (effectAt d a v) 255 ≡ false → effectAt d a v < sizeOf (held d) v
-  effect-valid a v l h there = entry-valid (d .effects) (64 * a) v (rw (← effects-held d a l) (ok .action a .effects)) h there
+  effect-valid a v l h there = cell-valid (d .effects) (64 * a) v (rw (← effects-held d a l) (ok .action a .effects)) h there
 
   pub condition-valid : (a v : ℕ) → a < d .actions → v < d .variables → eqb (getD (d .conditions) (64 * a + v) 0) 255 ≡ false → getD (d .conditions) (64 * a + v) 0 < sizeOf (held d) v
-  condition-valid a v l h there = entry-valid (d .conditions) (64 * a) v (rw (← conditions-held d a l) (ok .action a .conditions)) h there
+  condition-valid a v l h there = cell-valid (d .conditions) (64 * a) v (rw (← conditions-held d a l) (ok .action a .conditions)) h there
 
   pub goal-valid : (v : ℕ) → v < d .variables → eqb (getD (d .goal) (0 + v) 0) 255 ≡ false → getD (d .goal) (0 + v) 0 < sizeOf (held d) v
-  goal-valid v h there = entry-valid (d .goal) 0 v (rw (← goal-held d) (ok .goal)) h there
+  goal-valid v h there = cell-valid (d .goal) 0 v (rw (← goal-held d) (ok .goal)) h there

@@ -35,7 +35,7 @@ sum-mono l m (suc n) h =
 pub sum-within : (l : List ℕ) (i n total : ℕ) → i < n → total ≡ sumOf l i → total + getD l i 0 ≤ sumOf l n
 sum-within l i n total h e = omega (arith, sum-next l i total (getD l i 0) e refl, sum-mono l (i + 1) n (omega arith))
 
--- the row at `base` of a table, filled up to its entry i
+-- the row at `base` of a table, filled up to its cell i
 pub row-next : (f : ℕ → ℕ) (l : List ℕ) (base i x : ℕ) → base + i < length l → ((j : ℕ) → j < i → getD l (base + j) 0 ≡ f j) → x ≡ f i
     → (j : ℕ) → j < i + 1 → getD (set l (base + i) x) (base + j) 0 ≡ f j
 row-next f l base i x h before e j below =

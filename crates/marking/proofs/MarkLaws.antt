@@ -22,7 +22,7 @@ use Rattle.marking.specs.declared.Marked.{Marked}
 use Rattle.marking.specs.Marks.{Marks}
 use Rattle.marking.specs.Rounds.{nextActions, marking}
 use Rattle.marking.specs.Mark.{actionMarksOf, factMark, factMarksOf, validLevel, marksFit, markOutcome, noMarks, markAnswer, mark}
-use Rattle.marking.specs.Dense.{sumOf, entryMark, entryMarks, Final}
+use Rattle.marking.specs.Dense.{sumOf, factByte, factBytes, Final}
 use Rattle.marking.proofs.HeldTask.{variables-held, actions-held, size-held}
 use Rattle.marking.proofs.MarkTables.{tabulate-same}
 use Rattle.marking.proofs.ResultLaws.{joined-length}
@@ -44,9 +44,9 @@ module _ (r : Marked) (o : Outcome) (refused : o .number ≡ 0 → ⊥) (e : r �
   buffer-untouched new old = sym (after-refused (r .outcome) new old (λ z. refused (sym (ap (λ (x : Marked). x .outcome .number) e) ∙ z)))
 
 pub answer-done : (o stages : Outcome) (t : Task) (level actions facts rounds : ℕ) → o .number ≡ 0 → o ≡ stages → actions ≡ actionCount t → facts ≡ factCount t → rounds ≡ marking t level .rounds
-    → record { outcome = o; actions = actions; facts = facts; rounds = rounds } ≡ markAnswer stages t level
+    → record { outcome = o; «action_marks» = actions; «fact_marks» = facts; rounds = rounds } ≡ markAnswer stages t level
 unfolding markAnswer
-answer-done o stages t level actions facts rounds z q a f r = rw (← q, is-done o z) (λ i. record { outcome = o; actions = a i; facts = f i; rounds = r i })
+answer-done o stages t level actions facts rounds z q a f r = rw (← q, is-done o z) (λ i. record { outcome = o; «action_marks» = a i; «fact_marks» = f i; rounds = r i })
 
 -- a refusal has a number
 pub refusal-number : (o : Outcome) (n place : ℕ) → 0 < n → o ≡ refusal n place → o .number ≡ 0 → ⊥
@@ -101,14 +101,14 @@ module _ (d : Arrays) (ok : Valid (held d)) (level : ℕ) where
         let known : a < actionCount (held d) = omega (arith, actions-held d) in
         f .action a known ∙ sym (map-entry bit (m .actions) a 0 false (omega (arith, actions-long))))
 
-    pub fact-bytes : joinBelow (d .variables) (λ v. entryMarks facts unlinked v (getD (d .sizes) v 0)) ≡ factMarksOf (held d) level
-    unfolding factMarksOf entryMarks
+    pub fact-bytes : joinBelow (d .variables) (λ v. factBytes facts unlinked v (getD (d .sizes) v 0)) ≡ factMarksOf (held d) level
+    unfolding factMarksOf factBytes
     fact-bytes =
-        joined-same (d .variables) (λ v. tabulate (getD (d .sizes) v 0) (λ e. entryMark (getD facts (32 * v + e) 0) (getD unlinked (32 * v + e) 0))) (λ v. tabulate (sizeOf (held d) v) (factMark (held d) level m v))
+        joined-same (d .variables) (λ v. tabulate (getD (d .sizes) v 0) (λ e. factByte (getD facts (32 * v + e) 0) (getD unlinked (32 * v + e) 0))) (λ v. tabulate (sizeOf (held d) v) (factMark (held d) level m v))
         (λ v l.
         let known : v < variableCount (held d) = omega (arith, variables-held d) in
-        ap (λ (n : ℕ). tabulate n (λ e. entryMark (getD facts (32 * v + e) 0) (getD unlinked (32 * v + e) 0))) (sym (size-held d v l))
-        ∙ tabulate-same (λ e. entryMark (getD facts (32 * v + e) 0) (getD unlinked (32 * v + e) 0)) (factMark (held d) level m v) (sizeOf (held d) v) 0 (λ e k. f .fact v e known k))
+        ap (λ (n : ℕ). tabulate n (λ e. factByte (getD facts (32 * v + e) 0) (getD unlinked (32 * v + e) 0))) (sym (size-held d v l))
+        ∙ tabulate-same (λ e. factByte (getD facts (32 * v + e) 0) (getD unlinked (32 * v + e) 0)) (factMark (held d) level m v) (sizeOf (held d) v) 0 (λ e k. f .fact v e known k))
         ∙ ap (λ (n : ℕ). joinBelow n (λ v. tabulate (sizeOf (held d) v) (factMark (held d) level m v))) (sym (variables-held d))
 
   pub action-marks-long : length (actionMarksOf (held d) level) ≡ actionCount (held d)

@@ -25,7 +25,7 @@ use Rattle.marking.proofs.RoundLinks.{differ-new, new-differs}
 use Rattle.marking.proofs.RowTests.{any-row, row-fact}
 use Rattle.files.proofs.Truth.{same-truth, marked-bit, cond-bit}
 
-module _ (d : Arrays) (ok : Valid (held d)) (level : ℕ) (actions facts before threats noted named : List ℕ) (p : Progress d level actions facts before threats noted named) where
+module _ (d : Arrays) (ok : Valid (held d)) (level : ℕ) (actions facts unlinked-before threats kept-before counted-before : List ℕ) (p : Progress d level actions facts unlinked-before threats kept-before counted-before) where
   abbrev marks : Marks
   marks = heldMarks (held d) actions facts
 
@@ -93,13 +93,13 @@ module _ (d : Arrays) (ok : Valid (held d)) (level : ℕ) (actions facts before 
 
   module _ (u : List ℕ) (now : (v e : ℕ) → v < d .variables → e < 32 → getD u (32 * v + e) 0 ≡ bit (unlinked (held d) level marks v e)) (is-marked : (v e : ℕ) → v < d .variables → e < 32 → isMarked u (32 * v + e) ≡ unlinked (held d) level marks v e) where
     anew : ℕ → ℕ → Bool
-    anew a i = differ u before i && sets (d .effects) (i / 32) (i % 32) (d .actions) a
+    anew a i = differ u unlinked-before i && sets (d .effects) (i / 32) (i % 32) (d .actions) a
 
-    achieves-says : (a : ℕ) → achieves (d .effects) (d .actions) before u (32 * d .variables) a ≡ anyBelow (32 * d .variables) (anew a)
+    achieves-says : (a : ℕ) → achieves (d .effects) (d .actions) unlinked-before u (32 * d .variables) a ≡ anyBelow (32 * d .variables) (anew a)
     unfolding achieves anew
     achieves-says a = refl
 
-    new-gains : (a : ℕ) → a < d .actions → achieves (d .effects) (d .actions) before u (32 * d .variables) a ≡ true → gainsAction (held d) level marks a ≡ true
+    new-gains : (a : ℕ) → a < d .actions → achieves (d .effects) (d .actions) unlinked-before u (32 * d .variables) a ≡ true → gainsAction (held d) level marks a ≡ true
     unfolding anew sets
     new-gains a l q =
         let found = anyBelow-elim (32 * d .variables) (anew a) (sym (achieves-says a) ∙ q) in
@@ -108,17 +108,17 @@ module _ (d : Arrays) (ok : Valid (held d)) (level : ℕ) (actions facts before 
         let e : ℕ = i % 32 in
         let known : v < d .variables = omega (arith, found .1) in
         let small : e < 32 = omega arith in
-        let both = and-split (differ u before i) (sets (d .effects) v e (d .actions) a) (found .2) in
+        let both = and-split (differ u unlinked-before i) (sets (d .effects) v e (d .actions) a) (found .2) in
         let sets-it : effectAt d a v ≡ e = eqb-true (effectAt d a v) e (and-split (ltb a (d .actions)) (eqb (effectAt d a v) e) (both .1) .1) in
         let place : i ≡ 32 * v + e = omega arith in
-        let differs : differ u before (32 * v + e) ≡ true = subst (λ (n : ℕ). differ u before n ≡ true) place (both .0) in
+        let differs : differ u unlinked-before (32 * v + e) ≡ true = subst (λ (n : ℕ). differ u unlinked-before n ≡ true) place (both .0) in
         let free : isMarked u (32 * v + e) ≡ true =
-        differ-new (getD u (32 * v + e) 0) (getD before (32 * v + e) 0) (omega (arith, now v e known small, bit-most (unlinked (held d) level marks v e))) (p .before-bit v e known small)
+        differ-new (getD u (32 * v + e) 0) (getD unlinked-before (32 * v + e) 0) (omega (arith, now v e known small, bit-most (unlinked (held d) level marks v e))) (p .before-bit v e known small)
         (λ r. is-marked v e known small ∙ p .before-unlinked v e known small r) differs in
         achieves-gains a v l known (ne-eqb (effectAt d a v) 255 (λ r. omega arith))
         (ap (unlinked (held d) level marks v) sets-it ∙ sym (is-marked v e known small) ∙ free)
 
-    gains-new : (a : ℕ) → a < d .actions → gainsAction (held d) level marks a ≡ true → (achieves (d .effects) (d .actions) before u (32 * d .variables) a ≡ true) ⊎ (isMarked actions a ≡ true)
+    gains-new : (a : ℕ) → a < d .actions → gainsAction (held d) level marks a ≡ true → (achieves (d .effects) (d .actions) unlinked-before u (32 * d .variables) a ≡ true) ⊎ (isMarked actions a ≡ true)
     unfolding anew sets
     gains-new a l q =
         let g = achieved a l q in
@@ -127,7 +127,7 @@ module _ (d : Arrays) (ok : Valid (held d)) (level : ℕ) (actions facts before 
         let known : v < d .variables = g .known in
         let small : e < 32 = omega (arith, effect-valid d ok a v l known (g .there), ok .size-most v) in
         let free : isMarked u (32 * v + e) ≡ true = is-marked v e known small ∙ g .free in
-        split (isMarked before (32 * v + e))
+        split (isMarked unlinked-before (32 * v + e))
         (λ r. inr (p .before-kept a v l known (g .there) r))
         (λ r.
         let variable : (32 * v + e) / 32 ≡ v = omega arith in
@@ -137,26 +137,26 @@ module _ (d : Arrays) (ok : Valid (held d)) (level : ℕ) (actions facts before 
         inl
         (achieves-says a
         ∙ anyBelow-intro (32 * d .variables) (anew a) (32 * v + e) (omega arith)
-        (and-join (new-differs (getD u (32 * v + e) 0) (getD before (32 * v + e) 0) free r) set-there)))
+        (and-join (new-differs (getD u (32 * v + e) 0) (getD unlinked-before (32 * v + e) 0) free r) set-there)))
 
-    pub actions-now : (actions′ : List ℕ) → SetWhere (achieves (d .effects) (d .actions) before u (32 * d .variables)) actions actions′ → (a : ℕ) → a < d .actions → getD actions′ a 0 ≡ bit (kept marks a || gainsAction (held d) level marks a)
+    pub actions-now : (actions′ : List ℕ) → SetWhere (achieves (d .effects) (d .actions) unlinked-before u (32 * d .variables)) actions actions′ → (a : ℕ) → a < d .actions → getD actions′ a 0 ≡ bit (kept marks a || gainsAction (held d) level marks a)
     actions-now actions′ s a l =
         s .entry a (omega (arith, p .actions-long, ok .actions-few, actions-held d))
-        ∙ ap (λ (n : ℕ). cond (achieves (d .effects) (d .actions) before u (32 * d .variables) a) 1 n) (marked-bit (getD actions a 0) (p .action-bit a l))
-        ∙ cond-bit (achieves (d .effects) (d .actions) before u (32 * d .variables) a) (isMarked actions a)
+        ∙ ap (λ (n : ℕ). cond (achieves (d .effects) (d .actions) unlinked-before u (32 * d .variables) a) 1 n) (marked-bit (getD actions a 0) (p .action-bit a l))
+        ∙ cond-bit (achieves (d .effects) (d .actions) unlinked-before u (32 * d .variables) a) (isMarked actions a)
         ∙ ap bit
-        (same-truth (achieves (d .effects) (d .actions) before u (32 * d .variables) a || isMarked actions a) (kept marks a || gainsAction (held d) level marks a)
+        (same-truth (achieves (d .effects) (d .actions) unlinked-before u (32 * d .variables) a || isMarked actions a) (kept marks a || gainsAction (held d) level marks a)
         (λ q.
         ⊎-elim
         (λ new. or-right (kept marks a) (new-gains a l new))
         (λ old. or-left (gainsAction (held d) level marks a) (kept-held d actions facts a l ∙ old))
-        (or-split (achieves (d .effects) (d .actions) before u (32 * d .variables) a) (isMarked actions a) q))
+        (or-split (achieves (d .effects) (d .actions) unlinked-before u (32 * d .variables) a) (isMarked actions a) q))
         (λ q.
         ⊎-elim
-        (λ old. or-right (achieves (d .effects) (d .actions) before u (32 * d .variables) a) (sym (kept-held d actions facts a l) ∙ old))
+        (λ old. or-right (achieves (d .effects) (d .actions) unlinked-before u (32 * d .variables) a) (sym (kept-held d actions facts a l) ∙ old))
         (λ new.
         ⊎-elim
         (λ x. or-left (isMarked actions a) x)
-        (λ x. or-right (achieves (d .effects) (d .actions) before u (32 * d .variables) a) x)
+        (λ x. or-right (achieves (d .effects) (d .actions) unlinked-before u (32 * d .variables) a) x)
         (gains-new a l new))
         (or-split (kept marks a) (gainsAction (held d) level marks a) q)))

@@ -46,8 +46,8 @@ module _ (d : Arrays) where
   abbrev pub markSum : List ℕ → List ℕ → ℕ
   markSum actions facts = sumOf actions (d .actions) + sumOf facts 2048
 
-module _ (d : Arrays) (ok : Valid (held d)) (level : ℕ) (actions facts before threats noted named : List ℕ) (p : Progress d level actions facts before threats noted named)
-    (actions′ facts′ before′ threats′ noted′ named′ : List ℕ) (q : Progress d level actions′ facts′ before′ threats′ noted′ named′)
+module _ (d : Arrays) (ok : Valid (held d)) (level : ℕ) (actions facts unlinked-before threats kept-before counted-before : List ℕ) (p : Progress d level actions facts unlinked-before threats kept-before counted-before)
+    (actions′ facts′ unlinked-before′ threats′ kept-before′ counted-before′ : List ℕ) (q : Progress d level actions′ facts′ unlinked-before′ threats′ kept-before′ counted-before′)
     (gains names : ℕ → Bool) (s : SetWhere gains actions actions′) (r : SetWhere names facts facts′) where
   action-more : (a : ℕ) → a < d .actions → getD actions a 0 ≤ getD actions′ a 0
   action-more a l = set-more gains actions actions′ a s (omega (arith, p .actions-long, ok .actions-few, actions-held d)) (p .action-bit a l)

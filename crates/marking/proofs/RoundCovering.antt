@@ -1,4 +1,4 @@
--- What covers what, by the entries of the arrays and the table of what could cover what; and the actions whose conditions count.
+-- What covers what, by the cells of the arrays and the table of what could cover what; and the actions whose conditions count.
 use Prim.Native.Nat.{ℕ, _+_, _*_, _<_}
 use mathlib.Core.Path.{_≡_, refl, sym, ap, ap₂, _∙_}
 use mathlib.Core.Bool.{Bool, true, false, not, _&&_, _||_}
@@ -11,7 +11,7 @@ use Rattle.files.specs.Below.{anyBelow, allBelow, bit}
 use Rattle.files.specs.Dense.{Arrays, held}
 use Rattle.files.specs.Task.{Pair, actionOf, actionCount, variableCount, valueIn}
 use Rattle.files.proofs.Logic.{split}
-use Rattle.files.proofs.RowValues.{entryValue, rowPairs-value}
+use Rattle.files.proofs.RowValues.{cellValue, rowPairs-value}
 use Rattle.files.proofs.Tabulate.{tabulate-entry}
 use Rattle.marking.specs.Marks.{Marks}
 use Rattle.marking.specs.Links.{tracked}
@@ -23,9 +23,9 @@ use Rattle.marking.proofs.CoverRows.{could-same}
 use Rattle.marking.proofs.RoundLaws.{trackedMarks-at}
 use Rattle.files.proofs.Truth.{any-same, all-any, count-none, bit-marked}
 
--- effects by their entries
-same-entries : (x y : ℕ) → sameEffect (entryValue x) (entryValue y) ≡ eqb x y
-same-entries x y =
+-- effects by their cells
+same-cells : (x y : ℕ) → sameEffect (cellValue x) (cellValue y) ≡ eqb x y
+same-cells x y =
     split (eqb x 255)
     (λ e.
     split (eqb y 255)
@@ -42,7 +42,7 @@ module _ (d : Arrays) where
       could-same (askedBy (d .costs) (d .conditions) (d .variables) b) (actionOf (held d) b) (askedBy (d .costs) (d .conditions) (d .variables) a) (actionOf (held d) a)
       (sym (cost-held d b l)) (sym (conditions-held d b l)) (sym (cost-held d a k)) (sym (conditions-held d a k))
 
-  effect-held : (a v : ℕ) → a < d .actions → v < d .variables → valueIn (actionOf (held d) a .effects) v ≡ entryValue (effectAt d a v)
+  effect-held : (a v : ℕ) → a < d .actions → v < d .variables → valueIn (actionOf (held d) a .effects) v ≡ cellValue (effectAt d a v)
   effect-held a v l h = ap (λ (ps : List Pair). valueIn ps v) (effects-held d a l) ∙ rowPairs-value (d .effects) (64 * a) 0 (d .variables) v (omega arith) (omega arith)
 
   module _ (T : ℕ → Bool) (tracks : List ℕ) (track : (v : ℕ) → v < d .variables → isMarked tracks v ≡ T v) where
@@ -55,7 +55,7 @@ module _ (d : Arrays) where
         ∙ ap not
         (any-same (d .variables) (λ v. not (same v)) (λ v. isMarked tracks v && not (eqb (effectAt d b v) (effectAt d a v)))
         (λ v h.
-        ap (λ (t : Bool). not (not (T v) || t)) (ap₂ sameEffect (effect-held b v l h) (effect-held a v k h) ∙ same-entries (effectAt d b v) (effectAt d a v))
+        ap (λ (t : Bool). not (not (T v) || t)) (ap₂ sameEffect (effect-held b v l h) (effect-held a v k h) ∙ same-cells (effectAt d b v) (effectAt d a v))
         ∙ negated (T v) (eqb (effectAt d b v) (effectAt d a v))
         ∙ ap (λ (t : Bool). t && not (eqb (effectAt d b v) (effectAt d a v))) (sym (track v h))))
         ∙ sym (count-none (d .variables) (λ v. isMarked tracks v && not (eqb (effectAt d b v) (effectAt d a v))))
@@ -95,9 +95,9 @@ module _ (d : Arrays) (level : ℕ) (m : Marks) (actions pairs tracks : List ℕ
       (covered-held d (marked (trackedMarks (held d) level m)) tracks (λ v h. track v h ∙ sym (trackedMarks-at (held d) level m v (omega (arith, variables-held d)))) (marked (nextActions (held d) level m)) actions pairs action (table (eqb-true level 4 e)) a l))
       (λ e. rw e refl)
 
-  pub counted-now : (named : List ℕ) (a : ℕ) → a < d .actions → countedAt level actions named (coveredAt actions pairs (d .effects) tracks (d .variables) (d .actions) a) a ≡ isMarked named a || counts a
+  pub counted-now : (counted-before : List ℕ) (a : ℕ) → a < d .actions → countedAt level actions counted-before (coveredAt actions pairs (d .effects) tracks (d .variables) (d .actions) a) a ≡ isMarked counted-before a || counts a
   unfolding countedAt countedActions
-  counted-now named a l =
-      ap (λ (t : Bool). isMarked named a || t)
+  counted-now counted-before a l =
+      ap (λ (t : Bool). isMarked counted-before a || t)
       (ap₂ (λ (x y : Bool). x && not y) (action a l) (covering a l)
       ∙ sym (tabulate-entry (λ b. marked (nextActions (held d) level m) b && not (eqb level 4 && covered (held d) (marked (trackedMarks (held d) level m)) (marked (nextActions (held d) level m)) b)) (actionCount (held d)) a false (omega (arith, actions-held d))))

@@ -118,17 +118,17 @@ module _ (d : Arrays) (ok : Valid (held d)) (whole : Bool) (row : List ℕ) (bas
         value = ap (λ (b : Bool). cond b (ltb e (getD (d .sizes) v 0)) (eqb e (entry v % 32))) r ∙ eq-eqb e (entry v % 32) rest;
       })))
 
-module _ (d : Arrays) (ok : Valid (held d)) (level : ℕ) (actions facts before threats noted named : List ℕ) (p : Progress d level actions facts before threats noted named)
-    (counted : List Bool) (counts : List ℕ) (count : (a : ℕ) → a < d .actions → getD counts a 0 ≡ bit (isMarked named a || marked counted a))
-    (facts′ : List ℕ) (s : SetWhere (namesAnew (eqb level 1) (d .conditions) (d .sizes) (d .variables) counts named (d .actions)) facts facts′) where
+module _ (d : Arrays) (ok : Valid (held d)) (level : ℕ) (actions facts unlinked-before threats kept-before counted-before : List ℕ) (p : Progress d level actions facts unlinked-before threats kept-before counted-before)
+    (counted : List Bool) (counts : List ℕ) (count : (a : ℕ) → a < d .actions → getD counts a 0 ≡ bit (isMarked counted-before a || marked counted a))
+    (facts′ : List ℕ) (s : SetWhere (namesAnew (eqb level 1) (d .conditions) (d .sizes) (d .variables) counts counted-before (d .actions)) facts facts′) where
   abbrev marks : Marks
   marks = heldMarks (held d) actions facts
 
-  pub count-marked : (a : ℕ) → a < d .actions → isMarked counts a ≡ isMarked named a || marked counted a
-  count-marked a l = ap (λ (n : ℕ). eqb n 1) (count a l) ∙ bit-marked (isMarked named a || marked counted a)
+  pub count-marked : (a : ℕ) → a < d .actions → isMarked counts a ≡ isMarked counted-before a || marked counted a
+  count-marked a l = ap (λ (n : ℕ). eqb n 1) (count a l) ∙ bit-marked (isMarked counted-before a || marked counted a)
 
   pub count-bit : (a : ℕ) → a < d .actions → getD counts a 0 ≤ 1
-  count-bit a l = omega (arith, count a l, bit-most (isMarked named a || marked counted a))
+  count-bit a l = omega (arith, count a l, bit-most (isMarked counted-before a || marked counted a))
 
   row-names : (a v e : ℕ) → a < d .actions → v < d .variables → e < sizeOf (held d) v → rowNames (eqb level 1) (d .conditions) (64 * a) (d .sizes) (d .variables) (32 * v + e) ≡ names level (actionOf (held d) a .conditions) v e
   unfolding names
@@ -137,9 +137,9 @@ module _ (d : Arrays) (ok : Valid (held d)) (level : ℕ) (actions facts before 
       ∙ ap (λ (ps : List Pair). names level ps v e) (sym (conditions-held d a l))
 
   anew : ℕ → ℕ → Bool
-  anew i a = differ counts named a && rowNames (eqb level 1) (d .conditions) (64 * a) (d .sizes) (d .variables) i
+  anew i a = differ counts counted-before a && rowNames (eqb level 1) (d .conditions) (64 * a) (d .sizes) (d .variables) i
 
-  anew-says : (i : ℕ) → namesAnew (eqb level 1) (d .conditions) (d .sizes) (d .variables) counts named (d .actions) i ≡ anyBelow (d .actions) (anew i)
+  anew-says : (i : ℕ) → namesAnew (eqb level 1) (d .conditions) (d .sizes) (d .variables) counts counted-before (d .actions) i ≡ anyBelow (d .actions) (anew i)
   unfolding namesAnew anew
   anew-says i = refl
 
@@ -159,14 +159,14 @@ module _ (d : Arrays) (ok : Valid (held d)) (level : ℕ) (actions facts before 
       (λ new.
       let found = anyBelow-elim (d .actions) (anew (32 * v + e)) new in
       let a : ℕ = found .0 in
-      let both = and-split (differ counts named a) (rowNames (eqb level 1) (d .conditions) (64 * a) (d .sizes) (d .variables) (32 * v + e)) (found .2) in
+      let both = and-split (differ counts counted-before a) (rowNames (eqb level 1) (d .conditions) (64 * a) (d .sizes) (d .variables) (32 * v + e)) (found .2) in
       let is-new : isMarked counts a ≡ true =
-      differ-new (getD counts a 0) (getD named a 0) (count-bit a (found .1)) (p .named-bit a (found .1)) (λ r. count-marked a (found .1) ∙ or-left (marked counted a) r) (both .0) in
+      differ-new (getD counts a 0) (getD counted-before a 0) (count-bit a (found .1)) (p .counted-before-bit a (found .1)) (λ r. count-marked a (found .1) ∙ or-left (marked counted a) r) (both .0) in
       let named-it : names level (actionOf (held d) a .conditions) v e ≡ true = sym (row-names a v e (found .1) h k) ∙ both .1 in
       ⊎-elim
-      (λ old. or-left (anyBelow (d .actions) (gains v e)) (relevant-held d actions facts v e h k ∙ p .named-facts a (found .1) old v e h k named-it))
+      (λ old. or-left (anyBelow (d .actions) (gains v e)) (relevant-held d actions facts v e h k ∙ p .counted-before-facts a (found .1) old v e h k named-it))
       (λ fresh. or-right (relevant marks v e) (anyBelow-intro (d .actions) (gains v e) a (found .1) (and-join fresh named-it)))
-      (or-split (isMarked named a) (marked counted a) (sym (count-marked a (found .1)) ∙ is-new)))
+      (or-split (isMarked counted-before a) (marked counted a) (sym (count-marked a (found .1)) ∙ is-new)))
       (λ old. or-left (anyBelow (d .actions) (gains v e)) (relevant-held d actions facts v e h k ∙ old))
       (or-split (anyBelow (d .actions) (anew (32 * v + e))) (isMarked facts (32 * v + e)) q))
       (λ q.
@@ -176,21 +176,21 @@ module _ (d : Arrays) (ok : Valid (held d)) (level : ℕ) (actions facts before 
       let found = anyBelow-elim (d .actions) (gains v e) new in
       let a : ℕ = found .0 in
       let both = and-split (marked counted a) (names level (actionOf (held d) a .conditions) v e) (found .2) in
-      split (isMarked named a)
-      (λ r. or-right (anyBelow (d .actions) (anew (32 * v + e))) (p .named-facts a (found .1) r v e h k (both .1)))
+      split (isMarked counted-before a)
+      (λ r. or-right (anyBelow (d .actions) (anew (32 * v + e))) (p .counted-before-facts a (found .1) r v e h k (both .1)))
       (λ r.
       or-left (isMarked facts (32 * v + e))
       (anyBelow-intro (d .actions) (anew (32 * v + e)) a (found .1)
       (and-join
-      (new-differs (getD counts a 0) (getD named a 0) (count-marked a (found .1) ∙ or-right (isMarked named a) (both .0)) r)
+      (new-differs (getD counts a 0) (getD counted-before a 0) (count-marked a (found .1) ∙ or-right (isMarked counted-before a) (both .0)) r)
       (row-names a v e (found .1) h k ∙ both .1)))))
       (or-split (relevant marks v e) (anyBelow (d .actions) (gains v e)) q))
 
   entry-now : (i : ℕ) → i < 2048 → getD facts′ i 0 ≡ bit (anyBelow (d .actions) (anew i) || isMarked facts i)
   entry-now i k =
       s .entry i (omega (arith, p .facts-long))
-      ∙ ap (λ (n : ℕ). cond (namesAnew (eqb level 1) (d .conditions) (d .sizes) (d .variables) counts named (d .actions) i) 1 n) (marked-bit (getD facts i 0) (p .fact-bit i k))
-      ∙ cond-bit (namesAnew (eqb level 1) (d .conditions) (d .sizes) (d .variables) counts named (d .actions) i) (isMarked facts i)
+      ∙ ap (λ (n : ℕ). cond (namesAnew (eqb level 1) (d .conditions) (d .sizes) (d .variables) counts counted-before (d .actions) i) 1 n) (marked-bit (getD facts i 0) (p .fact-bit i k))
+      ∙ cond-bit (namesAnew (eqb level 1) (d .conditions) (d .sizes) (d .variables) counts counted-before (d .actions) i) (isMarked facts i)
       ∙ ap (λ (b : Bool). bit (b || isMarked facts i)) (anew-says i)
 
   pub facts-bit : (i : ℕ) → i < 2048 → getD facts′ i 0 ≤ 1
@@ -210,7 +210,7 @@ module _ (d : Arrays) (ok : Valid (held d)) (level : ℕ) (actions facts before 
       ⊎-elim
       (λ new.
       let found = anyBelow-elim (d .actions) (anew (32 * v + e)) new in
-      let both = and-split (differ counts named (found .0)) (rowNames (eqb level 1) (d .conditions) (64 * found .0) (d .sizes) (d .variables) (32 * v + e)) (found .2) in
+      let both = and-split (differ counts counted-before (found .0)) (rowNames (eqb level 1) (d .conditions) (64 * found .0) (d .sizes) (d .variables) (32 * v + e)) (found .2) in
       named-inside d ok (eqb level 1) (d .conditions) (64 * found .0) (λ w i. condition-valid d ok (found .0) w (found .1) i) v e k (both .1))
       (λ old. p .fact-known v e h k old)
       (or-split (anyBelow (d .actions) (anew (32 * v + e))) (isMarked facts (32 * v + e)) some-way)

@@ -57,17 +57,17 @@ module _ (t : Task) (level : ℕ) (m n : Marks) (more : Among t m n) where
       (split (linked t level (kept n) v e) (λ r. clash (both .1) (ap not (linked-shrinks v e r))) (λ r. ap not r))
 
 -- what a round of the code leaves in its arrays
-pub record Round (d : Arrays) (level : ℕ) (pairs actions facts before threats noted named threats′ u actions′ tracks counted facts′ : List ℕ) : Type 0 where
+pub record Round (d : Arrays) (level : ℕ) (pairs actions facts unlinked-before threats kept-before counted-before threats′ u actions′ tracks counted facts′ : List ℕ) : Type 0 where
   pub table : level ≡ 4 → (a b : ℕ) → a < d .actions → b < d .actions → getD pairs (512 * a + b) 0 ≡ bit (couldCover (askedBy (d .costs) (d .conditions) (d .variables) b) (askedBy (d .costs) (d .conditions) (d .variables) a))
-  pub threats-set : SetWhere (threatensAnew (d .effects) (d .starts) (d .variables) actions noted (d .actions)) threats threats′
+  pub threats-set : SetWhere (threatensAnew (d .effects) (d .starts) (d .variables) actions kept-before (d .actions)) threats threats′
   pub unlinked-at : (i : ℕ) → i < 32 * d .variables → getD u i 0 ≡ bit (unlinkedAt level facts (d .starts) threats′ i)
-  pub actions-set : SetWhere (achieves (d .effects) (d .actions) before u (32 * d .variables)) actions actions′
+  pub actions-set : SetWhere (achieves (d .effects) (d .actions) unlinked-before u (32 * d .variables)) actions actions′
   pub tracked-at : (v : ℕ) → v < d .variables → getD tracks v 0 ≡ bit (trackedAt u v)
-  pub counted-at : (a : ℕ) → a < d .actions → getD counted a 0 ≡ bit (countedAt level actions′ named (coveredAt actions′ pairs (d .effects) tracks (d .variables) (d .actions) a) a)
-  pub facts-set : SetWhere (namesAnew (eqb level 1) (d .conditions) (d .sizes) (d .variables) counted named (d .actions)) facts facts′
+  pub counted-at : (a : ℕ) → a < d .actions → getD counted a 0 ≡ bit (countedAt level actions′ counted-before (coveredAt actions′ pairs (d .effects) tracks (d .variables) (d .actions) a) a)
+  pub facts-set : SetWhere (namesAnew (eqb level 1) (d .conditions) (d .sizes) (d .variables) counted counted-before (d .actions)) facts facts′
 
-module _ (d : Arrays) (ok : Valid (held d)) (level : ℕ) (pairs actions facts before threats noted named : List ℕ) (p : Progress d level actions facts before threats noted named)
-    (threats′ u actions′ tracks counted facts′ : List ℕ) (r : Round d level pairs actions facts before threats noted named threats′ u actions′ tracks counted facts′) where
+module _ (d : Arrays) (ok : Valid (held d)) (level : ℕ) (pairs actions facts unlinked-before threats kept-before counted-before : List ℕ) (p : Progress d level actions facts unlinked-before threats kept-before counted-before)
+    (threats′ u actions′ tracks counted facts′ : List ℕ) (r : Round d level pairs actions facts unlinked-before threats kept-before counted-before threats′ u actions′ tracks counted facts′) where
   abbrev m : Marks
   m = heldMarks (held d) actions facts
 
@@ -75,13 +75,13 @@ module _ (d : Arrays) (ok : Valid (held d)) (level : ℕ) (pairs actions facts b
   A = nextActions (held d) level m
 
   free : (v e : ℕ) → v < d .variables → e < 32 → getD u (32 * v + e) 0 ≡ bit (unlinked (held d) level m v e)
-  free = unlinked-now d ok level actions facts before threats noted named p threats′ (r .threats-set) u (r .unlinked-at)
+  free = unlinked-now d ok level actions facts unlinked-before threats kept-before counted-before p threats′ (r .threats-set) u (r .unlinked-at)
 
   pub free-marked : (v e : ℕ) → v < d .variables → e < 32 → isMarked u (32 * v + e) ≡ unlinked (held d) level m v e
-  free-marked = unlinked-marked d ok level actions facts before threats noted named p threats′ (r .threats-set) u (r .unlinked-at)
+  free-marked = unlinked-marked d ok level actions facts unlinked-before threats kept-before counted-before p threats′ (r .threats-set) u (r .unlinked-at)
 
   action-now : (a : ℕ) → a < d .actions → getD actions′ a 0 ≡ bit (kept m a || gainsAction (held d) level m a)
-  action-now = actions-now d ok level actions facts before threats noted named p u free free-marked actions′ (r .actions-set)
+  action-now = actions-now d ok level actions facts unlinked-before threats kept-before counted-before p u free free-marked actions′ (r .actions-set)
 
   action-marked : (a : ℕ) → a < d .actions → isMarked actions′ a ≡ kept m a || gainsAction (held d) level m a
   action-marked a l = ap (λ (n : ℕ). eqb n 1) (action-now a l) ∙ bit-marked (kept m a || gainsAction (held d) level m a)
@@ -94,16 +94,16 @@ module _ (d : Arrays) (ok : Valid (held d)) (level : ℕ) (pairs actions facts b
   tracked-marked v h =
       ap (λ (n : ℕ). eqb n 1) (r .tracked-at v h)
       ∙ bit-marked (trackedAt u v)
-      ∙ tracked-now d ok level actions facts before threats noted named p threats′ (r .threats-set) u (r .unlinked-at) v h
+      ∙ tracked-now d ok level actions facts unlinked-before threats kept-before counted-before p threats′ (r .threats-set) u (r .unlinked-at) v h
 
   abbrev C : List Bool
   C = countedActions (held d) level (trackedMarks (held d) level m) A
 
-  count-now : (a : ℕ) → a < d .actions → getD counted a 0 ≡ bit (isMarked named a || marked C a)
-  count-now a l = r .counted-at a l ∙ ap bit (counted-now d level m actions′ pairs tracks action-next tracked-marked (r .table) named a l)
+  count-now : (a : ℕ) → a < d .actions → getD counted a 0 ≡ bit (isMarked counted-before a || marked C a)
+  count-now a l = r .counted-at a l ∙ ap bit (counted-now d level m actions′ pairs tracks action-next tracked-marked (r .table) counted-before a l)
 
   fact-now : (v e : ℕ) → v < d .variables → e < sizeOf (held d) v → getD facts′ (32 * v + e) 0 ≡ bit (relevant m v e || gainsFact (held d) level C v e)
-  fact-now = facts-now d ok level actions facts before threats noted named p C counted count-now facts′ (r .facts-set)
+  fact-now = facts-now d ok level actions facts unlinked-before threats kept-before counted-before p C counted count-now facts′ (r .facts-set)
 
   fact-marked : (v e : ℕ) → v < d .variables → e < sizeOf (held d) v → isMarked facts′ (32 * v + e) ≡ relevant m v e || gainsFact (held d) level C v e
   fact-marked v e h k = ap (λ (n : ℕ). eqb n 1) (fact-now v e h k) ∙ bit-marked (relevant m v e || gainsFact (held d) level C v e)
@@ -133,7 +133,7 @@ module _ (d : Arrays) (ok : Valid (held d)) (level : ℕ) (pairs actions facts b
   free-next : (v e : ℕ) → v < d .variables → e < 32 → isMarked u (32 * v + e) ≡ true → unlinked (held d) level (heldMarks (held d) actions′ facts′) v e ≡ true
   free-next v e h k q =
       let now : unlinked (held d) level m v e ≡ true = sym (free-marked v e h k) ∙ q in
-      let inside = unlinked-says d ok level actions facts before threats noted named p v e now .inside in
+      let inside = unlinked-says d ok level actions facts unlinked-before threats kept-before counted-before p v e now .inside in
       ap (λ (n : Marks). unlinked (held d) level n v e) round-held
       ∙ unlinked-grows (held d) level m (nextMarks (held d) level m) (round-adds (held d) level m) v e (omega (arith, variables-held d)) inside now
 
@@ -141,17 +141,17 @@ module _ (d : Arrays) (ok : Valid (held d)) (level : ℕ) (pairs actions facts b
   free-kept a v l h there q =
       let small : effectAt d a v < 32 = omega (arith, effect-valid d ok a v l h there, ok .size-most v) in
       action-marked a l
-      ∙ or-right (kept m a) (achieves-gains d ok level actions facts before threats noted named p a v l h there (sym (free-marked v (effectAt d a v) h small) ∙ q))
+      ∙ or-right (kept m a) (achieves-gains d ok level actions facts unlinked-before threats kept-before counted-before p a v l h there (sym (free-marked v (effectAt d a v) h small) ∙ q))
 
   counted-named : (a : ℕ) → a < d .actions → isMarked counted a ≡ true → (v e : ℕ) → v < d .variables → e < sizeOf (held d) v → names level (actionOf (held d) a .conditions) v e ≡ true → isMarked facts′ (32 * v + e) ≡ true
   unfolding gainsFact
   counted-named a l q v e h k n =
       ⊎-elim
-      (λ old. fact-stays v e h k (p .named-facts a l old v e h k n))
+      (λ old. fact-stays v e h k (p .counted-before-facts a l old v e h k n))
       (λ new.
       fact-marked v e h k
       ∙ or-right (relevant m v e) (anyBelow-intro (actionCount (held d)) (λ b. marked C b && names level (actionOf (held d) b .conditions) v e) a (omega (arith, actions-held d)) (and-join new n)))
-      (or-split (isMarked named a) (marked C a) (sym (count-marked d ok level actions facts before threats noted named p C counted count-now facts′ (r .facts-set) a l) ∙ q))
+      (or-split (isMarked counted-before a) (marked C a) (sym (count-marked d ok level actions facts unlinked-before threats kept-before counted-before p C counted count-now facts′ (r .facts-set) a l) ∙ q))
 
   names-whole : level ≡ 1 → (conditions : List Pair) (v x y : ℕ) → names level conditions v x ≡ names level conditions v y
   unfolding names
@@ -177,21 +177,21 @@ module _ (d : Arrays) (ok : Valid (held d)) (level : ℕ) (pairs actions facts b
         facts-long = r .facts-set .same ∙ p .facts-long;
         threats-long = r .threats-set .same ∙ p .threats-long;
         action-bit = λ a l. omega (arith, action-now a l, bit-most (kept m a || gainsAction (held d) level m a));
-        fact-bit = facts-bit d ok level actions facts before threats noted named p C counted count-now facts′ (r .facts-set);
-        fact-known = facts-known d ok level actions facts before threats noted named p C counted count-now facts′ (r .facts-set);
-        noted-bit = p .action-bit;
-        noted-kept = action-stays;
-        threat = threats-now d ok level actions facts before threats noted named p threats′ (r .threats-set);
+        fact-bit = facts-bit d ok level actions facts unlinked-before threats kept-before counted-before p C counted count-now facts′ (r .facts-set);
+        fact-known = facts-known d ok level actions facts unlinked-before threats kept-before counted-before p C counted count-now facts′ (r .facts-set);
+        kept-before-bit = p .action-bit;
+        kept-before-stays = action-stays;
+        threat = threats-now d ok level actions facts unlinked-before threats kept-before counted-before p threats′ (r .threats-set);
         before-bit = λ v e h k. omega (arith, free v e h k, bit-most (unlinked (held d) level m v e));
         before-unlinked = free-next;
         before-kept = free-kept;
-        named-bit = count-bit d ok level actions facts before threats noted named p C counted count-now facts′ (r .facts-set);
-        named-kept =
+        counted-before-bit = count-bit d ok level actions facts unlinked-before threats kept-before counted-before p C counted count-now facts′ (r .facts-set);
+        counted-before-kept =
             λ a l q.
             ⊎-elim
-            (λ old. action-stays a l (p .named-kept a l old))
+            (λ old. action-stays a l (p .counted-before-kept a l old))
             (λ new. counted-kept a l new)
-            (or-split (isMarked named a) (marked C a) (sym (count-marked d ok level actions facts before threats noted named p C counted count-now facts′ (r .facts-set) a l) ∙ q));
-        named-facts = counted-named;
+            (or-split (isMarked counted-before a) (marked C a) (sym (count-marked d ok level actions facts unlinked-before threats kept-before counted-before p C counted count-now facts′ (r .facts-set) a l) ∙ q));
+        counted-before-facts = counted-named;
         whole = whole-next;
       }

@@ -19,7 +19,7 @@ use Rattle.marking.specs.Marks.{Marks, kept, relevant, names, firstMarks
 use Rattle.marking.specs.Links.{threatened, linked, unlinked}
 use Rattle.marking.specs.Rounds.{nextMarks, Marking, markFrom, marking}
 use Rattle.marking.specs.Mark.{factMark}
-use Rattle.marking.specs.Dense.{SetWhere, isMarked, otherThan, rowNames, sumOf, entryMark, Final}
+use Rattle.marking.specs.Dense.{SetWhere, isMarked, otherThan, rowNames, sumOf, factByte, Final}
 use Rattle.marking.proofs.HeldTask.{heldMarks, variables-held, actions-held, goal-held, goal-valid, factAt, marks-held, kept-held, relevant-held, held-shaped, effectAt, threatened-held}
 use Rattle.files.proofs.CountOrder.{sum-order}
 use Rattle.marking.proofs.MarkCount.{markCount, markCount-most}
@@ -38,8 +38,8 @@ abbrev pub limit : Arrays → ℕ
 limit d = factCount (held d) + actionCount (held d) + 1
 
 -- before a round
-pub record Rounding (d : Arrays) (level : ℕ) (actions facts before threats noted named : List ℕ) (rounds count : ℕ) : Type 0 where
-  pub progress : Progress d level actions facts before threats noted named
+pub record Rounding (d : Arrays) (level : ℕ) (actions facts unlinked-before threats kept-before counted-before : List ℕ) (rounds count : ℕ) : Type 0 where
+  pub progress : Progress d level actions facts unlinked-before threats kept-before counted-before
   pub ahead : markFrom (limit d - rounds) (held d) level (heldMarks (held d) actions facts) rounds ≡ marking (held d) level
   pub few : rounds ≤ markCount (held d) (heldMarks (held d) actions facts)
   pub counted : count ≡ markSum d actions facts
@@ -123,15 +123,15 @@ module _ (d : Arrays) (ok : Valid (held d)) (level : ℕ) where
           action-bit = λ a l. omega (arith, zeros-entry 512 a);
           fact-bit = λ i l. omega (arith, first-entry i l, bit-most (rowNames (eqb level 1) (d .goal) 0 (d .sizes) (d .variables) i));
           fact-known = λ v e h k q. named-inside d ok (eqb level 1) (d .goal) 0 (goal-valid d ok) v e k (sym (first-marked (32 * v + e) (omega arith)) ∙ q);
-          noted-bit = λ a l. omega (arith, zeros-entry 512 a);
-          noted-kept = λ a l q. q;
+          kept-before-bit = λ a l. omega (arith, zeros-entry 512 a);
+          kept-before-stays = λ a l q. q;
           threat = none-threatened;
           before-bit = λ v e h k. omega (arith, zeros-entry 2048 (32 * v + e));
           before-unlinked = λ v e h k q. clash q (zeros 2048 (32 * v + e));
           before-kept = λ a v l h there q. clash q (zeros 2048 (32 * v + effectAt d a v));
-          named-bit = λ a l. omega (arith, zeros-entry 512 a);
-          named-kept = λ a l q. q;
-          named-facts = λ a l q. clash q (zeros 512 a);
+          counted-before-bit = λ a l. omega (arith, zeros-entry 512 a);
+          counted-before-kept = λ a l q. q;
+          counted-before-facts = λ a l q. clash q (zeros 512 a);
           whole = λ one v x y h i j q. first-named v y h j ∙ names-whole one v y x ∙ sym (first-named v x h i) ∙ q;
         }
 
@@ -150,7 +150,7 @@ module _ (d : Arrays) (ok : Valid (held d)) (level : ℕ) where
         }
 
   -- there is a round left, and rounds are few
-  module _ (actions facts before threats noted named : List ℕ) (rounds count : ℕ) (w : Rounding d level actions facts before threats noted named rounds count) where
+  module _ (actions facts unlinked-before threats kept-before counted-before : List ℕ) (rounds count : ℕ) (w : Rounding d level actions facts unlinked-before threats kept-before counted-before rounds count) where
     left : 0 < limit d - rounds
     left = omega (arith, w .few, markCount-most (held d) (heldMarks (held d) actions facts))
 
@@ -161,8 +161,8 @@ module _ (d : Arrays) (ok : Valid (held d)) (level : ℕ) where
     rounding-less = omega (arith, left)
 
   -- from one round to the next
-  module _ (pairs actions facts before threats noted named : List ℕ) (rounds count : ℕ) (w : Rounding d level actions facts before threats noted named rounds count)
-      (threats′ u actions′ tracks counted facts′ : List ℕ) (r : Round d level pairs actions facts before threats noted named threats′ u actions′ tracks counted facts′)
+  module _ (pairs actions facts unlinked-before threats kept-before counted-before : List ℕ) (rounds count : ℕ) (w : Rounding d level actions facts unlinked-before threats kept-before counted-before rounds count)
+      (threats′ u actions′ tracks counted facts′ : List ℕ) (r : Round d level pairs actions facts unlinked-before threats kept-before counted-before threats′ u actions′ tracks counted facts′)
       (marks : ℕ) (sum : marks ≡ markSum d actions′ facts′) where
     abbrev m : Marks
     m = heldMarks (held d) actions facts
@@ -171,10 +171,10 @@ module _ (d : Arrays) (ok : Valid (held d)) (level : ℕ) where
     next = nextMarks (held d) level m
 
     after : heldMarks (held d) actions′ facts′ ≡ next
-    after = round-held d ok level pairs actions facts before threats noted named (w .progress) threats′ u actions′ tracks counted facts′ r
+    after = round-held d ok level pairs actions facts unlinked-before threats kept-before counted-before (w .progress) threats′ u actions′ tracks counted facts′ r
 
     pub on : Progress d level actions′ facts′ u threats′ actions counted
-    on = round-progress d ok level pairs actions facts before threats noted named (w .progress) threats′ u actions′ tracks counted facts′ r
+    on = round-progress d ok level pairs actions facts unlinked-before threats kept-before counted-before (w .progress) threats′ u actions′ tracks counted facts′ r
 
     not-same : (marks ≡ count → ⊥) → sameMarks m next ≡ false
     not-same differs =
@@ -184,7 +184,7 @@ module _ (d : Arrays) (ok : Valid (held d)) (level : ℕ) where
         (differs
         (sum
         ∙ sym
-        (marks-same-sum d ok level actions facts before threats noted named (w .progress) actions′ facts′ u threats′ actions counted on _ _ (r .actions-set) (r .facts-set)
+        (marks-same-sum d ok level actions facts unlinked-before threats kept-before counted-before (w .progress) actions′ facts′ u threats′ actions counted on _ _ (r .actions-set) (r .facts-set)
         (sameMarks-says m next e ∙ sym after))
         ∙ sym (w .counted))))
         (λ e. e)
@@ -199,7 +199,7 @@ module _ (d : Arrays) (ok : Valid (held d)) (level : ℕ) where
           ahead =
               ap (λ (k : Marks). markFrom (limit d - (rounds + 1)) (held d) level k (rounds + 1)) after
               ∙ ap (λ (n : ℕ). markFrom n (held d) level next (rounds + 1)) (sym fewer)
-              ∙ sym (mark-goes-on (held d) level m (limit d - rounds) rounds (left actions facts before threats noted named rounds count w) changed)
+              ∙ sym (mark-goes-on (held d) level m (limit d - rounds) rounds (left actions facts unlinked-before threats kept-before counted-before rounds count w) changed)
               ∙ w .ahead;
           few = rw after (omega (arith, w .few, more));
           counted = sum;
@@ -209,22 +209,22 @@ module _ (d : Arrays) (ok : Valid (held d)) (level : ℕ) where
     module _ (same : marks ≡ count) where
       unchanged : m ≡ heldMarks (held d) actions′ facts′
       unchanged =
-          sum-same-marks d ok level actions facts before threats noted named (w .progress) actions′ facts′ u threats′ actions counted on _ _ (r .actions-set) (r .facts-set)
+          sum-same-marks d ok level actions facts unlinked-before threats kept-before counted-before (w .progress) actions′ facts′ u threats′ actions counted on _ _ (r .actions-set) (r .facts-set)
           (sym (w .counted) ∙ sym same ∙ sum)
 
       result : marking (held d) level ≡ record { marks = m; rounds = rounds + 1 }
-      result = sym (w .ahead) ∙ mark-ends (held d) level m (limit d - rounds) rounds (left actions facts before threats noted named rounds count w) (sameMarks-equal m next (unchanged ∙ after))
+      result = sym (w .ahead) ∙ mark-ends (held d) level m (limit d - rounds) rounds (left actions facts unlinked-before threats kept-before counted-before rounds count w) (sameMarks-equal m next (unchanged ∙ after))
 
       final-marks : marking (held d) level .marks ≡ m
       final-marks = ap (λ (k : Marking). k .marks) result
 
-      byte : (b l : Bool) → entryMark (bit b) (bit (b && not l)) ≡ bit b + bit (b && l)
-      unfolding entryMark
+      byte : (b l : Bool) → factByte (bit b) (bit (b && not l)) ≡ bit b + bit (b && l)
+      unfolding factByte
       byte true true = refl
       byte true false = refl
       byte false l = refl
 
-      fact-byte : (v e : ℕ) → v < variableCount (held d) → e < sizeOf (held d) v → entryMark (getD facts′ (32 * v + e) 0) (getD u (32 * v + e) 0) ≡ factMark (held d) level m v e
+      fact-byte : (v e : ℕ) → v < variableCount (held d) → e < sizeOf (held d) v → factByte (getD facts′ (32 * v + e) 0) (getD u (32 * v + e) 0) ≡ factMark (held d) level m v e
       unfolding factMark unlinked
       fact-byte v e h k =
           let known : v < d .variables = omega (arith, variables-held d) in
@@ -234,8 +234,8 @@ module _ (d : Arrays) (ok : Valid (held d)) (level : ℕ) where
           ∙ ap bit (sym (relevant-held d actions′ facts′ v e known k) ∙ ap (λ (k : Marks). relevant k v e) (sym unchanged)) in
           let free : getD u (32 * v + e) 0 ≡ bit (relevant m v e && not (linked (held d) level (kept m) v e)) =
           marked-bit (getD u (32 * v + e) 0) (on .before-bit v e known small)
-          ∙ ap bit (free-marked d ok level pairs actions facts before threats noted named (w .progress) threats′ u actions′ tracks counted facts′ r v e known small) in
-          ap₂ entryMark fact free ∙ byte (relevant m v e) (linked (held d) level (kept m) v e)
+          ∙ ap bit (free-marked d ok level pairs actions facts unlinked-before threats kept-before counted-before (w .progress) threats′ u actions′ tracks counted facts′ r v e known small) in
+          ap₂ factByte fact free ∙ byte (relevant m v e) (linked (held d) level (kept m) v e)
 
       pub rounding-ends : Final (held d) level actions′ facts′ u (rounds + 1)
       rounding-ends =

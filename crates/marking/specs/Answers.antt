@@ -29,7 +29,7 @@ markStages task level b = stage (markOutcome task level (length (b .actions)) (l
 
 -- both lengths and the round count
 abbrev pub markWhole : Task → ℕ → Marked
-markWhole t level = record { outcome = done; actions = actionCount t; facts = factCount t; rounds = marking t level .rounds }
+markWhole t level = record { outcome = done; «action_marks» = actionCount t; «fact_marks» = factCount t; rounds = marking t level .rounds }
 
 -- both buffers after the call
 abbrev pub markAfter : List ℕ → ℕ → MarkBuffers → MarkBuffers

@@ -1,4 +1,4 @@
--- Marks as dense arrays of bytes, one entry per action and 32 per variable, and the tests that the code makes on entries.
+-- Marks as dense arrays of bytes, one cell per action and 32 per variable, and the tests that the code makes on cells.
 use Prim.Native.Nat.{ℕ, _+_, _*_, _/_, _%_, _<_}
 use mathlib.Core.Path.{_≡_}
 use mathlib.Core.Bool.{Bool, not, cond, _&&_, _||_}
@@ -24,9 +24,9 @@ pub record SetWhere (test : ℕ → Bool) (old new : List ℕ) : Type 0 where
 abbrev pub differ : List ℕ → List ℕ → ℕ → Bool
 differ marks others i = not (eqb (getD marks i 0) (getD others i 0))
 
--- an entry of a row is there and is not the value given: 255 is no pair
+-- a cell of a row is there and is not the value given: 255 is no pair
 unfoldable pub otherThan : ℕ → ℕ → Bool
-otherThan entry value = not (eqb entry 255) && not (eqb entry value)
+otherThan cell value = not (eqb cell 255) && not (eqb cell value)
 
 -- of the first `count` variables, those that the effects at `base` set to other values than their start values
 unfoldable pub threatens : List ℕ → ℕ → List ℕ → ℕ → ℕ → Bool
@@ -34,16 +34,16 @@ threatens effects base starts count v = ltb v count && otherThan (getD effects (
 
 -- the variables that actions threaten which are kept and were not looked at before, of the first `count`
 unfoldable pub threatensAnew : List ℕ → List ℕ → ℕ → List ℕ → List ℕ → ℕ → ℕ → Bool
-threatensAnew effects starts variables kept noted count v = anyBelow count (λ a. differ kept noted a && threatens effects (64 * a) starts variables v)
+threatensAnew effects starts variables kept keptBefore count v = anyBelow count (λ a. differ kept keptBefore a && threatens effects (64 * a) starts variables v)
 
--- linked, by the entries of a variable
-unfoldable pub linkedEntry : ℕ → ℕ → ℕ → ℕ → Bool
-linkedEntry level value start threat = leb 3 level && (eqb value start && eqb threat 0)
+-- linked, by the cells of a variable
+unfoldable pub linkedCell : ℕ → ℕ → ℕ → ℕ → Bool
+linkedCell level value start threat = leb 3 level && (eqb value start && eqb threat 0)
 
 -- in F and not linked, at the place of a fact
 unfoldable pub unlinkedAt : ℕ → List ℕ → List ℕ → List ℕ → ℕ → Bool
 unlinkedAt level facts starts threats i =
-    isMarked facts i && not (linkedEntry level (i % 32) (getD starts (i / 32) 0) (getD threats (i / 32) 0))
+    isMarked facts i && not (linkedCell level (i % 32) (getD starts (i / 32) 0) (getD threats (i / 32) 0))
 
 -- of the first `count` actions, those that set a variable to a value
 unfoldable pub sets : List ℕ → ℕ → ℕ → ℕ → ℕ → Bool
@@ -51,7 +51,7 @@ sets effects v value count a = ltb a count && eqb (getD effects (64 * a + v) 0) 
 
 -- the actions with an effect among the facts that became unlinked, of the first `count` places
 unfoldable pub achieves : List ℕ → ℕ → List ℕ → List ℕ → ℕ → ℕ → Bool
-achieves effects actions before unlinked count a = anyBelow count (λ i. differ unlinked before i && sets effects (i / 32) (i % 32) actions a)
+achieves effects actions unlinkedBefore unlinked count a = anyBelow count (λ i. differ unlinked unlinkedBefore i && sets effects (i / 32) (i % 32) actions a)
 
 -- the variable has an unlinked fact
 unfoldable pub trackedAt : List ℕ → ℕ → Bool
@@ -79,34 +79,34 @@ coveredAt kept pairs effects tracked variables actions a = anyBelow actions (λ 
 
 -- the conditions of a are among F, or it is kept and, at level 4, not covered
 unfoldable pub countedAt : ℕ → List ℕ → List ℕ → Bool → ℕ → Bool
-countedAt level kept named isCovered a = isMarked named a || (isMarked kept a && not (eqb level 4 && isCovered))
+countedAt level kept countedBefore isCovered a = isMarked countedBefore a || (isMarked kept a && not (eqb level 4 && isCovered))
 
--- the facts that an entry of a row names, by their places: all of its variable's where that counts whole, else its own
+-- the facts that a cell of a row names, by their places: all of its variable's where that counts whole, else its own
 unfoldable pub namesAt : Bool → ℕ → ℕ → ℕ → ℕ → Bool
-namesAt whole v entry size i = not (eqb entry 255) && (eqb (i / 32) v && cond whole (ltb (i % 32) size) (eqb (i % 32) (entry % 32)))
+namesAt whole v cell size i = not (eqb cell 255) && (eqb (i / 32) v && cond whole (ltb (i % 32) size) (eqb (i % 32) (cell % 32)))
 
--- the facts that the first `count` entries of the row at `base` name
+-- the facts that the first `count` cells of the row at `base` name
 unfoldable pub rowNames : Bool → List ℕ → ℕ → List ℕ → ℕ → ℕ → Bool
 rowNames whole row base sizes count i = anyBelow count (λ v. namesAt whole v (getD row (base + v) 0) (getD sizes v 0) i)
 
 -- the facts that actions name which are counted and were not before, of the first `count`
 unfoldable pub namesAnew : Bool → List ℕ → List ℕ → ℕ → List ℕ → List ℕ → ℕ → ℕ → Bool
-namesAnew whole conditions sizes variables counted named count i = anyBelow count (λ a. differ counted named a && rowNames whole conditions (64 * a) sizes variables i)
+namesAnew whole conditions sizes variables counted countedBefore count i = anyBelow count (λ a. differ counted countedBefore a && rowNames whole conditions (64 * a) sizes variables i)
 
--- the sum of the first `count` entries
+-- the sum of the first `count` numbers
 unfoldable pub sumOf : List ℕ → ℕ → ℕ
-sumOf entries count = sumBelow count (λ i. getD entries i 0)
+sumOf numbers count = sumBelow count (λ i. getD numbers i 0)
 
--- a fact's byte, from its two entries
-unfoldable pub entryMark : ℕ → ℕ → ℕ
-entryMark fact unlinked = cond (eqb fact 1) (cond (eqb unlinked 1) 1 2) 0
+-- a fact's byte, from its two cells
+unfoldable pub factByte : ℕ → ℕ → ℕ
+factByte fact unlinked = cond (eqb fact 1) (cond (eqb unlinked 1) 1 2) 0
 
 -- the bytes of a variable's values
-unfoldable pub entryMarks : List ℕ → List ℕ → ℕ → ℕ → List ℕ
-entryMarks facts unlinked v size = tabulate size (λ d. entryMark (getD facts (32 * v + d) 0) (getD unlinked (32 * v + d) 0))
+unfoldable pub factBytes : List ℕ → List ℕ → ℕ → ℕ → List ℕ
+factBytes facts unlinked v size = tabulate size (λ d. factByte (getD facts (32 * v + d) 0) (getD unlinked (32 * v + d) 0))
 
 -- arrays with the marks after the last round, and the number of rounds
 pub record Final (t : Task) (level : ℕ) (actions facts unlinked : List ℕ) (rounds : ℕ) : Type 0 where
   pub action : (a : ℕ) → a < actionCount t → getD actions a 0 ≡ bit (kept (marking t level .marks) a)
-  pub fact : (v d : ℕ) → v < variableCount t → d < sizeOf t v → entryMark (getD facts (32 * v + d) 0) (getD unlinked (32 * v + d) 0) ≡ factMark t level (marking t level .marks) v d
+  pub fact : (v d : ℕ) → v < variableCount t → d < sizeOf t v → factByte (getD facts (32 * v + d) 0) (getD unlinked (32 * v + d) 0) ≡ factMark t level (marking t level .marks) v d
   pub count : rounds ≡ marking t level .rounds

@@ -43,12 +43,12 @@ markOutcome task level actionRoom factRoom =
 
 -- beside a refusal there are no lengths and no rounds
 abbrev pub noMarks : Outcome → Marked
-noMarks o = record { outcome = o; actions = 0; facts = 0; rounds = 0 }
+noMarks o = record { outcome = o; «action_marks» = 0; «fact_marks» = 0; rounds = 0 }
 
 -- an outcome with lengths and rounds
 unfoldable pub markAnswer : Outcome → Task → ℕ → Marked
 markAnswer o t level =
-    let answer : Marked = record { outcome = o; actions = actionCount t; facts = factCount t; rounds = marking t level .rounds } in
+    let answer : Marked = record { outcome = o; «action_marks» = actionCount t; «fact_marks» = factCount t; rounds = marking t level .rounds } in
     cond (isDone o) answer (noMarks o)
 
 unfoldable pub mark : List ℕ → ℕ → ℕ → ℕ → Marked

@@ -1,5 +1,5 @@
 // Covered actions. What could cover what, by cost and conditions, is worked out once, in a table
-// with a row of 512 entries for each action.
+// with a row of 512 cells for each action.
 ghost use mathlib.Core.Path.{_≡_};
 ghost use Prim.Native.Nat.{ℕ, _+_, _*_, _≤_, _<_};
 ghost use mathlib.Core.Bool.{_&&_, not};
@@ -8,7 +8,7 @@ ghost use lib.ListN.{length, getD};
 ghost use Rattle.files.specs.Below.{bit};
 ghost use Rattle.marking.specs.Covering.{couldCover};
 ghost use Rattle.marking.specs.Dense.{missing, askedBy, unlike, coversAt, coveredAt, countedAt};
-use crate::entries;
+use crate::cells;
 use crate::rounds::Scope;
 
 // How many conditions of the row at `base` do not stand in the row at `other`.
@@ -19,8 +19,8 @@ fn missing(conditions: &[u8; 32768], base: usize, other: usize, variables: usize
     let mut count: u8 = 0;
     let mut v: usize = 0;
     while v < variables {
-        let lacks = entries::other_than(conditions[base + v], conditions[other + v]);
-        count += entries::bit_of(lacks);
+        let lacks = cells::other_than(conditions[base + v], conditions[other + v]);
+        count += cells::bit_of(lacks);
         v += 1;
     }
     count
@@ -61,7 +61,7 @@ fn fill_row(
     let mut b: usize = 0;
     while b < actions {
         let test = pair_could_cover(costs, conditions, variables, b, a);
-        could_cover[512 * a + b] = entries::bit_of(test);
+        could_cover[512 * a + b] = cells::bit_of(test);
         b += 1;
     }
 }
@@ -113,7 +113,7 @@ fn unlike(
     let mut v: usize = 0;
     while v < variables {
         let differs = is_unlike(tracked[v], effects[base + v], effects[other + v]);
-        count += entries::bit_of(differs);
+        count += cells::bit_of(differs);
         v += 1;
     }
     count
@@ -192,7 +192,7 @@ fn coverer(
 fn is_counted(
     scope: Scope,
     kept: &[u8; 512],
-    named: &[u8; 512],
+    counted_before: &[u8; 512],
     could_cover: &[u8; 262144],
     effects: &[u8; 32768],
     tracked: &[u8; 64],
@@ -200,9 +200,9 @@ fn is_counted(
     a: usize,
 ) -> bool
     requires { ⌜ (scope .variables ≤ 64) × (scope .actions ≤ 512) × (a < 512) ⌝ }
-    ensures { λ r. ⌜ r ≡ countedAt (scope .level) (now (kept .entry)) (now (named .entry)) (coveredAt (now (kept .entry)) (now («could_cover» .entry)) (now (effects .entry)) (now (tracked .entry)) (scope .variables) (scope .actions) a) a ⌝ }
+    ensures { λ r. ⌜ r ≡ countedAt (scope .level) (now (kept .entry)) (now («counted_before» .entry)) (coveredAt (now (kept .entry)) (now («could_cover» .entry)) (now (effects .entry)) (now (tracked .entry)) (scope .variables) (scope .actions) a) a ⌝ }
 {
-    if named[a] == 1 {
+    if counted_before[a] == 1 {
         return true;
     }
     if kept[a] != 1 {
@@ -220,14 +220,14 @@ fn is_counted(
 pub fn counted(
     scope: Scope,
     kept: &[u8; 512],
-    named: &[u8; 512],
+    counted_before: &[u8; 512],
     could_cover: &[u8; 262144],
     effects: &[u8; 32768],
     tracked: &[u8; 64],
     coverers: &mut [u16; 512],
 ) -> [u8; 512]
     requires { ⌜ (scope .variables ≤ 64) × (scope .actions ≤ 512) ⌝ }
-    ensures { λ r. ⌜ ((a : ℕ) → a < scope .actions → getD r a 0 ≡ bit (countedAt (scope .level) (now (kept .entry)) (now (named .entry)) (coveredAt (now (kept .entry)) (now («could_cover» .entry)) (now (effects .entry)) (now (tracked .entry)) (scope .variables) (scope .actions) a) a)) ⌝ }
+    ensures { λ r. ⌜ ((a : ℕ) → a < scope .actions → getD r a 0 ≡ bit (countedAt (scope .level) (now (kept .entry)) (now («counted_before» .entry)) (coveredAt (now (kept .entry)) (now («could_cover» .entry)) (now (effects .entry)) (now (tracked .entry)) (scope .variables) (scope .actions) a) a)) ⌝ }
 {
     let mut marks = [0u8; 512];
     let mut a: usize = 0;
@@ -235,14 +235,14 @@ pub fn counted(
         let test = is_counted(
             scope,
             kept,
-            named,
+            counted_before,
             could_cover,
             effects,
             tracked,
             coverers,
             a,
         );
-        marks[a] = entries::bit_of(test);
+        marks[a] = cells::bit_of(test);
         a += 1;
     }
     marks

@@ -4,7 +4,7 @@ ghost use Prim.Native.Nat.{_+_, _*_, _/_, _%_, _≤_, _<_};
 ghost use lib.Dec.{eqb, ltb};
 ghost use lib.ListN.{length};
 ghost use Rattle.marking.specs.Dense.{SetWhere, sets, achieves, namesAt, rowNames, namesAnew};
-use crate::entries;
+use crate::cells;
 use crate::rounds::Scope;
 
 // Keeps the actions that set a variable to a value.
@@ -14,7 +14,7 @@ fn keep_setters(kept: &mut [u8], effects: &[u8; 32768], v: usize, value: u8, act
 {
     let mut a: usize = 0;
     while a < actions {
-        kept[a] = entries::raised(kept[a], effects[64 * a + v] == value);
+        kept[a] = cells::raised(kept[a], effects[64 * a + v] == value);
         a += 1;
     }
 }
@@ -26,12 +26,12 @@ fn keep_anew(
     place: usize,
     actions: usize,
     unlinked: u8,
-    before: u8,
+    unlinked_before: u8,
 )
     requires { ⌜ (place < 2048) × (actions ≤ 512) × (512 ≤ length (now kept)) ⌝ }
-    ensures { λ r. ⌜ SetWhere (λ a. not (eqb unlinked before) && sets (now (effects .entry)) (place / 32) (place % 32) actions a) (now (kept .entry)) (now (kept .exit)) ⌝ }
+    ensures { λ r. ⌜ SetWhere (λ a. not (eqb unlinked «unlinked_before») && sets (now (effects .entry)) (place / 32) (place % 32) actions a) (now (kept .entry)) (now (kept .exit)) ⌝ }
 {
-    if unlinked != before {
+    if unlinked != unlinked_before {
         keep_setters(kept, effects, place / 32, (place % 32) as u8, actions);
     }
 }
@@ -42,17 +42,17 @@ pub(crate) fn gain_actions(
     kept: &mut [u8],
     scope: Scope,
     effects: &[u8; 32768],
-    before: &[u8; 2048],
+    unlinked_before: &[u8; 2048],
     unlinked: &[u8; 2048],
 )
     requires { ⌜ (scope .variables ≤ 64) × (scope .actions ≤ 512) × (512 ≤ length (now kept)) ⌝ }
-    ensures { λ r. ⌜ SetWhere (achieves (now (effects .entry)) (scope .actions) (now (before .entry)) (now (unlinked .entry)) (32 * scope .variables)) (now (kept .entry)) (now (kept .exit)) ⌝ }
+    ensures { λ r. ⌜ SetWhere (achieves (now (effects .entry)) (scope .actions) (now («unlinked_before» .entry)) (now (unlinked .entry)) (32 * scope .variables)) (now (kept .entry)) (now (kept .exit)) ⌝ }
 {
     let actions = scope.actions;
     let places = 32 * scope.variables;
     let mut i: usize = 0;
     while i < places {
-        keep_anew(kept, effects, i, actions, unlinked[i], before[i]);
+        keep_anew(kept, effects, i, actions, unlinked[i], unlinked_before[i]);
         i += 1;
     }
 }
@@ -64,24 +64,24 @@ fn name_values(facts: &mut [u8], v: usize, size: usize)
 {
     let mut d: usize = 0;
     while d < 32 {
-        facts[32 * v + d] = entries::raised(facts[32 * v + d], d < size);
+        facts[32 * v + d] = cells::raised(facts[32 * v + d], d < size);
         d += 1;
     }
 }
 
-// Marks the facts that an entry of a row names: all of its variable's where that counts `whole`.
-fn name_entry(facts: &mut [u8], whole: bool, v: usize, entry: u8, size: u8)
+// Marks the facts that a cell of a row names: all of its variable's where that counts `whole`.
+fn name_cell(facts: &mut [u8], whole: bool, v: usize, cell: u8, size: u8)
     requires { ⌜ (v < 64) × (2048 ≤ length (now facts)) ⌝ }
-    ensures { λ r. ⌜ SetWhere (namesAt whole v entry size) (now (facts .entry)) (now (facts .exit)) ⌝ }
+    ensures { λ r. ⌜ SetWhere (namesAt whole v cell size) (now (facts .entry)) (now (facts .exit)) ⌝ }
 {
-    if entry == 255 {
+    if cell == 255 {
         return;
     }
     if whole {
         name_values(facts, v, size as usize);
         return;
     }
-    facts[32 * v + (entry % 32) as usize] = 1;
+    facts[32 * v + (cell % 32) as usize] = 1;
 }
 
 // Marks the facts that the row at `base` names.
@@ -98,7 +98,7 @@ pub fn name_row(
 {
     let mut v: usize = 0;
     while v < scope.variables {
-        name_entry(facts, whole, v, row[base + v], sizes[v]);
+        name_cell(facts, whole, v, row[base + v], sizes[v]);
         v += 1;
     }
 }
@@ -112,12 +112,12 @@ fn name_anew(
     action: usize,
     sizes: &[u8; 64],
     counted: u8,
-    named: u8,
+    counted_before: u8,
 )
     requires { ⌜ (scope .variables ≤ 64) × (action < 512) × (2048 ≤ length (now facts)) ⌝ }
-    ensures { λ r. ⌜ SetWhere (λ i. not (eqb counted named) && rowNames whole (now (conditions .entry)) (64 * action) (now (sizes .entry)) (scope .variables) i) (now (facts .entry)) (now (facts .exit)) ⌝ }
+    ensures { λ r. ⌜ SetWhere (λ i. not (eqb counted «counted_before») && rowNames whole (now (conditions .entry)) (64 * action) (now (sizes .entry)) (scope .variables) i) (now (facts .entry)) (now (facts .exit)) ⌝ }
 {
-    if counted != named {
+    if counted != counted_before {
         name_row(facts, scope, whole, conditions, 64 * action, sizes);
     }
 }
@@ -131,10 +131,10 @@ pub fn gain_facts(
     conditions: &[u8; 32768],
     sizes: &[u8; 64],
     counted: &[u8; 512],
-    named: &[u8; 512],
+    counted_before: &[u8; 512],
 )
     requires { ⌜ (scope .variables ≤ 64) × (scope .actions ≤ 512) × (2048 ≤ length (now facts)) ⌝ }
-    ensures { λ r. ⌜ SetWhere (namesAnew whole (now (conditions .entry)) (now (sizes .entry)) (scope .variables) (now (counted .entry)) (now (named .entry)) (scope .actions)) (now (facts .entry)) (now (facts .exit)) ⌝ }
+    ensures { λ r. ⌜ SetWhere (namesAnew whole (now (conditions .entry)) (now (sizes .entry)) (scope .variables) (now (counted .entry)) (now («counted_before» .entry)) (scope .actions)) (now (facts .entry)) (now (facts .exit)) ⌝ }
 {
     let mut a: usize = 0;
     while a < scope.actions {
@@ -146,7 +146,7 @@ pub fn gain_facts(
             a,
             sizes,
             counted[a],
-            named[a],
+            counted_before[a],
         );
         a += 1;
     }

@@ -1,7 +1,7 @@
 // Relevance marking at levels 1 to 4.
 // The call open to callers is mark; the public modules serve the layers above.
+mod cells;
 mod covering;
-mod entries;
 pub mod gains;
 pub mod links;
 mod results;
@@ -15,8 +15,8 @@ use files::outcomes;
 // What marking answers: both lengths written and the round count, 0 beside a refusal.
 pub struct Marked {
     pub outcome: files::Outcome,
-    pub actions: usize,
-    pub facts: usize,
+    pub action_marks: usize,
+    pub fact_marks: usize,
     pub rounds: usize,
 }
 

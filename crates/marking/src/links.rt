@@ -5,8 +5,8 @@ ghost use Prim.Native.Nat.{ℕ, _+_, _*_, _≤_, _<_};
 ghost use lib.Dec.{eqb};
 ghost use lib.ListN.{length, getD};
 ghost use Rattle.files.specs.Below.{bit};
-ghost use Rattle.marking.specs.Dense.{SetWhere, threatens, threatensAnew, linkedEntry, unlinkedAt, trackedAt};
-use crate::entries;
+ghost use Rattle.marking.specs.Dense.{SetWhere, threatens, threatensAnew, linkedCell, unlinkedAt, trackedAt};
+use crate::cells;
 use crate::rounds::Scope;
 
 // Marks the variables that the effects at `base` set to other values than their start values.
@@ -22,8 +22,8 @@ fn threaten(
 {
     let mut v: usize = 0;
     while v < variables {
-        let other = entries::other_than(effects[base + v], starts[v]);
-        threats[v] = entries::raised(threats[v], other);
+        let other = cells::other_than(effects[base + v], starts[v]);
+        threats[v] = cells::raised(threats[v], other);
         v += 1;
     }
 }
@@ -36,12 +36,12 @@ fn threaten_anew(
     starts: &[u8; 64],
     variables: usize,
     kept: u8,
-    noted: u8,
+    kept_before: u8,
 )
     requires { ⌜ (variables ≤ 64) × (action < 512) × (64 ≤ length (now threats)) ⌝ }
-    ensures { λ r. ⌜ SetWhere (λ v. not (eqb kept noted) && threatens (now (effects .entry)) (64 * action) (now (starts .entry)) variables v) (now (threats .entry)) (now (threats .exit)) ⌝ }
+    ensures { λ r. ⌜ SetWhere (λ v. not (eqb kept «kept_before») && threatens (now (effects .entry)) (64 * action) (now (starts .entry)) variables v) (now (threats .entry)) (now (threats .exit)) ⌝ }
 {
-    if kept != noted {
+    if kept != kept_before {
         threaten(threats, effects, 64 * action, starts, variables);
     }
 }
@@ -51,24 +51,32 @@ pub fn threatened(
     threats: &mut [u8],
     scope: Scope,
     kept: &[u8; 512],
-    noted: &[u8; 512],
+    kept_before: &[u8; 512],
     effects: &[u8; 32768],
     starts: &[u8; 64],
 )
     requires { ⌜ (scope .variables ≤ 64) × (scope .actions ≤ 512) × (64 ≤ length (now threats)) ⌝ }
-    ensures { λ r. ⌜ SetWhere (threatensAnew (now (effects .entry)) (now (starts .entry)) (scope .variables) (now (kept .entry)) (now (noted .entry)) (scope .actions)) (now (threats .entry)) (now (threats .exit)) ⌝ }
+    ensures { λ r. ⌜ SetWhere (threatensAnew (now (effects .entry)) (now (starts .entry)) (scope .variables) (now (kept .entry)) (now («kept_before» .entry)) (scope .actions)) (now (threats .entry)) (now (threats .exit)) ⌝ }
 {
     let variables = scope.variables;
     let mut a: usize = 0;
     while a < scope.actions {
-        threaten_anew(threats, effects, a, starts, variables, kept[a], noted[a]);
+        threaten_anew(
+            threats,
+            effects,
+            a,
+            starts,
+            variables,
+            kept[a],
+            kept_before[a],
+        );
         a += 1;
     }
 }
 
 // Whether a value is the linked one of its variable.
 fn linked(level: u32, value: usize, start: u8, threat: u8) -> bool
-    ensures { λ r. ⌜ r ≡ linkedEntry level value start threat ⌝ }
+    ensures { λ r. ⌜ r ≡ linkedCell level value start threat ⌝ }
 {
     if level < 3 {
         return false;
@@ -112,7 +120,7 @@ pub(crate) fn unlinked(
     let mut marks = [0u8; 2048];
     let mut i: usize = 0;
     while i < places {
-        marks[i] = entries::bit_of(is_unlinked(level, facts, starts, threats, i));
+        marks[i] = cells::bit_of(is_unlinked(level, facts, starts, threats, i));
         i += 1;
     }
     marks
@@ -141,7 +149,7 @@ pub(crate) fn tracked(scope: Scope, unlinked: &[u8; 2048]) -> [u8; 64]
     let mut marks = [0u8; 64];
     let mut v: usize = 0;
     while v < scope.variables {
-        marks[v] = entries::bit_of(has_unlinked(unlinked, v));
+        marks[v] = cells::bit_of(has_unlinked(unlinked, v));
         v += 1;
     }
     marks

@@ -4,7 +4,7 @@ ghost use Prim.Native.Nat.{ℕ, _+_, _*_, _≤_, _<_};
 ghost use lib.ListN.{length, getD};
 ghost use Rattle.files.specs.Below.{tabulate, joinBelow};
 ghost use Rattle.files.specs.Bytes.{placed};
-ghost use Rattle.marking.specs.Dense.{sumOf, entryMark, entryMarks};
+ghost use Rattle.marking.specs.Dense.{sumOf, factByte, factBytes};
 
 // The sum of the first `count` bytes.
 pub fn sum(bytes: &[u8], count: usize) -> usize
@@ -36,7 +36,7 @@ pub fn write_actions(marks: &mut [u8], kept: &[u8; 512], actions: usize)
 
 // The byte of a fact: 0; 1 relevant; 2 relevant and linked.
 fn fact_mark(fact: u8, unlinked: u8) -> u8
-    ensures { λ r. ⌜ r ≡ entryMark fact unlinked ⌝ }
+    ensures { λ r. ⌜ r ≡ factByte fact unlinked ⌝ }
 {
     if fact != 1 {
         return 0;
@@ -54,7 +54,7 @@ fn write_values(
     size: usize,
 )
     requires { ⌜ (at + size ≤ length (now marks)) × (v < 64) × (size ≤ 32) ⌝ }
-    ensures { λ r. ⌜ now (marks .exit) ≡ placed (now (marks .entry)) at (entryMarks (now (facts .entry)) (now (unlinked .entry)) v size) ⌝ }
+    ensures { λ r. ⌜ now (marks .exit) ≡ placed (now (marks .entry)) at (factBytes (now (facts .entry)) (now (unlinked .entry)) v size) ⌝ }
 {
     let mut d: usize = 0;
     let mut place = at;
@@ -76,7 +76,7 @@ pub fn write_facts(
     variables: usize,
 )
     requires { ⌜ (variables ≤ 64) × (sumOf (now sizes) variables ≤ length (now marks)) × ((v : ℕ) → v < variables → getD (now sizes) v 0 ≤ 32) ⌝ }
-    ensures { λ r. ⌜ now (marks .exit) ≡ placed (now (marks .entry)) 0 (joinBelow variables (λ v. entryMarks (now (facts .entry)) (now (unlinked .entry)) v (getD (now (sizes .entry)) v 0))) ⌝ }
+    ensures { λ r. ⌜ now (marks .exit) ≡ placed (now (marks .entry)) 0 (joinBelow variables (λ v. factBytes (now (facts .entry)) (now (unlinked .entry)) v (getD (now (sizes .entry)) v 0))) ⌝ }
 {
     let mut v: usize = 0;
     let mut at: usize = 0;

@@ -30,8 +30,7 @@ struct Marks {
 }
 
 // The rounds up to the first that changes nothing. Each looks at the actions kept and the facts
-// unlinked since the one before: `noted` are the actions whose effects, `named` those whose
-// conditions have been looked at, and `by` is what covered each action when it was last sought.
+// unlinked since the one before. `coverers` has what covered each action when it was last sought.
 fn run(
     scope: Scope,
     sizes: &[u8; 64],
@@ -50,28 +49,28 @@ fn run(
     let mut facts = [0u8; 2048];
     gains::name_row(&mut facts, scope, scope.level == 1, goal, 0, sizes);
     let mut kept = [0u8; 512];
-    let mut noted = [0u8; 512];
-    let mut named = [0u8; 512];
-    let mut by = [0u16; 512];
+    let mut kept_before = [0u8; 512];
+    let mut counted_before = [0u8; 512];
+    let mut coverers = [0u16; 512];
     let mut threats = [0u8; 64];
-    let mut before = [0u8; 2048];
+    let mut unlinked_before = [0u8; 2048];
     let mut rounds: usize = 0;
     let mut count = results::sum(&facts, 2048);
     loop {
-        links::threatened(&mut threats, scope, &kept, &noted, effects, starts);
-        noted = kept;
+        links::threatened(&mut threats, scope, &kept, &kept_before, effects, starts);
+        kept_before = kept;
         let unlinked = links::unlinked(scope, &facts, starts, &threats);
-        gains::gain_actions(&mut kept, scope, effects, &before, &unlinked);
-        before = unlinked;
+        gains::gain_actions(&mut kept, scope, effects, &unlinked_before, &unlinked);
+        unlinked_before = unlinked;
         let tracked = links::tracked(scope, &unlinked);
         let counted = covering::counted(
             scope,
             &kept,
-            &named,
+            &counted_before,
             &could_cover,
             effects,
             &tracked,
-            &mut by,
+            &mut coverers,
         );
         gains::gain_facts(
             &mut facts,
@@ -80,9 +79,9 @@ fn run(
             conditions,
             sizes,
             &counted,
-            &named,
+            &counted_before,
         );
-        named = counted;
+        counted_before = counted;
         rounds += 1;
         let marks = results::sum(&kept, actions) + results::sum(&facts, 2048);
         if marks == count {
@@ -113,8 +112,8 @@ pub(crate) fn refused(outcome: files::Outcome) -> Marked
 {
     Marked {
         outcome: outcome,
-        actions: 0,
-        facts: 0,
+        action_marks: 0,
+        fact_marks: 0,
         rounds: 0,
     }
 }
@@ -155,8 +154,8 @@ pub fn mark_task(
     let done = outcomes::done();
     Marked {
         outcome: done,
-        actions: actions,
-        facts: facts,
+        action_marks: actions,
+        fact_marks: facts,
         rounds: marks.rounds,
     }
 }

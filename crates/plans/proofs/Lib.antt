@@ -1,5 +1,5 @@
 -- Laws about the crate's definitions: the order on cost and steps, facts and states by what
--- conditions admit, plans by their steps, and rows of entries as states.
+-- conditions admit, plans by their steps, and rows of cells as states.
 pub mod Computes
 pub mod OrderLaws
 pub mod AdmitsLaws

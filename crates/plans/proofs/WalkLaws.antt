@@ -23,7 +23,7 @@ use Rattle.plans.specs.Tally.{listState, stateOf, totalIn, endAnswer}
 use Rattle.plans.specs.declared.Checked.{Checked}
 use Rattle.plans.specs.declared.tally.Tally.{Tally}
 
--- the task that arrays hold, by its entries
+-- the task that arrays hold, by its cells
 pub held-action : (d : Arrays) (a : ℕ) → a < d .actions → actionOf (held d) a ≡ rowAction (d .variables) (d .costs) (d .conditions) (d .effects) a
 unfolding held
 held-action d a h = tabulate-entry (rowAction (d .variables) (d .costs) (d .conditions) (d .effects)) (d .actions) a (action 0 [] []) h

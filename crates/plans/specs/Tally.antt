@@ -18,13 +18,13 @@ use Rattle.plans.specs.declared.tally.Tally.{Tally}
 unfoldable pub listState : List ℕ → State
 listState values v = getD values v 0
 
--- whether a value meets a condition's entry: 255 is no condition
-unfoldable pub meetsEntry : ℕ → ℕ → Bool
-meetsEntry condition value = cond (eqb condition 255) true (eqb condition value)
+-- whether a value meets a condition's cell: 255 is no condition
+unfoldable pub meetsCell : ℕ → ℕ → Bool
+meetsCell condition value = cond (eqb condition 255) true (eqb condition value)
 
--- the value that an effect's entry leaves: 255 is no effect
-unfoldable pub afterEntry : ℕ → ℕ → ℕ
-afterEntry effect value = cond (eqb effect 255) value effect
+-- the value that an effect's cell leaves: 255 is no effect
+unfoldable pub afterCell : ℕ → ℕ → ℕ
+afterCell effect value = cond (eqb effect 255) value effect
 
 -- the action that an action's row stands for
 unfoldable pub rowOf : Row → Action

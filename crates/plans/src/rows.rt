@@ -6,9 +6,9 @@ ghost use lib.ListN.{length, getD};
 ghost use Rattle.files.specs.Dense.{rowPairs};
 ghost use Rattle.files.specs.Task.{valueIn};
 ghost use Rattle.plans.specs.State.{allHold};
-ghost use Rattle.plans.specs.Tally.{listState, meetsEntry, afterEntry};
+ghost use Rattle.plans.specs.Tally.{listState, meetsCell, afterCell};
 
-// The first `count` entries of the row at `base`; no pair for the other variables.
+// The first `count` cells of the row at `base`; no pair for the other variables.
 pub(crate) fn row_at(rows: &[u8], base: usize, count: usize) -> [u8; 64]
     requires { ⌜ (base + count ≤ length (now rows)) × (count ≤ 64) ⌝ }
     ensures { λ r. ⌜ rowPairs r 0 0 64 ≡ rowPairs (now (rows .entry)) base 0 count ⌝ }
@@ -52,9 +52,9 @@ pub(crate) fn all_hold(row: [u8; 64], state: [u8; 64]) -> bool
     true
 }
 
-// Whether a value meets a condition's entry.
+// Whether a value meets a condition's cell.
 pub fn meets(condition: u8, value: u8) -> bool
-    ensures { λ r. ⌜ r ≡ meetsEntry condition value ⌝ }
+    ensures { λ r. ⌜ r ≡ meetsCell condition value ⌝ }
 {
     if condition == 255 {
         return true;
@@ -69,15 +69,15 @@ pub(crate) fn applied(row: [u8; 64], state: [u8; 64]) -> [u8; 64]
     let mut next = state;
     let mut v: usize = 0;
     while v < 64 {
-        next[v] = entry_after(row[v], next[v]);
+        next[v] = cell_after(row[v], next[v]);
         v += 1;
     }
     next
 }
 
-// The value after an effect entry.
-pub fn entry_after(effect: u8, value: u8) -> u8
-    ensures { λ r. ⌜ r ≡ afterEntry effect value ⌝ }
+// The value after an effect cell.
+pub fn cell_after(effect: u8, value: u8) -> u8
+    ensures { λ r. ⌜ r ≡ afterCell effect value ⌝ }
 {
     if effect == 255 { value } else { effect }
 }

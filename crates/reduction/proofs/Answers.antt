@@ -82,7 +82,7 @@ module _ (task : List ℕ) (level signer : ℕ) (b : Buffers) where
   numbers-are =
       let whole = reduceWhole t level signer in
       answer-by _ _ _ whole noFiles row-is
-      (λ e. λ i. record { outcome = listed-itself _ row row-listed e i; actions = whole .actions; facts = whole .facts; reduced = whole .reduced; origin = whole .origin; rounds = whole .rounds })
+      (λ e. λ i. record { outcome = listed-itself _ row row-listed e i; «action_marks» = whole .«action_marks»; «fact_marks» = whole .«fact_marks»; reduced = whole .reduced; origin = whole .origin; rounds = whole .rounds })
 
   -- the four buffers together
   abbrev A : List ℕ

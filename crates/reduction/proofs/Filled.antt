@@ -14,7 +14,7 @@ use Rattle.marking.specs.Links.{threatened}
 use Rattle.marking.specs.Dense.{isMarked}
 use Rattle.marking.proofs.HeldTask.{variables-held, size-held}
 use Rattle.files.proofs.Truth.{bit-marked}
-use Rattle.reduction.specs.Dense.{namedAt, changedAt, namedValue, keepsAt, newValueAt, newSizeAt, mappedEntry}
+use Rattle.reduction.specs.Dense.{namedAt, changedAt, namedValue, keepsAt, newValueAt, newSizeAt, mappedCell}
 use Rattle.reduction.specs.Named.{named, keptVariable}
 use Rattle.reduction.specs.Renumber.{newValue}
 use Rattle.reduction.specs.Task.{reducedBy, originBy}
@@ -61,11 +61,11 @@ module _ (d : Arrays) (ok : Valid (held d)) (kept marks changed values numbers o
 
     pub task-filled : (sizes starts goal costs conditions effects : List ℕ)
         → ((i : ℕ) → i < count → getD sizes i 0 ≡ newSizeAt marks (getD numbers i 0) (getD (d .sizes) (getD numbers i 0) 0))
-        → ((i : ℕ) → i < count → getD starts (0 + i) 0 ≡ mappedEntry values (getD numbers i 0) (getD (d .starts) (0 + getD numbers i 0) 0))
-        → ((i : ℕ) → i < count → getD goal (0 + i) 0 ≡ mappedEntry values (getD numbers i 0) (getD (d .goal) (0 + getD numbers i 0) 0))
+        → ((i : ℕ) → i < count → getD starts (0 + i) 0 ≡ mappedCell values (getD numbers i 0) (getD (d .starts) (0 + getD numbers i 0) 0))
+        → ((i : ℕ) → i < count → getD goal (0 + i) 0 ≡ mappedCell values (getD numbers i 0) (getD (d .goal) (0 + getD numbers i 0) 0))
         → ((j : ℕ) → j < actions → getD costs j 0 ≡ getD (d .costs) (getD originals j 0) 0)
-        → ((j i : ℕ) → j < actions → i < count → getD conditions (64 * j + i) 0 ≡ mappedEntry values (getD numbers i 0) (getD (d .conditions) (64 * getD originals j 0 + getD numbers i 0) 0))
-        → ((j i : ℕ) → j < actions → i < count → getD effects (64 * j + i) 0 ≡ mappedEntry values (getD numbers i 0) (getD (d .effects) (64 * getD originals j 0 + getD numbers i 0) 0))
+        → ((j i : ℕ) → j < actions → i < count → getD conditions (64 * j + i) 0 ≡ mappedCell values (getD numbers i 0) (getD (d .conditions) (64 * getD originals j 0 + getD numbers i 0) 0))
+        → ((j i : ℕ) → j < actions → i < count → getD effects (64 * j + i) 0 ≡ mappedCell values (getD numbers i 0) (getD (d .effects) (64 * getD originals j 0 + getD numbers i 0) 0))
         → held (arrays count actions sizes starts goal costs conditions effects) ≡ reducedBy (held d) A
     task-filled sizes starts goal costs conditions effects si st go co cd ef =
         reduced-held d ok A values numbers count value are originals actions chosen-actions sizes starts goal costs conditions effects
@@ -75,7 +75,7 @@ module _ (d : Arrays) (ok : Valid (held d)) (kept marks changed values numbers o
         (λ i l.
         let first : i ≡ 0 + i = omega arith in
         let from : 0 + getD numbers i 0 ≡ getD numbers i 0 = omega arith in
-        ap (λ (n : ℕ). getD starts n 0) first ∙ st i l ∙ ap (λ (n : ℕ). mappedEntry values (getD numbers i 0) (getD (d .starts) n 0)) from)
+        ap (λ (n : ℕ). getD starts n 0) first ∙ st i l ∙ ap (λ (n : ℕ). mappedCell values (getD numbers i 0) (getD (d .starts) n 0)) from)
         go co cd ef
 
     pub origin-filled : (ranges rows : List ℕ)

@@ -1,4 +1,4 @@
--- Marks set in an array of zeros: each entry tells whether its place passes.
+-- Marks set in an array of zeros: each cell tells whether its place passes.
 use Prim.Native.Nat.{ℕ, _<_}
 use mathlib.Core.Path.{_≡_, refl, ap, _∙_}
 use mathlib.Core.Bool.{Bool, true, false, cond, _||_}

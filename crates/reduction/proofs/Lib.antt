@@ -15,7 +15,7 @@ pub mod FreshMarks
 pub mod NamedHeld
 pub mod ReducedHeld
 pub mod Filled
-pub mod ReduceRow
+pub mod ReduceStages
 pub mod StretchLaws
 pub mod StretchRight
 pub mod Answers

@@ -1,4 +1,4 @@
--- Named facts, changed and kept variables, and new numbers, by the entries of arrays that hold an accepted task.
+-- Named facts, changed and kept variables, and new numbers, by the cells of arrays that hold an accepted task.
 use Prim.Native.Nat.{ℕ, zero, suc, _+_, _*_, _≤_, _<_}
 use mathlib.Core.Path.{_≡_, refl, sym, ap, ap₂, _∙_}
 use mathlib.Core.Bool.{Bool, true, false, not, cond, _&&_, _||_}

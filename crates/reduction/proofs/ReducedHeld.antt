@@ -18,7 +18,7 @@ use Rattle.files.proofs.Tabulate.{tabulateFrom-length, tabulate-entry, tabulate
 use Rattle.files.proofs.Valid.{Valid}
 use Rattle.files.proofs.CountOrder.{count-most}
 use Rattle.marking.proofs.HeldTask.{variables-held, actions-held, size-held, start-held, goal-held, cost-held, conditions-held, effects-held, effect-valid, condition-valid, goal-valid}
-use Rattle.reduction.specs.Dense.{mappedEntry}
+use Rattle.reduction.specs.Dense.{mappedCell}
 use Rattle.reduction.specs.Named.{named, keptVariable}
 use Rattle.reduction.specs.Renumber.{newVariable, namedCount, newValue, newSize}
 use Rattle.reduction.specs.Task.{keptVariables, keptActions, reducedPairs, reducedVariable, reducedAction, reducedBy, originBy}
@@ -73,16 +73,16 @@ module _ (d : Arrays) (ok : Valid (held d)) (A : ℕ → Bool) where
   module _ (values numbers : List ℕ) (count : ℕ)
       (value : (v e : ℕ) → v < d .variables → e < sizeOf (held d) v → getD values (32 * v + e) 0 ≡ newValue (held d) A v e)
       (are : rowNumbers numbers 0 count ≡ chosenBelow (d .variables) K) where
-    mapped-value : (v e : ℕ) → v < d .variables → e < sizeOf (held d) v → mappedEntry values v e ≡ newValue (held d) A v e
-    unfolding mappedEntry
+    mapped-value : (v e : ℕ) → v < d .variables → e < sizeOf (held d) v → mappedCell values v e ≡ newValue (held d) A v e
+    unfolding mappedCell
     mapped-value v e h k =
         let rest : e % 32 ≡ e = omega (arith, ok .size-most v) in
         ap (λ (b : Bool). cond b 255 (getD values (32 * v + e % 32) 0)) (ne-eqb e 255 (λ q. omega (arith, ok .size-most v)))
         ∙ ap (λ (n : ℕ). getD values (32 * v + n) 0) rest
         ∙ value v e h k
 
-    none : (v x : ℕ) → eqb x 255 ≡ true → mappedEntry values v x ≡ 255
-    unfolding mappedEntry
+    none : (v x : ℕ) → eqb x 255 ≡ true → mappedCell values v x ≡ 255
+    unfolding mappedCell
     none v x z = ap (λ (b : Bool). cond b 255 (getD values (32 * v + x % 32) 0)) z
 
     kept-pair : (v x : ℕ) (ps : List Pair) → K v ≡ true → reducedPairs (held d) A (pair v x ∷ ps) ≡ pair (countBelow v K) (newValue (held d) A v x) ∷ reducedPairs (held d) A ps
@@ -96,11 +96,11 @@ module _ (d : Arrays) (ok : Valid (held d)) (A : ℕ → Bool) where
     -- a row of the kept variables holds the reduced pairs
     module _ (row old : List ℕ) (to from : ℕ)
         (valid : (v : ℕ) → v < d .variables → eqb (getD old (from + v) 0) 255 ≡ false → getD old (from + v) 0 < sizeOf (held d) v)
-        (entry : (i : ℕ) → i < count → getD row (to + i) 0 ≡ mappedEntry values (getD numbers i 0) (getD old (from + getD numbers i 0) 0)) where
-      kept-entry : (v : ℕ) → v < d .variables → K v ≡ true → getD row (to + countBelow v K) 0 ≡ mappedEntry values v (getD old (from + v) 0)
+        (entry : (i : ℕ) → i < count → getD row (to + i) 0 ≡ mappedCell values (getD numbers i 0) (getD old (from + getD numbers i 0) 0)) where
+      kept-entry : (v : ℕ) → v < d .variables → K v ≡ true → getD row (to + countBelow v K) 0 ≡ mappedCell values v (getD old (from + v) 0)
       kept-entry v h k =
           entry (countBelow v K) (omega (arith, count-is K (d .variables) numbers count are, count-strict K (d .variables) v h k))
-          ∙ ap (λ (w : ℕ). mappedEntry values w (getD old (from + w) 0)) (number-rank K (d .variables) numbers count are v h k)
+          ∙ ap (λ (w : ℕ). mappedCell values w (getD old (from + w) 0)) (number-rank K (d .variables) numbers count are v h k)
 
       pairs-from : (k v : ℕ) → v + k ≡ d .variables → rowPairs row to (countBelow v K) (count - countBelow v K) ≡ reducedPairs (held d) A (rowPairs old from v k)
       unfolding rowPairs reducedPairs
@@ -150,11 +150,11 @@ module _ (d : Arrays) (ok : Valid (held d)) (A : ℕ → Bool) where
     module _ (originals : List ℕ) (actions : ℕ) (chosen-actions : rowNumbers originals 0 actions ≡ chosenBelow (d .actions) A)
         (sizes starts goal costs conditions effects : List ℕ)
         (size : (i : ℕ) → i < count → getD sizes i 0 ≡ newSize (held d) A (getD numbers i 0))
-        (start : (i : ℕ) → i < count → getD starts i 0 ≡ mappedEntry values (getD numbers i 0) (getD (d .starts) (getD numbers i 0) 0))
-        (aim : (i : ℕ) → i < count → getD goal (0 + i) 0 ≡ mappedEntry values (getD numbers i 0) (getD (d .goal) (0 + getD numbers i 0) 0))
+        (start : (i : ℕ) → i < count → getD starts i 0 ≡ mappedCell values (getD numbers i 0) (getD (d .starts) (getD numbers i 0) 0))
+        (aim : (i : ℕ) → i < count → getD goal (0 + i) 0 ≡ mappedCell values (getD numbers i 0) (getD (d .goal) (0 + getD numbers i 0) 0))
         (cost : (j : ℕ) → j < actions → getD costs j 0 ≡ getD (d .costs) (getD originals j 0) 0)
-        (asked : (j i : ℕ) → j < actions → i < count → getD conditions (64 * j + i) 0 ≡ mappedEntry values (getD numbers i 0) (getD (d .conditions) (64 * getD originals j 0 + getD numbers i 0) 0))
-        (set : (j i : ℕ) → j < actions → i < count → getD effects (64 * j + i) 0 ≡ mappedEntry values (getD numbers i 0) (getD (d .effects) (64 * getD originals j 0 + getD numbers i 0) 0)) where
+        (asked : (j i : ℕ) → j < actions → i < count → getD conditions (64 * j + i) 0 ≡ mappedCell values (getD numbers i 0) (getD (d .conditions) (64 * getD originals j 0 + getD numbers i 0) 0))
+        (set : (j i : ℕ) → j < actions → i < count → getD effects (64 * j + i) 0 ≡ mappedCell values (getD numbers i 0) (getD (d .effects) (64 * getD originals j 0 + getD numbers i 0) 0)) where
       variables-reduced : tabulate count (rowVariable sizes starts) ≡ map (reducedVariable (held d) A) (keptVariables (held d) A)
       unfolding rowVariable reducedVariable keptVariables
       variables-reduced =
@@ -165,7 +165,7 @@ module _ (d : Arrays) (ok : Valid (held d)) (A : ℕ → Bool) where
           let small = size i l in
           let first : getD starts i 0 ≡ newValue (held d) A v (startOf (held d) v) =
           start i l
-          ∙ ap (mappedEntry values v) (sym (start-held d v known))
+          ∙ ap (mappedCell values v) (sym (start-held d v known))
           ∙ mapped-value v (startOf (held d) v) known (ok .start v (omega (arith, variables-held d))) in
           λ k. variable (small k) (first k))
           ∙ ap (λ (n : ℕ). map (λ v. variable (newSize (held d) A v) (newValue (held d) A v (startOf (held d) v))) (chosenBelow n K)) (sym (variables-held d))

@@ -60,8 +60,8 @@ abbrev pub reduceWhole : Task → ℕ → ℕ → Reduced
 reduceWhole t level signer =
     record {
       outcome = done;
-      actions = actionCount t;
-      facts = factCount t;
+      «action_marks» = actionCount t;
+      «fact_marks» = factCount t;
       reduced = length (reducedFile t level signer);
       origin = length (originsFile t level signer);
       rounds = marking t level .rounds;

@@ -1,4 +1,4 @@
--- Kept variables, new values and reduced rows, by the entries of dense arrays: what the code's parts work out.
+-- Kept variables, new values and reduced rows, by the cells of dense arrays: what the code's parts work out.
 use Prim.Native.Nat.{ℕ, _+_, _*_, _%_}
 use mathlib.Core.Bool.{Bool, false, not, cond, _&&_, _||_}
 use mathlib.Core.List.{List}
@@ -43,6 +43,6 @@ newValueAt named v d = cond (namedValue named v d) (countBelow d (namedValue nam
 unfoldable pub newSizeAt : List ℕ → ℕ → ℕ → ℕ
 newSizeAt named v size = namedIn named v + bit (ltb (namedIn named v) size)
 
--- an entry of a row by new values: 255 is no pair
-unfoldable pub mappedEntry : List ℕ → ℕ → ℕ → ℕ
-mappedEntry values v entry = cond (eqb entry 255) 255 (getD values (32 * v + entry % 32) 0)
+-- a cell of a row by new values: 255 is no pair
+unfoldable pub mappedCell : List ℕ → ℕ → ℕ → ℕ
+mappedCell values v cell = cond (eqb cell 255) 255 (getD values (32 * v + cell % 32) 0)

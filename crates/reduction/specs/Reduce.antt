@@ -64,7 +64,7 @@ reduceStage task level signer room =
 
 -- beside a refusal there are no lengths and no rounds
 abbrev pub noFiles : Outcome → Reduced
-noFiles o = record { outcome = o; actions = 0; facts = 0; reduced = 0; origin = 0; rounds = 0 }
+noFiles o = record { outcome = o; «action_marks» = 0; «fact_marks» = 0; reduced = 0; origin = 0; rounds = 0 }
 
 -- an outcome with lengths and rounds
 unfoldable pub reduceAnswer : Outcome → Task → ℕ → ℕ → Reduced
@@ -72,8 +72,8 @@ reduceAnswer o t level signer =
     let answer : Reduced =
     record {
       outcome = o;
-      actions = actionCount t;
-      facts = factCount t;
+      «action_marks» = actionCount t;
+      «fact_marks» = factCount t;
       reduced = length (reducedFile t level signer);
       origin = length (originsFile t level signer);
       rounds = marking t level .rounds;

@@ -3,7 +3,7 @@
 mod arrays;
 mod named;
 mod renumber;
-mod row;
+mod stages;
 mod stretch;
 
 ghost use mathlib.Core.Path.{_≡_};
@@ -15,8 +15,8 @@ use files::outcomes;
 // What reduction answers: the four lengths written and the round count, 0 beside a refusal.
 pub struct Reduced {
     pub outcome: files::Outcome,
-    pub actions: usize,
-    pub facts: usize,
+    pub action_marks: usize,
+    pub fact_marks: usize,
     pub reduced: usize,
     pub origin: usize,
     pub rounds: usize,
@@ -55,20 +55,20 @@ pub fn reduce(
         &mut effects,
     );
     if read.number != 0 {
-        return row::refused(read);
+        return stages::refused(read);
     }
     if !marking::rounds::valid_level(level) {
-        return row::refused(outcomes::refuse(8, 0));
+        return stages::refused(outcomes::refuse(8, 0));
     }
     if signer < 1 {
-        return row::refused(outcomes::refuse(7, 0));
+        return stages::refused(outcomes::refuse(7, 0));
     }
     let scope = marking::rounds::Scope {
         level: level,
         variables: files::task::variables_in(task),
         actions: files::task::actions_in(task),
     };
-    row::reduce_task(
+    stages::reduce_task(
         scope,
         &sizes,
         &starts,

@@ -4,7 +4,7 @@ ghost use Prim.Native.Nat.{ℕ, _+_, _*_, _≤_, _<_};
 ghost use mathlib.Core.Bool.{cond};
 ghost use lib.Dec.{eqb};
 ghost use lib.ListN.{length, getD};
-ghost use Rattle.reduction.specs.Dense.{newValueAt, newSizeAt, mappedEntry};
+ghost use Rattle.reduction.specs.Dense.{newValueAt, newSizeAt, mappedCell};
 use crate::named;
 
 // The number of a value: its rank where it is named, else the number of the values left over.
@@ -52,18 +52,18 @@ fn new_size(named: &[u8; 2048], v: usize, size: u8) -> u8
     if count < size { count + 1 } else { count }
 }
 
-// An entry of a row by new values.
-fn mapped(values: &[u8; 2048], v: usize, entry: u8) -> u8
+// A cell of a row by new values.
+fn mapped(values: &[u8; 2048], v: usize, cell: u8) -> u8
     requires { ⌜ v < 64 ⌝ }
-    ensures { λ r. ⌜ r ≡ mappedEntry (now (values .entry)) v entry ⌝ }
+    ensures { λ r. ⌜ r ≡ mappedCell (now (values .entry)) v cell ⌝ }
 {
-    if entry == 255 {
+    if cell == 255 {
         return 255;
     }
-    values[32 * v + (entry % 32) as usize]
+    values[32 * v + (cell % 32) as usize]
 }
 
-// A row of the kept variables: `count` entries at `to`, from the row at `from`.
+// A row of the kept variables: `count` cells at `to`, from the row at `from`.
 pub fn map_row(
     row: &mut [u8],
     to: usize,
@@ -74,7 +74,7 @@ pub fn map_row(
     values: &[u8; 2048],
 )
     requires { ⌜ (count ≤ 64) × (to + 64 ≤ length (now row)) × (from + 64 ≤ length (now old)) × ((i : ℕ) → i < count → getD (now numbers) i 0 < 64) ⌝ }
-    ensures { λ r. ⌜ (length (now (row .exit)) ≡ length (now (row .entry))) × ((i : ℕ) → i < count → getD (now (row .exit)) (to + i) 0 ≡ mappedEntry (now (values .entry)) (getD (now (numbers .entry)) i 0) (getD (now (old .entry)) (from + getD (now (numbers .entry)) i 0) 0)) × ((j : ℕ) → j < to → getD (now (row .exit)) j 0 ≡ getD (now (row .entry)) j 0) ⌝ }
+    ensures { λ r. ⌜ (length (now (row .exit)) ≡ length (now (row .entry))) × ((i : ℕ) → i < count → getD (now (row .exit)) (to + i) 0 ≡ mappedCell (now (values .entry)) (getD (now (numbers .entry)) i 0) (getD (now (old .entry)) (from + getD (now (numbers .entry)) i 0) 0)) × ((j : ℕ) → j < to → getD (now (row .exit)) j 0 ≡ getD (now (row .entry)) j 0) ⌝ }
 {
     let mut i: usize = 0;
     while i < count {
@@ -95,7 +95,7 @@ pub fn map_rows(
     values: &[u8; 2048],
 )
     requires { ⌜ (count ≤ 64) × (actions ≤ 512) × (32768 ≤ length (now rows)) × ((j : ℕ) → j < actions → getD (now originals) j 0 < 512) × ((i : ℕ) → i < count → getD (now numbers) i 0 < 64) ⌝ }
-    ensures { λ r. ⌜ ((j i : ℕ) → j < actions → i < count → getD (now (rows .exit)) (64 * j + i) 0 ≡ mappedEntry (now (values .entry)) (getD (now (numbers .entry)) i 0) (getD (now (old .entry)) (64 * getD (now (originals .entry)) j 0 + getD (now (numbers .entry)) i 0) 0)) ⌝ }
+    ensures { λ r. ⌜ ((j i : ℕ) → j < actions → i < count → getD (now (rows .exit)) (64 * j + i) 0 ≡ mappedCell (now (values .entry)) (getD (now (numbers .entry)) i 0) (getD (now (old .entry)) (64 * getD (now (originals .entry)) j 0 + getD (now (numbers .entry)) i 0) 0)) ⌝ }
 {
     let mut j: usize = 0;
     while j < actions {
@@ -160,7 +160,7 @@ pub fn value_rows(rows: &mut [u8], values: &[u8; 2048], numbers: &[u8; 64], coun
     }
 }
 
-// Copies 32 entries.
+// Copies 32 cells.
 fn copy_row(row: &mut [u8], to: usize, old: &[u8], from: usize)
     requires { ⌜ (to + 32 ≤ length (now row)) × (from + 32 ≤ length (now old)) ⌝ }
     ensures { λ r. ⌜ (length (now (row .exit)) ≡ length (now (row .entry))) × ((d : ℕ) → d < 32 → getD (now (row .exit)) (to + d) 0 ≡ getD (now (old .entry)) (from + d) 0) × ((j : ℕ) → j < to → getD (now (row .exit)) j 0 ≡ getD (now (row .entry)) j 0) ⌝ }

@@ -130,7 +130,7 @@ module _ (task : List ℕ) (signer : ℕ) (b : Lent) where
   numbers-are =
       let all = planWhole task signer in
       answer-by _ _ _ all unplanned row-is
-      (λ e. λ i. record { outcome = listed-itself _ whole whole-listed e i; actions = all .actions; facts = all .facts; reduced = all .reduced; origin = all .origin; table = all .table; plan = all .plan; rounds = all .rounds; cost = all .cost; steps = all .steps })
+      (λ e. λ i. record { outcome = listed-itself _ whole whole-listed e i; «action_marks» = all .«action_marks»; «fact_marks» = all .«fact_marks»; reduced = all .reduced; origin = all .origin; table = all .table; plan = all .plan; rounds = all .rounds; cost = all .cost; steps = all .steps })
 
   pub whole-outcome : planAnswer task signer (lentRooms b) .outcome ≡ whole
   unfolding planAnswer

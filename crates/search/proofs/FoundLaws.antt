@@ -17,7 +17,7 @@ use Rattle.files.proofs.Lengths.{plan-file-length}
 use Rattle.files.proofs.Valid.{Valid}
 use Rattle.reduction.specs.Preserved.{byOriginFile}
 use Rattle.search.specs.declared.Entry.{Entry}
-use Rattle.search.specs.declared.row.Found.{Found}
+use Rattle.search.specs.declared.stages.Found.{Found}
 use Rattle.search.specs.States.{stateCount}
 use Rattle.search.specs.Table.{distances, tableOf}
 use Rattle.search.specs.FirstPlan.{startNumber, firstPlan}

@@ -9,7 +9,7 @@ pub mod ReadOff
 pub mod LeastPlans
 pub mod TableEntries
 pub mod FoundLaws
-pub mod RowLaws
+pub mod StageLaws
 pub mod ColumnLaws
 pub mod RowNumbers
 pub mod RowSteps
@@ -27,7 +27,7 @@ pub mod Begun
 pub mod Searching
 pub mod Hand
 pub mod Entries
-pub mod Filling
+pub mod TableFilling
 pub mod EntryDistances
 pub mod FirstPlanLaws
 pub mod PlanWriting

@@ -9,7 +9,7 @@ use lib.ListN.{length, getD}
 use borrow.Author.Tests.{eqb-true, eqb-false, eq-eqb, le-leb, lt-leb, lt-ltb, le-ltb}
 use Rattle.files.proofs.Logic.{clash, split, split-le, and-split, and-join}
 use Rattle.plans.specs.State.{State}
-use Rattle.plans.specs.Tally.{meetsEntry}
+use Rattle.plans.specs.Tally.{meetsCell}
 use Rattle.files.proofs.Truth.{same-truth}
 use Rattle.search.specs.Columns.{entryIn, lowered, rowStates, rowWeight, rowState, differsOnly, StepRow}
 use Rattle.search.specs.declared.Entry.{Entry}
@@ -216,7 +216,7 @@ module _ (sizes weights conditions effects : List ℕ) (base n from number : ℕ
         same-truth (upTo v low high s) (before s)
         (λ e.
         let both = and-split (leb low y && ltb y high) (withValue v y s) e in
-        let met : meetsEntry (getD conditions (base + v) 0) y ≡ true = w .span .2 y within ∙ both .0 in
+        let met : meetsCell (getD conditions (base + v) 0) y ≡ true = w .span .2 y within ∙ both .0 in
         let plain : (u : ℕ) → (u ≡ v → ⊥) → r u ≡ h u → r u ≡ g u = λ u d q. q ∙ changed-other g v y u d in
         differs-only conditions effects base n from g r
         (λ u l k. plain u (λ q. omega (arith, f .first)) (only-early conditions effects base n (v + 1) h r (both .1) u l (omega (arith, f .first))))
@@ -226,10 +226,10 @@ module _ (sizes weights conditions effects : List ℕ) (base n from number : ℕ
         (λ a. only-effect conditions effects base n (v + 1) h r (both .1) u l a d)
         (λ a.
         split-le v u
-        (λ b. let is : v ≡ u = omega arith in subst (λ (i : ℕ). meetsEntry (getD conditions (base + i) 0) (r i) ≡ true) is met)
+        (λ b. let is : v ≡ u = omega arith in subst (λ (i : ℕ). meetsCell (getD conditions (base + i) 0) (r i) ≡ true) is met)
         (λ b. absurd (d (f .between u k b))))))
         (λ e.
-        let met : meetsEntry (getD conditions (base + v) 0) y ≡ true = only-effect conditions effects base n from g r e v (f .last) (f .first) (f .there) in
+        let met : meetsCell (getD conditions (base + v) 0) y ≡ true = only-effect conditions effects base n from g r e v (f .last) (f .first) (f .there) in
         let plain : (u : ℕ) → u < n → r u ≡ g u → r u ≡ h u =
         λ u l q.
         split (eqb u v)

@@ -15,7 +15,7 @@ use Rattle.plans.specs.Plan.{addStep, atMost}
 use Rattle.plans.proofs.OrderLaws.{atMost-says}
 use Rattle.search.specs.States.{stateCount, stateAt}
 use Rattle.search.specs.Table.{Distance, less, least, stepTo, nextState, entry, entryOf}
-use Rattle.search.specs.Columns.{totalIn, lessEntry, lowered, afterStep, leadsTo, offered}
+use Rattle.search.specs.Columns.{entryTotal, lessEntry, lowered, afterStep, leadsTo, offered}
 use Rattle.search.specs.declared.Entry.{Entry}
 use Rattle.search.proofs.DistanceLaws.{Le, le-refl, le-trans, less-le, stepTo-some, least-left, least-right}
 use Rattle.search.proofs.Settling.{Leads, Relaxed}
@@ -25,42 +25,42 @@ abbrev pub top : ℕ
 top = 18446744073709551615
 
 abbrev pub distanceOf : Entry → Distance
-distanceOf e = cond (eqb (e .minutes) top) none (some (totalIn e))
+distanceOf e = cond (eqb (e .minutes) top) none (some (entryTotal e))
 
 pub distance-none : (e : Entry) → e .minutes ≡ top → distanceOf e ≡ none
 distance-none e h = rw (eq-eqb (e .minutes) top h)
 
-pub distance-some : (e : Entry) → e .minutes < top → distanceOf e ≡ some (totalIn e)
+pub distance-some : (e : Entry) → e .minutes < top → distanceOf e ≡ some (entryTotal e)
 distance-some e h = rw (ne-eqb (e .minutes) top (λ q. omega arith))
 
 pub entry-of-none : entryOf none ≡ entry 18446744073709551615 65535
 unfolding entryOf
 entry-of-none = refl
 
-pub entry-of-some : (e : Entry) → entryOf (some (totalIn e)) ≡ e
+pub entry-of-some : (e : Entry) → entryOf (some (entryTotal e)) ≡ e
 unfolding entryOf
 entry-of-some e = refl
 
 -- the order
-pub less-some : (x y : Entry) → lessEntry x y ≡ less (some (totalIn x)) (some (totalIn y))
+pub less-some : (x y : Entry) → lessEntry x y ≡ less (some (entryTotal x)) (some (entryTotal y))
 unfolding lessEntry less
 less-some x y = refl
 
 less-top : (x y : Entry) → x .minutes < y .minutes → lessEntry x y ≡ true
 unfolding lessEntry
 less-top x y h =
-    split (atMost (totalIn y) (totalIn x))
-    (λ e. absurd (⊎-elim (λ l. omega arith) (λ l. omega arith) (atMost-says (totalIn y) (totalIn x) e)))
+    split (atMost (entryTotal y) (entryTotal x))
+    (λ e. absurd (⊎-elim (λ l. omega arith) (λ l. omega arith) (atMost-says (entryTotal y) (entryTotal x) e)))
     (λ e. rw e)
 
-pub less-distance : (x y : Entry) → x .minutes < top → lessEntry x y ≡ less (some (totalIn x)) (distanceOf y)
+pub less-distance : (x y : Entry) → x .minutes < top → lessEntry x y ≡ less (some (entryTotal x)) (distanceOf y)
 unfolding less
 less-distance x y h =
     split (eqb (y .minutes) top)
     (λ e. rw e (less-top x y (omega (arith, eqb-true (y .minutes) top e))))
     (λ e. rw e (less-some x y))
 
-pub lowered-distance : (x y : Entry) → x .minutes < top → distanceOf (lowered x y) ≡ least (distanceOf y) (some (totalIn x))
+pub lowered-distance : (x y : Entry) → x .minutes < top → distanceOf (lowered x y) ≡ least (distanceOf y) (some (entryTotal x))
 unfolding lowered least
 lowered-distance x y h =
     rw (← less-distance x y h)
@@ -72,15 +72,15 @@ lowered-is x y = split (lessEntry x y) (λ e. inr (rw e)) (λ e. inl (rw e))
 
 -- laws of the order on entries
 pub lessEntry-self : (x : Entry) → lessEntry x x ≡ false
-lessEntry-self x = less-some x x ∙ le-refl (some (totalIn x))
+lessEntry-self x = less-some x x ∙ le-refl (some (entryTotal x))
 
 pub lessEntry-trans : (x y z : Entry) → lessEntry y x ≡ false → lessEntry z y ≡ false → lessEntry z x ≡ false
-lessEntry-trans x y z e h = less-some z x ∙ le-trans (some (totalIn x)) (some (totalIn y)) (some (totalIn z)) (sym (less-some y x) ∙ e) (sym (less-some z y) ∙ h)
+lessEntry-trans x y z e h = less-some z x ∙ le-trans (some (entryTotal x)) (some (entryTotal y)) (some (entryTotal z)) (sym (less-some y x) ∙ e) (sym (less-some z y) ∙ h)
 
 pub lessEntry-below : (x y z : Entry) → lessEntry x y ≡ true → lessEntry z y ≡ false → lessEntry z x ≡ false
 lessEntry-below x y z e h =
     less-some z x
-    ∙ le-trans (some (totalIn x)) (some (totalIn y)) (some (totalIn z)) (less-le (some (totalIn x)) (some (totalIn y)) (sym (less-some x y) ∙ e)) (sym (less-some z y) ∙ h)
+    ∙ le-trans (some (entryTotal x)) (some (entryTotal y)) (some (entryTotal z)) (less-le (some (entryTotal x)) (some (entryTotal y)) (sym (less-some x y) ∙ e)) (sym (less-some z y) ∙ h)
 
 -- a step more
 pub after-minutes : (a : Action) (e : Entry) → afterStep a e .minutes ≡ a .cost + e .minutes
@@ -91,12 +91,12 @@ pub after-steps : (a : Action) (e : Entry) → afterStep a e .steps ≡ e .steps
 unfolding afterStep addStep
 after-steps a e = refl
 
-after-total : (a : Action) (e : Entry) → totalIn (afterStep a e) ≡ addStep a (totalIn e)
+after-total : (a : Action) (e : Entry) → entryTotal (afterStep a e) ≡ addStep a (entryTotal e)
 unfolding afterStep addStep
 after-total a e = refl
 
-pub after-distance : (a : Action) (e : Entry) → a .cost + e .minutes < top → some (totalIn (afterStep a e)) ≡ stepTo a (distanceOf e)
-after-distance a e h = ap some (after-total a e) ∙ sym (stepTo-some a (totalIn e)) ∙ ap (stepTo a) (sym (distance-some e (omega arith)))
+pub after-distance : (a : Action) (e : Entry) → a .cost + e .minutes < top → some (entryTotal (afterStep a e)) ≡ stepTo a (distanceOf e)
+after-distance a e h = ap some (after-total a e) ∙ sym (stepTo-some a (entryTotal e)) ∙ ap (stepTo a) (sym (distance-some e (omega arith)))
 
 -- the same offers by actions that are the same
 pub offered-same : (variables : List Variable) (f g : ℕ → Action) (x : ℕ) (e : Entry) (s : ℕ) (y : Entry) (count : ℕ)
@@ -110,7 +110,7 @@ offered-same variables f g x e s y (suc count) h =
 pub record Offers (variables : List Variable) (action : ℕ → Action) (x : ℕ) (e : Entry) (s : ℕ) (y z : Entry) (count : ℕ) : Type 0 where
   pub came : (z ≡ y) ⊎ ((a : ℕ) × (a < count) × (leadsTo variables (action a) s x ≡ true) × (z ≡ afterStep (action a) e))
   pub lower : Le (distanceOf z) (distanceOf y)
-  pub every : (a : ℕ) → a < count → leadsTo variables (action a) s x ≡ true → Le (distanceOf z) (some (totalIn (afterStep (action a) e)))
+  pub every : (a : ℕ) → a < count → leadsTo variables (action a) s x ≡ true → Le (distanceOf z) (some (entryTotal (afterStep (action a) e)))
 
 module _ (variables : List Variable) (action : ℕ → Action) (x : ℕ) (e : Entry) (s : ℕ) (y : Entry) where
   -- no step by the next action, or one that is offered
@@ -138,15 +138,15 @@ module _ (variables : List Variable) (action : ℕ → Action) (x : ℕ) (e : En
             (λ q. ⊎-elim (λ o. inl (q ∙ o)) (λ o. inr (o .0, omega (arith, o .1), o .2, q ∙ o .3)) (w .came))
             (λ q. inr (count, omega arith, n, q))
             (lowered-is new z);
-        lower = rw is (le-trans _ _ _ (least-left (distanceOf z) (some (totalIn new))) (w .lower));
+        lower = rw is (le-trans _ _ _ (least-left (distanceOf z) (some (entryTotal new))) (w .lower));
         every =
             λ a h l.
             split-le count a
             (λ k.
             let here : a ≡ count = omega arith in
-            subst (λ (b : ℕ). Le (distanceOf (lowered new z)) (some (totalIn (afterStep (action b) e)))) (sym here)
-            (rw is (least-right (distanceOf z) (some (totalIn new)))))
-            (λ k. rw is (le-trans _ _ _ (least-left (distanceOf z) (some (totalIn new))) (w .every a k l)));
+            subst (λ (b : ℕ). Le (distanceOf (lowered new z)) (some (entryTotal (afterStep (action b) e)))) (sym here)
+            (rw is (least-right (distanceOf z) (some (entryTotal new)))))
+            (λ k. rw is (le-trans _ _ _ (least-left (distanceOf z) (some (entryTotal new))) (w .every a k l)));
       }
 
   pub offers : (count : ℕ) → ((a : ℕ) → a < count → action a .cost + e .minutes < top) → Offers variables action x e s y (offered variables action x e s y count) count

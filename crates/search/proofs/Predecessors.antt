@@ -15,7 +15,7 @@ use Rattle.files.specs.Task.{Pair, Action}
 use Rattle.files.proofs.BelowLaws.{allBelow-intro, allBelow-elim}
 use Rattle.files.proofs.Logic.{clash, split, split-le, and-split, and-join}
 use Rattle.plans.specs.State.{State, allHold, applicable, apply}
-use Rattle.plans.specs.Tally.{meetsEntry}
+use Rattle.plans.specs.Tally.{meetsCell}
 use Rattle.plans.proofs.RowStates.{meets-none, meets-some, after-none, after-some}
 use Rattle.files.proofs.Truth.{same-truth}
 use Rattle.search.specs.States.{stateNumber, stateAt}
@@ -31,7 +31,7 @@ module _ (condition effect value : ℕ) where
   unfolding canHave
   have-effect d = rw (ne-eqb effect 255 d) refl
 
-  have-left : effect ≡ 255 → meetsEntry condition value ≡ canHave condition effect value
+  have-left : effect ≡ 255 → meetsCell condition value ≡ canHave condition effect value
   unfolding canHave
   have-left e = rw (eq-eqb effect 255 e) refl
 
@@ -43,7 +43,7 @@ module _ (condition effect value : ℕ) where
 
 -- the values that a variable may have had
 abbrev pub Spanned : ℕ → ℕ → ℕ → ℕ → Type 0
-Spanned condition size low high = (low ≤ high) × (high ≤ size) × ((value : ℕ) → value < size → meetsEntry condition value ≡ leb low value && ltb value high)
+Spanned condition size low high = (low ≤ high) × (high ≤ size) × ((value : ℕ) → value < size → meetsCell condition value ≡ leb low value && ltb value high)
 
 pub any-earlier : (condition size : ℕ) → condition ≡ 255 → Spanned condition size 0 size
 any-earlier condition size e = (omega arith, omega arith, λ value h. sym (meets-none condition value e) ∙ sym (and-join (le-leb 0 value (omega arith)) (lt-ltb value size h)))
@@ -94,12 +94,12 @@ module _ (conditions effects : List ℕ) (base : ℕ) where
     unfolding canReach
     reached-set n v e h d = eqb-true (effectAt v) (s v) (have-effect (conditionAt v) (effectAt v) (s v) d ∙ allBelow-elim n (reachAt s) e v h)
 
-    reached-left : (n v : ℕ) → canReach conditions effects base n s ≡ true → v < n → effectAt v ≡ 255 → meetsEntry (conditionAt v) (s v) ≡ true
+    reached-left : (n v : ℕ) → canReach conditions effects base n s ≡ true → v < n → effectAt v ≡ 255 → meetsCell (conditionAt v) (s v) ≡ true
     unfolding canReach
     reached-left n v e h d = have-left (conditionAt v) (effectAt v) (s v) d ∙ allBelow-elim n (reachAt s) e v h
 
     reached-all : (n : ℕ) → ((v : ℕ) → v < n → (effectAt v ≡ 255 → ⊥) → effectAt v ≡ s v)
-        → ((v : ℕ) → v < n → effectAt v ≡ 255 → meetsEntry (conditionAt v) (s v) ≡ true) → canReach conditions effects base n s ≡ true
+        → ((v : ℕ) → v < n → effectAt v ≡ 255 → meetsCell (conditionAt v) (s v) ≡ true) → canReach conditions effects base n s ≡ true
     unfolding canReach
     reached-all n f g =
         allBelow-intro n (reachAt s)
@@ -113,7 +113,7 @@ module _ (conditions effects : List ℕ) (base : ℕ) where
   -- states that differ only in effects from a variable on
   module _ (n from : ℕ) (s r : State) where
     differsAt : ℕ → Bool
-    differsAt v = cond (leb from v && not (eqb (effectAt v) 255)) (meetsEntry (conditionAt v) (r v)) (eqb (r v) (s v))
+    differsAt v = cond (leb from v && not (eqb (effectAt v) 255)) (meetsCell (conditionAt v) (r v)) (eqb (r v) (s v))
 
     differs-early : (v : ℕ) → v < from → eqb (r v) (s v) ≡ differsAt v
     unfolding differsAt
@@ -123,7 +123,7 @@ module _ (conditions effects : List ℕ) (base : ℕ) where
     unfolding differsAt
     differs-left v e = split (leb from v) (λ l. rw (l, eq-eqb (effectAt v) 255 e) refl) (λ l. rw l refl)
 
-    differs-effect : (v : ℕ) → from ≤ v → (effectAt v ≡ 255 → ⊥) → meetsEntry (conditionAt v) (r v) ≡ differsAt v
+    differs-effect : (v : ℕ) → from ≤ v → (effectAt v ≡ 255 → ⊥) → meetsCell (conditionAt v) (r v) ≡ differsAt v
     unfolding differsAt
     differs-effect v h d = rw (le-leb from v h, ne-eqb (effectAt v) 255 d) refl
 
@@ -138,11 +138,11 @@ module _ (conditions effects : List ℕ) (base : ℕ) where
       pub only-left : effectAt v ≡ 255 → r v ≡ s v
       only-left d = eqb-true (r v) (s v) (differs-left v d ∙ at-variable)
 
-      pub only-effect : from ≤ v → (effectAt v ≡ 255 → ⊥) → meetsEntry (conditionAt v) (r v) ≡ true
+      pub only-effect : from ≤ v → (effectAt v ≡ 255 → ⊥) → meetsCell (conditionAt v) (r v) ≡ true
       only-effect l d = differs-effect v l d ∙ at-variable
 
     pub differs-only : ((v : ℕ) → v < n → v < from → r v ≡ s v) → ((v : ℕ) → v < n → effectAt v ≡ 255 → r v ≡ s v)
-        → ((v : ℕ) → v < n → from ≤ v → (effectAt v ≡ 255 → ⊥) → meetsEntry (conditionAt v) (r v) ≡ true) → differsOnly conditions effects base n from s r ≡ true
+        → ((v : ℕ) → v < n → from ≤ v → (effectAt v ≡ 255 → ⊥) → meetsCell (conditionAt v) (r v) ≡ true) → differsOnly conditions effects base n from s r ≡ true
     unfolding differsOnly differsAt
     differs-only f g k =
         allBelow-intro n differsAt
@@ -189,14 +189,14 @@ module _ (sizes conditions effects : List ℕ) (n base : ℕ) (positive : RowSiz
   unfolding Leads Reaches t
   leads-reaches e =
       let both = and-split (allHold (rowPairs conditions base 0 n) r) (eqb (weighted sizes (apply a r) n) x) e in
-      let met : (v : ℕ) → v < n → meetsEntry (conditionAt conditions effects base v) (r v) ≡ true =
+      let met : (v : ℕ) → v < n → meetsCell (conditionAt conditions effects base v) (r v) ≡ true =
       λ v h. allBelow-elim n (meetsAt conditions base r) (sym (hold-below conditions base r n) ∙ both .0) v h in
       let is : t ≡ apply a r = ap (rowState n sizes) (sym (eqb-true (weighted sizes (apply a r) n) x (both .1))) ∙ weights-state sizes n positive (apply a r) after-in after-behind in
       let value : (v : ℕ) → t v ≡ apply a r v = λ v. ap (λ (q : State). q v) is in
       and-join
       (reached-all conditions effects base t n
       (λ v h d. sym (value v ∙ set-value v h d))
-      (λ v h d. ap (meetsEntry (conditionAt conditions effects base v)) (value v ∙ left-value v h d) ∙ met v h))
+      (λ v h d. ap (meetsCell (conditionAt conditions effects base v)) (value v ∙ left-value v h d) ∙ met v h))
       (differs-only conditions effects base n 0 t r
       (λ v h l. absurd (omega arith))
       (λ v h d. sym (value v ∙ left-value v h d))
@@ -206,12 +206,12 @@ module _ (sizes conditions effects : List ℕ) (n base : ℕ) (positive : RowSiz
   unfolding Leads Reaches t
   reaches-leads e =
       let both = and-split (canReach conditions effects base n t) (differsOnly conditions effects base n 0 t r) e in
-      let met : (v : ℕ) → v < n → meetsEntry (conditionAt conditions effects base v) (r v) ≡ true =
+      let met : (v : ℕ) → v < n → meetsCell (conditionAt conditions effects base v) (r v) ≡ true =
       λ v h.
       split (eqb (effectAt conditions effects base v) 255)
       (λ q.
       let d : effectAt conditions effects base v ≡ 255 = eqb-true (effectAt conditions effects base v) 255 q in
-      ap (meetsEntry (conditionAt conditions effects base v)) (only-left conditions effects base n 0 t r (both .1) v h d) ∙ reached-left conditions effects base t n v (both .0) h d)
+      ap (meetsCell (conditionAt conditions effects base v)) (only-left conditions effects base n 0 t r (both .1) v h d) ∙ reached-left conditions effects base t n v (both .0) h d)
       (λ q. only-effect conditions effects base n 0 t r (both .1) v h (omega arith) (eqb-false (effectAt conditions effects base v) 255 q)) in
       let value : (v : ℕ) → v < n → apply a r v ≡ t v =
       λ v h.

@@ -16,9 +16,9 @@ use Rattle.files.proofs.BelowLaws.{allBelow-intro, allBelow-elim}
 use Rattle.files.proofs.Countdown.{one-more}
 use Rattle.files.proofs.Logic.{split, split-le, and-split, and-join}
 use Rattle.files.proofs.RowLaws.{rowPairs-none, rowPairs-skip, rowPairs-next}
-use Rattle.files.proofs.RowValues.{entryValue, rowPairs-value, rowPairs-behind}
+use Rattle.files.proofs.RowValues.{cellValue, rowPairs-value, rowPairs-behind}
 use Rattle.plans.specs.State.{State, holds, allHold, apply}
-use Rattle.plans.specs.Tally.{meetsEntry, afterEntry}
+use Rattle.plans.specs.Tally.{meetsCell, afterCell}
 use Rattle.plans.proofs.AdmitsLaws.{admits-is}
 use Rattle.plans.proofs.RowStates.{meets-none, meets-some, after-none, after-some}
 use Rattle.files.proofs.Truth.{same-truth}
@@ -26,7 +26,7 @@ use Rattle.files.proofs.Truth.{same-truth}
 module _ (row : List ℕ) (base : ℕ) (s : State) where
   -- whether the value of variable v meets its entry
   abbrev pub meetsAt : ℕ → Bool
-  meetsAt v = meetsEntry (getD row (base + v) 0) (s v)
+  meetsAt v = meetsCell (getD row (base + v) 0) (s v)
 
   hold-more : (v left rest : ℕ) → left ≡ suc rest → allHold (rowPairs row base v left) s ≡ meetsAt v && allHold (rowPairs row base (v + 1) rest) s
   unfolding allHold holds
@@ -81,13 +81,13 @@ module _ (row : List ℕ) (base : ℕ) (s : State) where
 
   -- the state after the effects of the row
   abbrev pub afterRow : State
-  afterRow v = afterEntry (getD row (base + v) 0) (s v)
+  afterRow v = afterCell (getD row (base + v) 0) (s v)
 
   pub apply-row : (a : Action) (n v : ℕ) → a .effects ≡ rowPairs row base 0 n → v < n → apply a s v ≡ afterRow v
   unfolding apply
   apply-row a n v is h =
       let x = getD row (base + v) 0 in
-      let found : valueIn (a .effects) v ≡ entryValue x = ap (λ (l : List Pair). valueIn l v) is ∙ rowPairs-value row base 0 n v (omega arith) (omega arith) in
+      let found : valueIn (a .effects) v ≡ cellValue x = ap (λ (l : List Pair). valueIn l v) is ∙ rowPairs-value row base 0 n v (omega arith) (omega arith) in
       split (eqb x 255)
       (λ e. ap (λ (o : Option ℕ). Option·getD o (s v)) (found ∙ ap (λ (t : Bool). cond t none (some x)) e) ∙ after-none x (s v) (eqb-true x 255 e))
       (λ e. ap (λ (o : Option ℕ). Option·getD o (s v)) (found ∙ ap (λ (t : Bool). cond t none (some x)) e) ∙ after-some x (s v) (eqb-false x 255 e))

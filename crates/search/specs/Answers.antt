@@ -53,8 +53,8 @@ abbrev pub planWhole : List ℕ → ℕ → Planned
 planWhole task signer =
     record {
       outcome = done;
-      actions = actionCount (taskOf task);
-      facts = factCount (taskOf task);
+      «action_marks» = actionCount (taskOf task);
+      «fact_marks» = factCount (taskOf task);
       reduced = length (reducedFile (taskOf task) planLevel signer);
       origin = length (originsFile (taskOf task) planLevel signer);
       table = searchedStates task;

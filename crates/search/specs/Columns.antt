@@ -11,7 +11,7 @@ use Rattle.files.specs.Dense.{rowVariable, rowAction}
 use Rattle.files.specs.Task.{Variable, Action, Task, actionOf}
 use Rattle.plans.specs.State.{State, applicable, apply}
 use Rattle.plans.specs.Plan.{Total, addStep, atMost}
-use Rattle.plans.specs.Tally.{meetsEntry}
+use Rattle.plans.specs.Tally.{meetsCell}
 use Rattle.search.specs.States.{stateCount, stateNumber, stateAt}
 use Rattle.search.specs.Table.{entry, entryOf, distances}
 use Rattle.search.specs.declared.Entry.{Entry}
@@ -24,12 +24,12 @@ unfoldable pub entriesIn : List ℕ → List ℕ → ℕ → List Entry
 entriesIn minutes steps count = tabulate count (entryIn minutes steps)
 
 -- cost and steps of an entry
-abbrev pub totalIn : Entry → Total
-totalIn e = record { minutes = e .minutes; steps = e .steps }
+abbrev pub entryTotal : Entry → Total
+entryTotal e = record { minutes = e .minutes; steps = e .steps }
 
 -- the order on entries as numbers: 2^64 - 1 and 65,535 are above those of every plan
 unfoldable pub lessEntry : Entry → Entry → Bool
-lessEntry x y = not (atMost (totalIn y) (totalIn x))
+lessEntry x y = not (atMost (entryTotal y) (entryTotal x))
 
 -- entries that are alike
 unfoldable pub sameEntry : Entry → Entry → Bool
@@ -41,7 +41,7 @@ lowered x y = cond (lessEntry x y) x y
 
 -- with one step more in front
 unfoldable pub afterStep : Action → Entry → Entry
-afterStep a e = let x = addStep a (totalIn e) in entry (x .minutes) (x .steps)
+afterStep a e = let x = addStep a (entryTotal e) in entry (x .minutes) (x .steps)
 
 -- an action leads from state s to state x
 unfoldable pub leadsTo : List Variable → Action → ℕ → ℕ → Bool
@@ -72,7 +72,7 @@ rowState variables sizes n = stateAt (rowVariables variables sizes []) n
 
 -- a variable can have a value after a step: the effect's, or one that the condition asks where there is no effect
 unfoldable pub canHave : ℕ → ℕ → ℕ → Bool
-canHave condition effect value = cond (eqb effect 255) (meetsEntry condition value) (eqb effect value)
+canHave condition effect value = cond (eqb effect 255) (meetsCell condition value) (eqb effect value)
 
 -- the step at `base` can lead to state s
 unfoldable pub canReach : List ℕ → List ℕ → ℕ → ℕ → State → Bool
@@ -86,7 +86,7 @@ differsOnly conditions effects base variables from s r =
     (λ v.
     cond
     (leb from v && not (eqb (getD effects (base + v) 0) 255))
-    (meetsEntry (getD conditions (base + v) 0) (r v))
+    (meetsCell (getD conditions (base + v) 0) (r v))
     (eqb (r v) (s v)))
 
 -- what the search asks of arrays

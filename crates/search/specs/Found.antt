@@ -14,8 +14,8 @@ use Rattle.search.specs.FirstPlan.{firstPlan}
 use Rattle.search.specs.Planner.{statesFit, planFits, unplanned}
 use Rattle.reduction.specs.declared.Reduced.{Reduced}
 use Rattle.search.specs.declared.Planned.{Planned}
-use Rattle.search.specs.declared.row.Found.{Found}
-use Rattle.search.specs.declared.row.Run.{Run}
+use Rattle.search.specs.declared.stages.Found.{Found}
+use Rattle.search.specs.declared.stages.Run.{Run}
 
 unfoldable pub searchOutcome : Task → (List ℕ → List ℕ) → ℕ → ℕ → ℕ → Outcome
 searchOutcome t original signer tableRoom planRoom =
@@ -56,8 +56,8 @@ bothTogether first found =
     let planned : Planned =
     record {
       outcome = found .outcome;
-      actions = first .actions;
-      facts = first .facts;
+      «action_marks» = first .«action_marks»;
+      «fact_marks» = first .«fact_marks»;
       reduced = first .reduced;
       origin = first .origin;
       table = found .states;

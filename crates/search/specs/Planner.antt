@@ -92,8 +92,8 @@ abbrev pub unplanned : Outcome → Planned
 unplanned o =
     record {
       outcome = o;
-      actions = 0;
-      facts = 0;
+      «action_marks» = 0;
+      «fact_marks» = 0;
       reduced = 0;
       origin = 0;
       table = 0;
@@ -112,8 +112,8 @@ planAnswer task signer room =
     let answer : Planned =
     record {
       outcome = o;
-      actions = actionCount t;
-      facts = factCount t;
+      «action_marks» = actionCount t;
+      «fact_marks» = factCount t;
       reduced = length (reducedFile t planLevel signer);
       origin = length (originsFile t planLevel signer);
       table = searchedStates task;

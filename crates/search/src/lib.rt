@@ -3,8 +3,8 @@
 mod columns;
 mod first_plan;
 pub mod own_table;
-mod row;
 mod selection;
+mod stages;
 mod states;
 mod steps_to;
 mod table;
@@ -28,8 +28,8 @@ pub struct Entry {
 // refusal.
 pub struct Planned {
     pub outcome: files::Outcome,
-    pub actions: usize,
-    pub facts: usize,
+    pub action_marks: usize,
+    pub fact_marks: usize,
     pub reduced: usize,
     pub origin: usize,
     pub table: usize,
@@ -63,7 +63,7 @@ pub fn plan(
     let mut minutes = [0u64; 4096];
     let mut steps = [0u16; 4096];
     let room = table.len();
-    let run = row::plan_columns(
+    let run = stages::plan_columns(
         task,
         signer,
         actions,

@@ -92,7 +92,7 @@ pub fn number_after(
     let mut v = variables;
     while 0 < v {
         v -= 1;
-        let value = rows::entry_after(effects[base + v], values[v]);
+        let value = rows::cell_after(effects[base + v], values[v]);
         number = value as usize + bytes::byte_at(sizes, v) * number;
     }
     number

@@ -7,7 +7,7 @@ ghost use Prim.Native.Nat.{ℕ, _+_, _*_, _<_, _≤_};
 ghost use lib.Dec.{leb, ltb};
 ghost use lib.ListN.{length, getD};
 ghost use Rattle.files.specs.Dense.{rowAction};
-ghost use Rattle.plans.specs.Tally.{listState, meetsEntry};
+ghost use Rattle.plans.specs.Tally.{listState, meetsCell};
 ghost use Rattle.search.specs.Table.{entry};
 ghost use Rattle.search.specs.Columns.{entryIn, lowered, leadsTo, offered, rowVariables, rowStates, rowWeight, rowState, canHave, canReach, differsOnly, StepRow, Searchable};
 ghost use Rattle.search.specs.Settling.{Unchanged};
@@ -24,7 +24,7 @@ struct Span {
 // Before an effect on a variable of `size` values: the value that the condition asks, or any.
 fn earlier(condition: usize, size: usize) -> Span
     requires { ⌜ (condition < 256) × ((condition ≡ 255 → ⊥) → condition < size) ⌝ }
-    ensures { λ r. ⌜ (r .low ≤ r .high) × (r .high ≤ size) × ((value : ℕ) → value < size → meetsEntry condition value ≡ leb (r .low) value && ltb value (r .high)) ⌝ }
+    ensures { λ r. ⌜ (r .low ≤ r .high) × (r .high ≤ size) × ((value : ℕ) → value < size → meetsCell condition value ≡ leb (r .low) value && ltb value (r .high)) ⌝ }
 {
     if condition == 255 {
         return Span { low: 0, high: size };

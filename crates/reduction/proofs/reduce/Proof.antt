@@ -9,7 +9,7 @@ use Rattle.files.specs.Bytes.{Octets}
 use Rattle.files.specs.TaskFile.{checkTask}
 use Rattle.files.proofs.TaskChecked.{task-accepted}
 use Rattle.marking.proofs.MarkLaws.{refusal-number, held-by}
-use Rattle.reduction.proofs.ReduceRow.{early-file, early-level, early-signer, early-answer, early-actions, early-facts, early-reduced, early-origin, alone-answer, alone-actions, alone-facts, alone-reduced, alone-origin}
+use Rattle.reduction.proofs.ReduceStages.{early-file, early-level, early-signer, early-answer, early-actions, early-facts, early-reduced, early-origin, alone-answer, alone-actions, alone-facts, alone-reduced, alone-origin}
 use borrow.Author.Needs.{needs}
 use Rattle.reduction.proofs.reduce.Statement.{statement}
 use Rattle.reduction.proofs.reduce.Tie as tie

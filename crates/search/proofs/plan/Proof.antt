@@ -47,23 +47,23 @@ use denote.Exit.{yes}
 use Rattle.files.specs.Outcome.{isDone, overwrite}
 use Rattle.reduction.specs.Reduce.{rooms}
 use Rattle.search.specs.declared.Entry.{Entry}
-use Rattle.search.specs.declared.row.Run.{Run}
+use Rattle.search.specs.declared.stages.Run.{Run}
 use Rattle.search.specs.Columns.{entriesIn}
 use Rattle.search.specs.Planner.{PlanRooms, planRooms, searched, searchStage, planAnswer, plannedActionMarks, plannedFactMarks, plannedReduced, plannedOrigin, plannedTable, plannedPlan, Lent, lentOf}
 use Rattle.search.specs.PlannerRight.{PlannerPromise}
 use Rattle.search.specs.Table.{tableOf}
 use Rattle.search.proofs.Planned as P₀
 use Rattle.search.proofs.Planned.Laws as P′
-use Rattle.search.proofs.row.Run as O₀
-use Rattle.search.proofs.row.Run.Laws as O′
+use Rattle.search.proofs.stages.Run as O₀
+use Rattle.search.proofs.stages.Run.Laws as O′
 use Rattle.search.proofs.Entries.{R}
-use Rattle.search.proofs.Filling.{filled-planned}
+use Rattle.search.proofs.TableFilling.{filled-planned}
 use Rattle.search.proofs.PlannerRight.{promise-kept}
 use Rattle.search.proofs.Hand.{told, big-lit, ref, lend-array, array-home, lend-array-mut, array-mut-home}
-use Rattle.search.proofs.row.plan_columns as d
-use Rattle.search.proofs.row.plan_columns.Symbol as d-def
-use Rattle.search.proofs.row.plan_columns.Symbol.{name as #search·row·plan-columns}
-use Rattle.search.proofs.row.plan_columns.Met as d-thm
+use Rattle.search.proofs.stages.plan_columns as d
+use Rattle.search.proofs.stages.plan_columns.Symbol as d-def
+use Rattle.search.proofs.stages.plan_columns.Symbol.{name as #search·stages·plan-columns}
+use Rattle.search.proofs.stages.plan_columns.Met as d-thm
 use Rattle.search.proofs.work_table.fill as g
 use Rattle.search.proofs.work_table.fill.Symbol as g-def
 use Rattle.search.proofs.work_table.fill.Symbol.{name as #search·work-table·fill}
@@ -282,7 +282,7 @@ module _ {M : Type 1} (𝓤 : URA M) (H : Heap 𝓤) (A : Atoms 𝓤) (W : Given
       nothing ! $ move ! (3 ∷ 0 ∷ []) $ join ! $ move ! (2 ∷ 0 ∷ []) $ join ! $ move ! (1 ∷ 0 ∷ []) $ join ! $ frame ! $
       nothing ! $ owned ! usize (Is usize) (uint-makes 𝓤 H A W w64) n _ (refl, small few) $ fjoin ! $ move ! (3 ∷ 0 ∷ []) $ fjoin ! $ move ! (2 ∷ 0 ∷ []) $ fjoin ! $ move ! (1 ∷ 0 ∷ []) $ fjoin ! $ done !
 
-  walk : (C : Calls 𝓤 H) (Λ : Loops 𝓤 H) → FmC 𝓤 H (W .laws) C → Triple 𝓤 (C #search·row·plan-columns) (Columns 𝓤 H A at-mem run) → Triple 𝓤 (C #search·work-table·fill) (Fill 𝓤 H A at-mem run)
+  walk : (C : Calls 𝓤 H) (Λ : Loops 𝓤 H) → FmC 𝓤 H (W .laws) C → Triple 𝓤 (C #search·stages·plan-columns) (Columns 𝓤 H A at-mem run) → Triple 𝓤 (C #search·work-table·fill) (Fill 𝓤 H A at-mem run)
       → ent 𝓤 (onEntry 𝓤 H A f.signature κs (q₀, (q₁, (q₂, (q₃, (q₄, (q₅, (q₆, tt))))))) a at) (WpFn 𝓤 H C Λ code.function (kv ∷ vint w32 sg ∷ av ∷ fv ∷ rv ∷ ov ∷ tv ∷ pv ∷ []) Post)
   walk C Λ fm k-columns k-fill =
       qed W ((‵ (flft κ₀ q₀) ⊛ ‵ (flft κ₁ q₁) ⊛ ‵ (flft κ₂ q₂) ⊛ ‵ (flft κ₃ q₃) ⊛ ‵ (flft κ₄ q₄) ⊛ ‵ (flft κ₅ q₅) ⊛ ‵ (flft κ₆ q₆) ⊛ ‵ ftrue) ∷ ‵ (owns (ShrSlice (named 0) κ₀ u8 ∷ u32 ∷ MutSlice (named 1) κ₁ u8 ∷ MutSlice (named 2) κ₂ u8 ∷ MutSlice (named 3) κ₃ u8 ∷ MutSlice (named 4) κ₄ u8 ∷ MutSlice (named 5) κ₅ R ∷ MutSlice (named 6) κ₆ u8 ∷ []) a at) ∷ []) ∵
@@ -334,7 +334,7 @@ module _ {M : Type 1} (𝓤 : URA M) (H : Heap 𝓤) (A : Atoms 𝓤) (W : Given
       keep ! (7 ∷ 6 ∷ 5 ∷ 4 ∷ 3 ∷ 0 ∷ 2 ∷ 12 ∷ 11 ∷ 10 ∷ 9 ∷ 1 ∷ 8 ∷ []) $ by ! (exits r (actions-of zs) (facts-of zs) (reduced-of zs) (origin-of zs) (ts .0) (plan-of zs) len-actions len-facts len-reduced len-origin len-table len-plan answered actions-are facts-are reduced-is origin-is (is ∙ filled-planned tk sg Rm ys (entriesIn (minutes-of zs) (steps-of zs) (r .states)) (entries-are .0)) plan-is (planned-is r (w ∷ []) k)))))))))))))))))))))))))))))))))))))))))))))))))))))))))))))))))))))
 
 module _ {M : Type 1} (𝓤 : URA M) (H : Heap 𝓤) (A : Atoms 𝓤) (W : Given 𝓤 H A) (mem : Memory → SProp 𝓤) (run : Routine → Fun 𝓤) where
-  walks : (𝓣 : Tables 𝓤 H) → Triple 𝓤 (𝓣 .C #search·row·plan-columns) (Columns 𝓤 H A mem run) → Triple 𝓤 (𝓣 .C #search·work-table·fill) (Fill 𝓤 H A mem run)
+  walks : (𝓣 : Tables 𝓤 H) → Triple 𝓤 (𝓣 .C #search·stages·plan-columns) (Columns 𝓤 H A mem run) → Triple 𝓤 (𝓣 .C #search·work-table·fill) (Fill 𝓤 H A mem run)
       → Walks 𝓤 H A f.ended stayed (WpFn 𝓤 H (𝓣 .C) (𝓣 .Λ) code.function) (f.clauses 𝓤 H A mem run)
   walks 𝓣 k₁ k₂ = walked 𝓤 H A f.ended stayed (f.clauses 𝓤 H A mem run) (WpFn 𝓤 H (𝓣 .C) (𝓣 .Λ) code.function) (λ κs. (slice-vals, (uint-vals w32, (slice-vals, (slice-vals, (slice-vals, (slice-vals, (slice-vals, (slice-vals, tt)))))))))
       (λ κs. (shr-slice-tells (named 0) (κs .0) u8, (uint-tells w32, (mut-slice-tells (named 1) (κs .1 .0) u8, (mut-slice-tells (named 2) (κs .1 .1 .0) u8, (mut-slice-tells (named 3) (κs .1 .1 .1 .0) u8, (mut-slice-tells (named 4) (κs .1 .1 .1 .1 .0) u8, (mut-slice-tells (named 5) (κs .1 .1 .1 .1 .1 .0) R, (mut-slice-tells (named 6) (κs .1 .1 .1 .1 .1 .1 .0) u8, tt)))))))))
@@ -345,7 +345,7 @@ module _ {M : Type 1} (𝓤 : URA M) (H : Heap 𝓤) (A : Atoms 𝓤) (W : Given
       (a .1 .1 .1 .1 .1 .1 .0 .ptr .0) (a .1 .1 .1 .1 .1 .1 .0 .ptr .1) (a .1 .1 .1 .1 .1 .1 .0 .name) (a .1 .1 .1 .1 .1 .1 .0 .now) (a .1 .1 .1 .1 .1 .1 .1 .0 .ptr .0) (a .1 .1 .1 .1 .1 .1 .1 .0 .ptr .1) (a .1 .1 .1 .1 .1 .1 .1 .0 .name) (a .1 .1 .1 .1 .1 .1 .1 .0 .now)
       (are .0 .0 .1) (are .1 .0 .1) (are .1 .1 .0 .0 .1) (are .1 .1 .1 .0 .0 .1) (are .1 .1 .1 .1 .0 .0 .1) (are .1 .1 .1 .1 .1 .0 .0 .1) (are .1 .1 .1 .1 .1 .1 .0 .0 .1) (are .1 .1 .1 .1 .1 .1 .1 .0 .0 .1) (𝓣 .C) (𝓣 .Λ) (fmOf 𝓤 H (W .laws) 𝓣) k₁ k₂))
 
-meets : {M : Type 1} (𝓤 : URA M) (H : Heap 𝓤) (A : Atoms 𝓤) → Given 𝓤 H A → (mem : Memory → SProp 𝓤) (run : Routine → Fun 𝓤) (𝓣 : Tables 𝓤 H) → Triple 𝓤 (𝓣 .C #search·row·plan-columns) (Columns 𝓤 H A mem run) → Triple 𝓤 (𝓣 .C #search·work-table·fill) (Fill 𝓤 H A mem run)
+meets : {M : Type 1} (𝓤 : URA M) (H : Heap 𝓤) (A : Atoms 𝓤) → Given 𝓤 H A → (mem : Memory → SProp 𝓤) (run : Routine → Fun 𝓤) (𝓣 : Tables 𝓤 H) → Triple 𝓤 (𝓣 .C #search·stages·plan-columns) (Columns 𝓤 H A mem run) → Triple 𝓤 (𝓣 .C #search·work-table·fill) (Fill 𝓤 H A mem run)
     → Meets 𝓤 H A f.signature (WpFn 𝓤 H (𝓣 .C) (𝓣 .Λ) code.function) (f.spec 𝓤 H A mem run)
 meets 𝓤 H A W mem run 𝓣 k₁ k₂ =
     walk-meets 𝓤 H A f.ended stayed W (goes-dropped 𝓤 H A W 7 (shrSliceOf (0 ∷ []) tt (plain (λ _. u8))) yes (λ κs x f. refl), (goes-dropped 𝓤 H A W 7 (plain (λ _. u32)) yes (λ κs x f. refl), (goes-gave-slice 𝓤 H A W 7 1 tt (plain (λ _. u8)), (goes-gave-slice 𝓤 H A W 7 2 tt (plain (λ _. u8)), (goes-gave-slice 𝓤 H A W 7 3 tt (plain (λ _. u8)), (goes-gave-slice 𝓤 H A W 7 4 tt (plain (λ _. u8)), (goes-gave-slice 𝓤 H A W 7 5 tt (plain (λ _. R)), (goes-gave-slice 𝓤 H A W 7 6 tt (plain (λ _. u8)), tt)))))))) (f.clauses 𝓤 H A mem run)
@@ -357,5 +357,5 @@ plan-spec 𝓤 H 𝓜 𝓖 𝓡 =
     entered 𝓤 H (tripleOf 𝓤 H (𝓖 .A) f.signature (f.spec 𝓤 H (𝓖 .A) (𝓜 .mem) (𝓡 .run)))
     (tables 𝓤 H 𝓜 𝓡 code.env .C) (tables 𝓤 H 𝓜 𝓡 code.env .Λ) #search·plan code.function (code.unfolded 𝓤 H 𝓜 𝓡)
     (meets 𝓤 H (𝓖 .A) (givenOf 𝓤 H 𝓜 𝓖) (𝓜 .mem) (𝓡 .run) (tablesOf 𝓤 H 𝓜 (tables 𝓤 H 𝓜 𝓡 code.env))
-    (cited 𝓤 H (Columns 𝓤 H (𝓖 .A) (𝓜 .mem) (𝓡 .run)) 𝓜 𝓡 code.env #search·row·plan-columns d-def.routine code.calls-search·row·plan-columns (d-thm.met 𝓤 H 𝓜 𝓖 𝓡))
+    (cited 𝓤 H (Columns 𝓤 H (𝓖 .A) (𝓜 .mem) (𝓡 .run)) 𝓜 𝓡 code.env #search·stages·plan-columns d-def.routine code.calls-search·stages·plan-columns (d-thm.met 𝓤 H 𝓜 𝓖 𝓡))
     (cited 𝓤 H (Fill 𝓤 H (𝓖 .A) (𝓜 .mem) (𝓡 .run)) 𝓜 𝓡 code.env #search·work-table·fill g-def.routine code.calls-search·work-table·fill (g-thm.met 𝓤 H 𝓜 𝓖 𝓡)))

@@ -6,7 +6,7 @@ use lib.ListN.{length, length-set}
 use Rattle.files.specs.Bytes.{placed}
 use Rattle.files.specs.Records.{offsetLimit}
 use Rattle.files.specs.TaskFile.{actionsFrom}
-use Rattle.files.specs.Rows.{costEntries}
+use Rattle.files.specs.Rows.{storedCosts}
 use Rattle.files.proofs.Decoding.{costs-next, costs-none}
 use borrow.Author.Needs.{needs}
 use Rattle.files.proofs.decode.read_costs.Statement.{statement}
@@ -14,7 +14,7 @@ use Rattle.files.proofs.decode.read_costs.Tie as tie
 
 abbrev Inv-loop : tie.InvT-loop
 Inv-loop costs₀ s at count i₀ place₀ left₀ costs i place left =
-    (placed costs i (costEntries (actionsFrom s place left)) ≡ placed costs₀ 0 (costEntries (actionsFrom s at count))) × (i + left ≤ length costs) × (place + 65540 * left < offsetLimit) × (length costs ≡ length costs₀)
+    (placed costs i (storedCosts (actionsFrom s place left)) ≡ placed costs₀ 0 (storedCosts (actionsFrom s at count))) × (i + left ≤ length costs) × (place + 65540 * left < offsetLimit) × (length costs ≡ length costs₀)
 
 abbrev μ-loop : tie.MeasureT-loop
 μ-loop costs₀ s at count i₀ place₀ left₀ costs i place left =

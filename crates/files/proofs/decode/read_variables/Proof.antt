@@ -5,7 +5,7 @@ use native.Mathlib.Omega.{arith}
 use lib.ListN.{length, length-set}
 use Rattle.files.specs.Bytes.{placed}
 use Rattle.files.specs.TaskFile.{variablesFrom}
-use Rattle.files.specs.Rows.{sizeEntries, startEntries}
+use Rattle.files.specs.Rows.{storedSizes, storedStarts}
 use Rattle.files.proofs.Decoding.{sizes-next, sizes-none, starts-next, starts-none}
 use borrow.Author.Needs.{needs}
 use Rattle.files.proofs.decode.read_variables.Statement.{statement}
@@ -13,8 +13,8 @@ use Rattle.files.proofs.decode.read_variables.Tie as tie
 
 abbrev Inv-loop : tie.InvT-loop
 Inv-loop sizes₀ starts₀ s count i₀ place₀ left₀ sizes starts i place left =
-    (placed sizes i (sizeEntries (variablesFrom s place left)) ≡ placed sizes₀ 0 (sizeEntries (variablesFrom s 8 count)))
-    × (placed starts i (startEntries (variablesFrom s place left)) ≡ placed starts₀ 0 (startEntries (variablesFrom s 8 count)))
+    (placed sizes i (storedSizes (variablesFrom s place left)) ≡ placed sizes₀ 0 (storedSizes (variablesFrom s 8 count)))
+    × (placed starts i (storedStarts (variablesFrom s place left)) ≡ placed starts₀ 0 (storedStarts (variablesFrom s 8 count)))
     × ((i + left ≤ 64) × (place + 8 * left ≤ 520))
     × (length sizes ≡ length sizes₀)
     × (length starts ≡ length starts₀)

@@ -1,4 +1,4 @@
--- An entry is stored exactly for a variable below 64.
+-- A cell is stored exactly for a variable below 64.
 use Rattle.files.proofs.Decoding.{stored-below, stored-above}
 use borrow.Author.Needs.{needs}
 use Rattle.files.proofs.decode.store.Statement.{statement}

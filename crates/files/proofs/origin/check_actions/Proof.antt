@@ -1,4 +1,4 @@
--- The loop's invariant: the check of `left` numbers from `place` on, the first at least `low`, is the check from the start.
+-- The loop's invariant: the check of `left` numbers from `place` on, the first at least `at-least`, is the check from the start.
 use Prim.Native.Nat.{_+_, _*_, _^_, _<_}
 use mathlib.Core.Path.{_≡_}
 use borrow.Author.Needs.{needs}
@@ -8,11 +8,11 @@ use Rattle.files.proofs.origin.check_actions.Statement.{statement}
 use Rattle.files.proofs.origin.check_actions.Tie as tie
 
 abbrev Inv-loop : tie.InvT-loop
-Inv-loop s at count low₀ place₀ left₀ low place left =
-    (actionOriginsAt s low place left ≡ actionOriginsAt s 0 at count) × (place + 2 * left < 2 ^ 64)
+Inv-loop s at count at-least₀ place₀ left₀ at-least place left =
+    (actionOriginsAt s at-least place left ≡ actionOriginsAt s 0 at count) × (place + 2 * left < 2 ^ 64)
 
 abbrev μ-loop : tie.MeasureT-loop
-μ-loop s at count low₀ place₀ left₀ low place left = left
+μ-loop s at count at-least₀ place₀ left₀ at-least place left = left
 
 loop-holds : tie.Need-loop-holds Inv-loop μ-loop
 loop-holds c = search needs
@@ -32,8 +32,8 @@ refuse-requires-2 c κs = search needs
 returns-2 : tie.Need-returns-2 Inv-loop μ-loop
 returns-2 c = search action-origins-stop
 
-add-low : tie.Need-add-low Inv-loop μ-loop
-add-low c = search needs
+add-at-least : tie.Need-add-at-least Inv-loop μ-loop
+add-at-least c = search needs
 
 add-place : tie.Need-add-place Inv-loop μ-loop
 add-place c = search needs
@@ -65,7 +65,7 @@ check-actions-spec =
     returns
     refuse-requires-2
     returns-2
-    add-low
+    add-at-least
     add-place
     sub-left
     loop-less

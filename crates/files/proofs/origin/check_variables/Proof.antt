@@ -1,4 +1,4 @@
--- The loop's invariant: the check of `left` variable origins from `place` on, the first at least `low`, is the check from the start.
+-- The loop's invariant: the check of `left` variable origins from `place` on, the first at least `at-least`, is the check from the start.
 use Prim.Native.Nat.{_+_, _*_, _<_}
 use mathlib.Core.Path.{_≡_}
 use borrow.Author.Needs.{needs}
@@ -9,11 +9,11 @@ use Rattle.files.proofs.origin.check_variables.Statement.{statement}
 use Rattle.files.proofs.origin.check_variables.Tie as tie
 
 abbrev Inv-loop : tie.InvT-loop
-Inv-loop s count low₀ place₀ left₀ low place left =
-    (variableOriginsAt s low place left ≡ variableOriginsAt s 0 0 count) × (place + 65540 * left < offsetLimit)
+Inv-loop s count at-least₀ place₀ left₀ at-least place left =
+    (variableOriginsAt s at-least place left ≡ variableOriginsAt s 0 0 count) × (place + 65540 * left < offsetLimit)
 
 abbrev μ-loop : tie.MeasureT-loop
-μ-loop s count low₀ place₀ left₀ low place left = left
+μ-loop s count at-least₀ place₀ left₀ at-least place left = left
 
 loop-holds : tie.Need-loop-holds Inv-loop μ-loop
 loop-holds c = search needs
@@ -30,8 +30,8 @@ add-u16-at c = search needs
 u16-at-requires : tie.Need-u16-at-requires Inv-loop μ-loop
 u16-at-requires c κs = search needs
 
-add-low : tie.Need-add-low Inv-loop μ-loop
-add-low c = search needs
+add-at-least : tie.Need-add-at-least Inv-loop μ-loop
+add-at-least c = search needs
 
 record-after-requires : tie.Need-record-after-requires Inv-loop μ-loop
 record-after-requires c κs = search needs
@@ -62,7 +62,7 @@ check-variables-spec =
     returns
     add-u16-at
     u16-at-requires
-    add-low
+    add-at-least
     record-after-requires
     sub-left
     loop-less

@@ -1,4 +1,4 @@
--- The loop's invariant: the check of `left` pairs from `place` on, the first variable at least `low`, is the check from the start.
+-- The loop's invariant: the check of `left` pairs from `place` on, the first variable at least `at-least`, is the check from the start.
 use Prim.Native.Nat.{_+_, _*_, _^_, _<_}
 use mathlib.Core.Path.{_≡_}
 use borrow.Author.Needs.{needs}
@@ -8,11 +8,11 @@ use Rattle.files.proofs.task.check_pairs.Statement.{statement}
 use Rattle.files.proofs.task.check_pairs.Tie as tie
 
 abbrev Inv-loop : tie.InvT-loop
-Inv-loop s at count low₀ place₀ left₀ low place left =
-    (pairsAt s low place left ≡ pairsAt s 0 at count) × (place + 4 * left < 2 ^ 64)
+Inv-loop s at count at-least₀ place₀ left₀ at-least place left =
+    (pairsAt s at-least place left ≡ pairsAt s 0 at count) × (place + 4 * left < 2 ^ 64)
 
 abbrev μ-loop : tie.MeasureT-loop
-μ-loop s at count low₀ place₀ left₀ low place left = left
+μ-loop s at count at-least₀ place₀ left₀ at-least place left = left
 
 loop-holds : tie.Need-loop-holds Inv-loop μ-loop
 loop-holds c = search needs
@@ -26,8 +26,8 @@ returns c = search pairs-stop
 u16-at-requires : tie.Need-u16-at-requires Inv-loop μ-loop
 u16-at-requires c κs = search needs
 
-add-low : tie.Need-add-low Inv-loop μ-loop
-add-low c = search needs
+add-at-least : tie.Need-add-at-least Inv-loop μ-loop
+add-at-least c = search needs
 
 add-place : tie.Need-add-place Inv-loop μ-loop
 add-place c = search needs
@@ -57,7 +57,7 @@ check-pairs-spec =
     check-pair-requires
     returns
     u16-at-requires
-    add-low
+    add-at-least
     add-place
     sub-left
     loop-less

@@ -13,13 +13,13 @@ use Rattle.marking.proofs.covering.counted.Statement.{statement}
 use Rattle.marking.proofs.covering.counted.Tie as tie
 
 abbrev Inv-loop : tie.InvT-loop
-Inv-loop scope kept named could effects tracked coverers₀ marks₀ a₀ coverers marks a =
-    ((w : ℕ) → w < a → getD marks w 0 ≡ bit (countedAt (scope .level) kept named (coveredAt kept could effects tracked (scope .variables) (scope .actions) w) w))
+Inv-loop scope kept counted-before could effects tracked coverers₀ marks₀ a₀ coverers marks a =
+    ((w : ℕ) → w < a → getD marks w 0 ≡ bit (countedAt (scope .level) kept counted-before (coveredAt kept could effects tracked (scope .variables) (scope .actions) w) w))
     × (a ≤ scope .actions)
     × (length marks ≡ 512)
 
 abbrev μ-loop : tie.MeasureT-loop
-μ-loop scope kept named could effects tracked coverers₀ marks₀ a₀ coverers marks a = scope .actions - a
+μ-loop scope kept counted-before could effects tracked coverers₀ marks₀ a₀ coverers marks a = scope .actions - a
 
 loop-holds : tie.Need-loop-holds Inv-loop μ-loop
 loop-holds c = (λ w h. absurd (omega arith), omega arith, refl)
@@ -45,7 +45,7 @@ loop-again c =
     let a = c .before .before .before .before .before .before .args in
     let s = a .scope in
     let test : ℕ → Bool =
-    λ w. countedAt (s .level) (now (a .kept)) (now (a .named)) (coveredAt (now (a .kept)) (now (a .could-cover)) (now (a .effects)) (now (a .tracked)) (s .variables) (s .actions) w) w in (
+    λ w. countedAt (s .level) (now (a .kept)) (now (a .counted-before)) (coveredAt (now (a .kept)) (now (a .could-cover)) (now (a .effects)) (now (a .tracked)) (s .variables) (s .actions) w) w in (
       filled-before (l .marks) (l .a) _ (λ w x. x ≡ bit (test w)) (omega arith) (l .inv .0) (cc),
       omega arith,
       length-set (l .marks) (l .a) _ ∙ l .inv .2,

@@ -11,14 +11,14 @@ use Rattle.marking.proofs.gains.gain_actions.Statement.{statement}
 use Rattle.marking.proofs.gains.gain_actions.Tie as tie
 
 abbrev Inv-loop : tie.InvT-loop
-Inv-loop kept₀ effects before unlinked actions places i₀ kept i =
-    SetWhere (achieves effects actions before unlinked i) kept₀ kept
+Inv-loop kept₀ effects unlinked-before unlinked actions places i₀ kept i =
+    SetWhere (achieves effects actions unlinked-before unlinked i) kept₀ kept
     × (i ≤ places)
     × (places ≤ 2048)
     × (512 ≤ length kept₀)
 
 abbrev μ-loop : tie.MeasureT-loop
-μ-loop kept₀ effects before unlinked actions places i₀ kept i = places - i
+μ-loop kept₀ effects unlinked-before unlinked actions places i₀ kept i = places - i
 
 mul-places : tie.Need-mul-places Inv-loop μ-loop
 mul-places c = search needs
@@ -47,7 +47,7 @@ unfolding achieves
 loop-again c =
     let l = c .before .before .before .before .before .before .before .loop in
     let a = c .before .before .before .before .before .before .before .before .before .before .args in (
-      turns-next (λ k j. differ (now (a .unlinked)) (now (a .before)) k && sets (now (a .effects)) (k / 32) (k % 32) (a .scope .actions) j) _ _ _ (l .i) (l .inv .0) (c .before .before .keep-anew .ensures),
+      turns-next (λ k j. differ (now (a .unlinked)) (now (a .unlinked-before)) k && sets (now (a .effects)) (k / 32) (k % 32) (a .scope .actions) j) _ _ _ (l .i) (l .inv .0) (c .before .before .keep-anew .ensures),
       omega arith,
       l .inv .2,
       l .inv .3,
@@ -60,7 +60,7 @@ returns : tie.Need-returns Inv-loop μ-loop
 returns c =
     let l = c .before .loop in
     let a = c .before .before .before .before .args in
-    at-end (λ n. SetWhere (achieves (now (a .effects)) (a .scope .actions) (now (a .before)) (now (a .unlinked)) n) (now (a .kept)) (l .kept)) (l .i) (32 * a .scope .variables) (l .inv .1) (c .loop-test .left) (l .inv .0)
+    at-end (λ n. SetWhere (achieves (now (a .effects)) (a .scope .actions) (now (a .unlinked-before)) (now (a .unlinked)) n) (now (a .kept)) (l .kept)) (l .i) (32 * a .scope .variables) (l .inv .1) (c .loop-test .left) (l .inv .0)
 
 pub gain-actions-spec : {M : Type 1} → statement M
 gain-actions-spec =

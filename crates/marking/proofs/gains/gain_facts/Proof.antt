@@ -11,13 +11,13 @@ use Rattle.marking.proofs.gains.gain_facts.Statement.{statement}
 use Rattle.marking.proofs.gains.gain_facts.Tie as tie
 
 abbrev Inv-loop : tie.InvT-loop
-Inv-loop facts₀ scope whole conditions sizes counted named a₀ facts a =
-    SetWhere (namesAnew whole conditions sizes (scope .variables) counted named a) facts₀ facts
+Inv-loop facts₀ scope whole conditions sizes counted counted-before a₀ facts a =
+    SetWhere (namesAnew whole conditions sizes (scope .variables) counted counted-before a) facts₀ facts
     × (a ≤ scope .actions)
     × (2048 ≤ length facts₀)
 
 abbrev μ-loop : tie.MeasureT-loop
-μ-loop facts₀ scope whole conditions sizes counted named a₀ facts a = scope .actions - a
+μ-loop facts₀ scope whole conditions sizes counted counted-before a₀ facts a = scope .actions - a
 
 loop-holds : tie.Need-loop-holds Inv-loop μ-loop
 unfolding namesAnew
@@ -43,7 +43,7 @@ unfolding namesAnew
 loop-again c =
     let l = c .before .before .before .before .before .before .before .before .loop in
     let a = c .before .before .before .before .before .before .before .before .before .before .args in (
-      turns-next (λ k j. differ (now (a .counted)) (now (a .named)) k && rowNames (a .whole) (now (a .conditions)) (64 * k) (now (a .sizes)) (a .scope .variables) j) _ _ _ (l .a) (l .inv .0) (c .before .before .name-anew .ensures),
+      turns-next (λ k j. differ (now (a .counted)) (now (a .counted-before)) k && rowNames (a .whole) (now (a .conditions)) (64 * k) (now (a .sizes)) (a .scope .variables) j) _ _ _ (l .a) (l .inv .0) (c .before .before .name-anew .ensures),
       omega arith,
       l .inv .2,
     )
@@ -55,7 +55,7 @@ returns : tie.Need-returns Inv-loop μ-loop
 returns c =
     let l = c .before .before .loop in
     let a = c .before .before .before .before .args in
-    at-end (λ n. SetWhere (namesAnew (a .whole) (now (a .conditions)) (now (a .sizes)) (a .scope .variables) (now (a .counted)) (now (a .named)) n) (now (a .facts)) (l .facts)) (l .a) (a .scope .actions) (l .inv .1) (c .if1 .left) (l .inv .0)
+    at-end (λ n. SetWhere (namesAnew (a .whole) (now (a .conditions)) (now (a .sizes)) (a .scope .variables) (now (a .counted)) (now (a .counted-before)) n) (now (a .facts)) (l .facts)) (l .a) (a .scope .actions) (l .inv .1) (c .if1 .left) (l .inv .0)
 
 pub gain-facts-spec : {M : Type 1} → statement M
 gain-facts-spec =

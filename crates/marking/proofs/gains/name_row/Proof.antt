@@ -22,17 +22,17 @@ loop-holds : tie.Need-loop-holds Inv-loop μ-loop
 unfolding rowNames
 loop-holds c = (turns-begin _, omega arith, omega arith)
 
-add-name-entry : tie.Need-add-name-entry Inv-loop μ-loop
-add-name-entry c = search needs
+add-name-cell : tie.Need-add-name-cell Inv-loop μ-loop
+add-name-cell c = search needs
 
-shared-slice-read-name-entry : tie.Need-shared-slice-read-name-entry Inv-loop μ-loop
-shared-slice-read-name-entry c = search needs
+shared-slice-read-name-cell : tie.Need-shared-slice-read-name-cell Inv-loop μ-loop
+shared-slice-read-name-cell c = search needs
 
-element-copy-out-name-entry : tie.Need-element-copy-out-name-entry Inv-loop μ-loop
-element-copy-out-name-entry c = search needs
+element-copy-out-name-cell : tie.Need-element-copy-out-name-cell Inv-loop μ-loop
+element-copy-out-name-cell c = search needs
 
-name-entry-requires : tie.Need-name-entry-requires Inv-loop μ-loop
-name-entry-requires c κs = search needs
+name-cell-requires : tie.Need-name-cell-requires Inv-loop μ-loop
+name-cell-requires c κs = search needs
 
 add-v : tie.Need-add-v Inv-loop μ-loop
 add-v c = search needs
@@ -45,7 +45,7 @@ unfolding rowNames
 loop-again c =
     let l = c .before .before .before .before .before .before .before .before .loop in
     let a = c .before .before .before .before .before .before .before .before .before .before .before .args in (
-      turns-next (λ k j. namesAt (a .whole) k (getD (now (a .row)) (a .base + k) 0) (getD (now (a .sizes)) k 0) j) _ _ _ (l .v) (l .inv .0) (c .before .before .name-entry .ensures),
+      turns-next (λ k j. namesAt (a .whole) k (getD (now (a .row)) (a .base + k) 0) (getD (now (a .sizes)) k 0) j) _ _ _ (l .v) (l .inv .0) (c .before .before .name-cell .ensures),
       omega arith,
       l .inv .2,
     )
@@ -66,10 +66,10 @@ name-row-spec =
     Inv-loop
     μ-loop
     loop-holds
-    add-name-entry
-    shared-slice-read-name-entry
-    element-copy-out-name-entry
-    name-entry-requires
+    add-name-cell
+    shared-slice-read-name-cell
+    element-copy-out-name-cell
+    name-cell-requires
     add-v
     loop-less
     loop-again

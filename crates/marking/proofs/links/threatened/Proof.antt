@@ -11,13 +11,13 @@ use Rattle.marking.proofs.links.threatened.Statement.{statement}
 use Rattle.marking.proofs.links.threatened.Tie as tie
 
 abbrev Inv-loop : tie.InvT-loop
-Inv-loop threats₀ scope kept noted effects starts variables a₀ threats a =
-    SetWhere (threatensAnew effects starts variables kept noted a) threats₀ threats
+Inv-loop threats₀ scope kept kept-before effects starts variables a₀ threats a =
+    SetWhere (threatensAnew effects starts variables kept kept-before a) threats₀ threats
     × (a ≤ scope .actions)
     × (64 ≤ length threats₀)
 
 abbrev μ-loop : tie.MeasureT-loop
-μ-loop threats₀ scope kept noted effects starts variables a₀ threats a = scope .actions - a
+μ-loop threats₀ scope kept kept-before effects starts variables a₀ threats a = scope .actions - a
 
 loop-holds : tie.Need-loop-holds Inv-loop μ-loop
 unfolding threatensAnew
@@ -43,7 +43,7 @@ unfolding threatensAnew
 loop-again c =
     let l = c .before .before .before .before .before .before .before .before .loop in
     let a = c .before .before .before .before .before .before .before .before .before .before .args in (
-      turns-next (λ k j. differ (now (a .kept)) (now (a .noted)) k && threatens (now (a .effects)) (64 * k) (now (a .starts)) (a .scope .variables) j) _ _ _ (l .a) (l .inv .0) (c .before .before .threaten-anew .ensures),
+      turns-next (λ k j. differ (now (a .kept)) (now (a .kept-before)) k && threatens (now (a .effects)) (64 * k) (now (a .starts)) (a .scope .variables) j) _ _ _ (l .a) (l .inv .0) (c .before .before .threaten-anew .ensures),
       omega arith,
       l .inv .2,
     )
@@ -55,7 +55,7 @@ returns : tie.Need-returns Inv-loop μ-loop
 returns c =
     let l = c .before .before .loop in
     let a = c .before .before .before .before .args in
-    at-end (λ n. SetWhere (threatensAnew (now (a .effects)) (now (a .starts)) (a .scope .variables) (now (a .kept)) (now (a .noted)) n) (now (a .threats)) (l .threats)) (l .a) (a .scope .actions) (l .inv .1) (c .if1 .left) (l .inv .0)
+    at-end (λ n. SetWhere (threatensAnew (now (a .effects)) (now (a .starts)) (a .scope .variables) (now (a .kept)) (now (a .kept-before)) n) (now (a .threats)) (l .threats)) (l .a) (a .scope .actions) (l .inv .1) (c .if1 .left) (l .inv .0)
 
 pub threatened-spec : {M : Type 1} → statement M
 threatened-spec =

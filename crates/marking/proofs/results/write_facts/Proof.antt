@@ -7,7 +7,7 @@ use denote.Ref.{now}
 use borrow.Author.Needs.{needs}
 use Rattle.files.specs.Below.{joinBelow}
 use Rattle.files.specs.Bytes.{placed}
-use Rattle.marking.specs.Dense.{sumOf, entryMarks}
+use Rattle.marking.specs.Dense.{sumOf, factBytes}
 use Rattle.marking.proofs.SetWhere.{at-end}
 use Rattle.marking.proofs.LoopCounts.{sum-next, sum-within}
 use Rattle.marking.proofs.ResultLaws.{facts-next}
@@ -16,7 +16,7 @@ use Rattle.marking.proofs.results.write_facts.Tie as tie
 
 abbrev Inv-loop : tie.InvT-loop
 Inv-loop marks₀ facts unlinked sizes variables v₀ at₀ marks v at =
-    (marks ≡ placed marks₀ 0 (joinBelow v (λ w. entryMarks facts unlinked w (getD sizes w 0))))
+    (marks ≡ placed marks₀ 0 (joinBelow v (λ w. factBytes facts unlinked w (getD sizes w 0))))
     × (at ≡ sumOf sizes v)
     × (v ≤ variables)
     × (length marks ≡ length marks₀)
@@ -71,7 +71,7 @@ returns : tie.Need-returns Inv-loop μ-loop
 returns c =
     let l = c .before .loop in
     let a = c .before .before .before .args in
-    at-end (λ n. l .marks ≡ placed (now (a .marks)) 0 (joinBelow n (λ w. entryMarks (now (a .facts)) (now (a .unlinked)) w (getD (now (a .sizes)) w 0)))) (l .v) (a .variables) (l .inv .2) (c .loop-test .left) (l .inv .0)
+    at-end (λ n. l .marks ≡ placed (now (a .marks)) 0 (joinBelow n (λ w. factBytes (now (a .facts)) (now (a .unlinked)) w (getD (now (a .sizes)) w 0)))) (l .v) (a .variables) (l .inv .2) (c .loop-test .left) (l .inv .0)
 
 pub write-facts-spec : {M : Type 1} → statement M
 write-facts-spec =

@@ -8,18 +8,18 @@ use denote.Ref.{now}
 use borrow.Author.Needs.{needs}
 use Rattle.files.specs.Below.{tabulateFrom}
 use Rattle.files.specs.Bytes.{placed}
-use Rattle.marking.specs.Dense.{entryMark, entryMarks}
+use Rattle.marking.specs.Dense.{factByte, factBytes}
 use Rattle.marking.proofs.ResultLaws.{bytes-none, bytes-next}
 use Rattle.marking.proofs.results.write_values.Statement.{statement}
 use Rattle.marking.proofs.results.write_values.Tie as tie
 
 -- the byte of a variable's value
 abbrev mark : List ℕ → List ℕ → ℕ → ℕ → ℕ
-mark facts unlinked v d = entryMark (getD facts (32 * v + d) 0) (getD unlinked (32 * v + d) 0)
+mark facts unlinked v d = factByte (getD facts (32 * v + d) 0) (getD unlinked (32 * v + d) 0)
 
 abbrev Inv-loop : tie.InvT-loop
 Inv-loop marks₀ at facts unlinked v size d₀ place₀ left₀ marks d place left =
-    (placed marks place (tabulateFrom d left (mark facts unlinked v)) ≡ placed marks₀ at (entryMarks facts unlinked v size))
+    (placed marks place (tabulateFrom d left (mark facts unlinked v)) ≡ placed marks₀ at (factBytes facts unlinked v size))
     × (place + left ≡ at + size)
     × (d + left ≡ size)
     × (length marks ≡ length marks₀)
@@ -28,7 +28,7 @@ abbrev μ-loop : tie.MeasureT-loop
 μ-loop marks₀ at facts unlinked v size d₀ place₀ left₀ marks d place left = left
 
 loop-holds : tie.Need-loop-holds Inv-loop μ-loop
-unfolding entryMarks
+unfolding factBytes
 loop-holds c = (refl, refl, omega arith, refl)
 
 mul-fact-mark : tie.Need-mul-fact-mark Inv-loop μ-loop

@@ -12,11 +12,11 @@ use Rattle.marking.proofs.rounds.run.Statement.{statement}
 use Rattle.marking.proofs.rounds.run.Tie as tie
 
 abbrev Inv-loop : tie.InvT-loop
-Inv-loop scope sizes starts goal costs conditions effects actions pairs facts₀ kept₀ noted₀ named₀ coverers₀ threats₀ before₀ rounds₀ count₀ facts kept noted named coverers threats before rounds count =
-    Rounding (arrays (scope .variables) (scope .actions) sizes starts goal costs conditions effects) (scope .level) kept facts before threats noted named rounds count
+Inv-loop scope sizes starts goal costs conditions effects actions pairs facts₀ kept₀ kept-before₀ counted-before₀ coverers₀ threats₀ unlinked-before₀ rounds₀ count₀ facts kept kept-before counted-before coverers threats unlinked-before rounds count =
+    Rounding (arrays (scope .variables) (scope .actions) sizes starts goal costs conditions effects) (scope .level) kept facts unlinked-before threats kept-before counted-before rounds count
 
 abbrev μ-loop : tie.MeasureT-loop
-μ-loop scope sizes starts goal costs conditions effects actions pairs facts₀ kept₀ noted₀ named₀ coverers₀ threats₀ before₀ rounds₀ count₀ facts kept noted named coverers threats before rounds count =
+μ-loop scope sizes starts goal costs conditions effects actions pairs facts₀ kept₀ kept-before₀ counted-before₀ coverers₀ threats₀ unlinked-before₀ rounds₀ count₀ facts kept kept-before counted-before coverers threats unlinked-before rounds count =
     limit (arrays (scope .variables) (scope .actions) sizes starts goal costs conditions effects) - rounds
 
 -- from each call to the one before it

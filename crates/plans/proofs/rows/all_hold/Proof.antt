@@ -1,4 +1,4 @@
--- The loop's invariant: the conditions of the entries that are left hold exactly where all do.
+-- The loop's invariant: the conditions of the cells that are left hold exactly where all do.
 use Prim.Native.Nat.{_+_}
 use mathlib.Core.Path.{_≡_}
 use Rattle.files.specs.Dense.{rowPairs}

@@ -1,6 +1,6 @@
 -- The arrays hold the reduced task and its origins, so the files written are theirs.
 use mathlib.Core.Path.{_∙_}
-use Rattle.reduction.proofs.ReduceRow.{fit-alike, task-length, task-after, origin-length, origin-after}
+use Rattle.reduction.proofs.ReduceStages.{fit-alike, task-length, task-after, origin-length, origin-after}
 use borrow.Author.Needs.{needs}
 use Rattle.reduction.proofs.arrays.write_reduced.Statement.{statement}
 use Rattle.reduction.proofs.arrays.write_reduced.Tie as tie

@@ -5,7 +5,7 @@ use native.Mathlib.Omega.{arith}
 use lib.ListN.{length, length-set, getD}
 use denote.Ref.{now}
 use Rattle.marking.proofs.LoopCounts.{row-next}
-use Rattle.reduction.specs.Dense.{mappedEntry}
+use Rattle.reduction.specs.Dense.{mappedCell}
 use Rattle.files.proofs.Filling.{below-next}
 use borrow.Author.Needs.{needs}
 use Rattle.reduction.proofs.renumber.map_row.Statement.{statement}
@@ -14,7 +14,7 @@ use Rattle.reduction.proofs.renumber.map_row.Tie as tie
 abbrev Inv-loop : tie.InvT-loop
 Inv-loop row₀ to old from numbers count values i₀ row i =
     (length row ≡ length row₀)
-    × ((j : ℕ) → j < i → getD row (to + j) 0 ≡ mappedEntry values (getD numbers j 0) (getD old (from + getD numbers j 0) 0))
+    × ((j : ℕ) → j < i → getD row (to + j) 0 ≡ mappedCell values (getD numbers j 0) (getD old (from + getD numbers j 0) 0))
     × ((j : ℕ) → j < to → getD row j 0 ≡ getD row₀ j 0)
     × (i ≤ count)
 
@@ -56,7 +56,7 @@ loop-again c =
     let l = c .before .before .before .before .loop in
     let a = c .before .before .before .before .before .before .before .args in (
       length-set (l .row) _ _ ∙ l .inv .0,
-      row-next (λ j. mappedEntry (now (a .values)) (getD (now (a .numbers)) j 0) (getD (now (a .old)) (a .from + getD (now (a .numbers)) j 0) 0)) (l .row) (a .to) (l .i) _ (omega arith) (l .inv .1) (c .mapped .ensures),
+      row-next (λ j. mappedCell (now (a .values)) (getD (now (a .numbers)) j 0) (getD (now (a .old)) (a .from + getD (now (a .numbers)) j 0) 0)) (l .row) (a .to) (l .i) _ (omega arith) (l .inv .1) (c .mapped .ensures),
       below-next (now (a .row)) (l .row) (a .to) (l .i) _ (l .inv .2),
       omega arith,
     )

@@ -4,7 +4,7 @@ use mathlib.Core.Path.{_≡_, refl, _∙_}
 use native.Mathlib.Omega.{arith}
 use lib.ListN.{length, getD}
 use borrow.Author.Count.{below-more}
-use Rattle.reduction.specs.Dense.{mappedEntry}
+use Rattle.reduction.specs.Dense.{mappedCell}
 use borrow.Author.Needs.{needs}
 use Rattle.reduction.proofs.renumber.map_rows.Statement.{statement}
 use Rattle.reduction.proofs.renumber.map_rows.Tie as tie
@@ -13,7 +13,7 @@ abbrev Inv-loop : tie.InvT-loop
 Inv-loop rows₀ old originals actions numbers count values j₀ rows j =
     (length rows ≡ length rows₀)
     × ((k : ℕ) → k < j → (i : ℕ) → i < count
-    → getD rows (64 * k + i) 0 ≡ mappedEntry values (getD numbers i 0) (getD old (64 * getD originals k 0 + getD numbers i 0) 0))
+    → getD rows (64 * k + i) 0 ≡ mappedCell values (getD numbers i 0) (getD old (64 * getD originals k 0 + getD numbers i 0) 0))
     × (j ≤ actions)
 
 abbrev μ-loop : tie.MeasureT-loop

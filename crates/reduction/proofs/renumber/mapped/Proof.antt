@@ -1,13 +1,13 @@
 -- By cases of the test: 255 is no pair.
 use mathlib.Core.Path.{refl}
 use borrow.Author.Tests.{eq-eqb, ne-eqb}
-use Rattle.reduction.specs.Dense.{mappedEntry}
+use Rattle.reduction.specs.Dense.{mappedCell}
 use borrow.Author.Needs.{needs}
 use Rattle.reduction.proofs.renumber.mapped.Statement.{statement}
 use Rattle.reduction.proofs.renumber.mapped.Tie as tie
 
 returns : tie.Need-returns
-unfolding mappedEntry
+unfolding mappedCell
 returns c = rw (eq-eqb _ 255 (c .if1 .taken)) refl
 
 mul-result : tie.Need-mul-result
@@ -23,7 +23,7 @@ element-copy-out-result : tie.Need-element-copy-out-result
 element-copy-out-result c = search needs
 
 returns-2 : tie.Need-returns-2
-unfolding mappedEntry
+unfolding mappedCell
 returns-2 c = rw (ne-eqb _ 255 (c .before .if1 .left)) refl
 
 pub mapped-spec : {M : Type 1} → statement M

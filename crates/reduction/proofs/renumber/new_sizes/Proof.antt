@@ -1,4 +1,4 @@
--- The loop's invariant: the entries before `i` are the new sizes of the variables there.
+-- The loop's invariant: the cells before `i` are the new sizes of the variables there.
 use Prim.Native.Nat.{ℕ, _-_, _≤_, _<_}
 use mathlib.Core.Path.{_≡_, refl, _∙_}
 use native.Mathlib.Omega.{arith}

@@ -26,17 +26,17 @@ loop-holds c = (number-begin (now (c .before .args .sizes)) (afterRow (now (c .b
 sub-v : tie.Need-sub-v Inv-loop μ-loop
 sub-v c = search needs
 
-add-entry-after : tie.Need-add-entry-after Inv-loop μ-loop
-add-entry-after c = search needs
+add-cell-after : tie.Need-add-cell-after Inv-loop μ-loop
+add-cell-after c = search needs
 
-shared-slice-read-entry-after : tie.Need-shared-slice-read-entry-after Inv-loop μ-loop
-shared-slice-read-entry-after c = search needs
+shared-slice-read-cell-after : tie.Need-shared-slice-read-cell-after Inv-loop μ-loop
+shared-slice-read-cell-after c = search needs
 
-element-copy-out-entry-after : tie.Need-element-copy-out-entry-after Inv-loop μ-loop
-element-copy-out-entry-after c = search needs
+element-copy-out-cell-after : tie.Need-element-copy-out-cell-after Inv-loop μ-loop
+element-copy-out-cell-after c = search needs
 
-entry-after-requires : tie.Need-entry-after-requires Inv-loop μ-loop
-entry-after-requires c κs = search needs
+cell-after-requires : tie.Need-cell-after-requires Inv-loop μ-loop
+cell-after-requires c κs = search needs
 
 cast-number : tie.Need-cast-number Inv-loop μ-loop
 cast-number c = search needs
@@ -70,7 +70,7 @@ unfolding listState
 loop-again c =
     let l = c .before .before .before .before .before .before .loop in
     let start = c .before .before .before .before .before .before .before .before in
-    let next = number-next (now (start .args .sizes)) (afterRow (now (start .args .effects)) (start .args .base) (listState (now (start .args .values)))) (start .args .variables) (l .v) (l .number) _ _ (c .before .before .before .before .before .loop-test .taken) (l .inv .1) (l .inv .0) (c .before .before .entry-after .ensures) (c .byte-at .ensures .0) in
+    let next = number-next (now (start .args .sizes)) (afterRow (now (start .args .effects)) (start .args .base) (listState (now (start .args .values)))) (start .args .variables) (l .v) (l .number) _ _ (c .before .before .before .before .before .loop-test .taken) (l .inv .1) (l .inv .0) (c .before .before .cell-after .ensures) (c .byte-at .ensures .0) in
     (next, omega arith)
 
 returns : tie.Need-returns Inv-loop μ-loop
@@ -94,10 +94,10 @@ number-after-spec =
     μ-loop
     loop-holds
     sub-v
-    add-entry-after
-    shared-slice-read-entry-after
-    element-copy-out-entry-after
-    entry-after-requires
+    add-cell-after
+    shared-slice-read-cell-after
+    element-copy-out-cell-after
+    cell-after-requires
     cast-number
     byte-at-requires
     mul-number

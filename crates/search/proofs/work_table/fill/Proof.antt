@@ -49,7 +49,7 @@ use Rattle.search.specs.Table.{entry}
 use Rattle.search.proofs.Entry as T₀
 use Rattle.search.proofs.Entry.Laws as T′
 use Rattle.search.proofs.Entries.{R, vals, tells, is-entry, place-entry, place-fits, holds, fails}
-use Rattle.search.proofs.Filling.{filled-length, filled-none, filled-next}
+use Rattle.search.proofs.TableFilling.{filled-length, filled-none, filled-next}
 use Rattle.search.proofs.Hand.{ref, see, unsee, take, put-in}
 use Rattle.search.proofs.work_table.fill.Key.{name as #search·work-table·fill}
 use Rattle.search.proofs.work_table.fill as f

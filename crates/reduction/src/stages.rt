@@ -19,8 +19,8 @@ pub fn refused(outcome: files::Outcome) -> Reduced
 {
     Reduced {
         outcome: outcome,
-        actions: 0,
-        facts: 0,
+        action_marks: 0,
+        fact_marks: 0,
         reduced: 0,
         origin: 0,
         rounds: 0,
@@ -84,8 +84,8 @@ pub fn reduce_task(
     }
     Reduced {
         outcome: second,
-        actions: marked.actions,
-        facts: marked.facts,
+        action_marks: marked.action_marks,
+        fact_marks: marked.fact_marks,
         reduced: written.reduced,
         origin: written.origin,
         rounds: marked.rounds,

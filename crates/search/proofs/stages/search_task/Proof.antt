@@ -10,15 +10,15 @@ use Rattle.files.specs.Outcome.{done, refusal}
 use Rattle.plans.specs.Plan.{Total}
 use Rattle.files.proofs.Valid.{Valid}
 use Rattle.marking.proofs.MarkLaws.{refusal-number}
-use Rattle.search.specs.declared.row.Found.{Found}
+use Rattle.search.specs.declared.stages.Found.{Found}
 use Rattle.search.specs.States.{stateCount}
 use Rattle.search.specs.Planner.{statesFit}
 use Rattle.search.proofs.HeldStates.{held-states, held-valid, held-sizes, held-few}
 use Rattle.search.proofs.Radix.{start-below}
 use Rattle.search.proofs.TableEntries.{at-count, start-none, start-some, start-distance, start-low, start-steps}
 use Rattle.search.proofs.FoundLaws.{states-many, table-short, states-fit, early-answer, early-table, full-table, refused-plan, late-answer, done-answer, no-plan, plan-short, plan-fits, read-plan, read-total, read-needed, read-length, plan-written}
-use Rattle.search.proofs.row.search_task.Statement.{statement}
-use Rattle.search.proofs.row.search_task.Tie as tie
+use Rattle.search.proofs.stages.search_task.Statement.{statement}
+use Rattle.search.proofs.stages.search_task.Tie as tie
 
 abbrev task-of : tie.Start → Arrays
 task-of s = arrays (s .args .variables) (s .args .actions) (now (s .args .sizes)) (now (s .args .starts)) (now (s .args .goal)) (now (s .args .costs)) (now (s .args .conditions)) (now (s .args .effects))

@@ -1,7 +1,7 @@
 -- An entry of 255 sets nothing; any other sets its value.
 use Rattle.plans.proofs.RowStates.{after-none, after-some}
-use Rattle.plans.proofs.rows.entry_after.Statement.{statement}
-use Rattle.plans.proofs.rows.entry_after.Tie as tie
+use Rattle.plans.proofs.rows.cell_after.Statement.{statement}
+use Rattle.plans.proofs.rows.cell_after.Tie as tie
 
 returns : tie.Need-returns
 returns c = search after-none
@@ -9,5 +9,5 @@ returns c = search after-none
 returns-2 : tie.Need-returns-2
 returns-2 c = search after-some
 
-pub entry-after-spec : {M : Type 1} → statement M
-entry-after-spec = tie.close (tie.spec returns returns-2)
+pub cell-after-spec : {M : Type 1} → statement M
+cell-after-spec = tie.close (tie.spec returns returns-2)

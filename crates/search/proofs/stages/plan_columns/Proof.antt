@@ -5,10 +5,10 @@ use native.Mathlib.Omega.{arith}
 use denote.Ref.{now}
 use Rattle.files.specs.Bytes.{Octets}
 use Rattle.search.specs.Columns.{entriesIn}
-use Rattle.search.proofs.RowLaws.{action-marks, fact-marks, reduced-file, origin-file, early-answer, early-plan, early-table, reduced-part, origin-part, reduced-fits, origin-fits, file-checked, enough-numbers, found-states, filled-bounded, row-table, row-plan, row-answer}
+use Rattle.search.proofs.StageLaws.{action-marks, fact-marks, reduced-file, origin-file, early-answer, early-plan, early-table, reduced-part, origin-part, reduced-fits, origin-fits, file-checked, enough-numbers, found-states, filled-bounded, row-table, row-plan, row-answer}
 use borrow.Author.Needs.{needs}
-use Rattle.search.proofs.row.plan_columns.Statement.{statement}
-use Rattle.search.proofs.row.plan_columns.Tie as tie
+use Rattle.search.proofs.stages.plan_columns.Statement.{statement}
+use Rattle.search.proofs.stages.plan_columns.Tie as tie
 
 -- from each call to the one before it
 abbrev to-start : tie.After-reduce → tie.Start

@@ -1,4 +1,4 @@
--- An entry that is not there names nothing; where its variable counts whole it names its values, else the place of its own.
+-- A cell that is not there names nothing; where its variable counts whole it names its values, else the place of its own.
 use Prim.Native.Nat.{_+_, _*_, _%_}
 use mathlib.Core.Path.{refl}
 use mathlib.Core.Bool.{true}
@@ -8,8 +8,8 @@ use borrow.Author.Tests.{eq-eqb, ne-eqb}
 use Rattle.marking.specs.Dense.{namesAt}
 use Rattle.marking.proofs.SetWhere.{set-none, set-alike, set-place}
 use Rattle.marking.proofs.Places.{place-is}
-use Rattle.marking.proofs.gains.name_entry.Statement.{statement}
-use Rattle.marking.proofs.gains.name_entry.Tie as tie
+use Rattle.marking.proofs.gains.name_cell.Statement.{statement}
+use Rattle.marking.proofs.gains.name_cell.Tie as tie
 
 returns : tie.Need-returns
 unfolding namesAt
@@ -46,11 +46,11 @@ returns-3 : tie.Need-returns-3
 unfolding namesAt
 returns-3 c =
     let a = c .before .before .before .args in
-    set-alike _ _ _ _ (λ i. rw (ne-eqb _ 255 (c .before .if1 .left), c .if2 .left) (place-is (a .v) (a .entry % 32) i (omega arith)))
-    (set-place true _ (32 * a .v + a .entry % 32) 1 (omega arith) refl)
+    set-alike _ _ _ _ (λ i. rw (ne-eqb _ 255 (c .before .if1 .left), c .if2 .left) (place-is (a .v) (a .cell % 32) i (omega arith)))
+    (set-place true _ (32 * a .v + a .cell % 32) 1 (omega arith) refl)
 
-pub name-entry-spec : {M : Type 1} → statement M
-name-entry-spec =
+pub name-cell-spec : {M : Type 1} → statement M
+name-cell-spec =
     tie.close
     (tie.spec
     returns

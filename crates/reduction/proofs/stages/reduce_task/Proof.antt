@@ -10,10 +10,10 @@ use Rattle.files.proofs.Valid.{Valid, task-valid}
 use Rattle.marking.proofs.HeldTask.{actions-held}
 use Rattle.reduction.specs.Reduce.{reducedFile, originsFile}
 use Rattle.reduction.specs.Task.{keptAt, reducedTask, originsAt}
-use Rattle.reduction.proofs.ReduceRow.{kept-bits, marks-room, after-outcome, marks-after, row-first, row-second, row-done, buffer-untouched}
+use Rattle.reduction.proofs.ReduceStages.{kept-bits, marks-room, after-outcome, marks-after, row-first, row-second, row-done, buffer-untouched}
 use borrow.Author.Needs.{needs}
-use Rattle.reduction.proofs.row.reduce_task.Statement.{statement}
-use Rattle.reduction.proofs.row.reduce_task.Tie as tie
+use Rattle.reduction.proofs.stages.reduce_task.Statement.{statement}
+use Rattle.reduction.proofs.stages.reduce_task.Tie as tie
 
 -- from each call to the one before it
 abbrev to-start : tie.After-mark-task → tie.Start

@@ -1,4 +1,4 @@
-// The planner's row, with the work table as two columns.
+// The planner's stages, with the work table as two columns.
 ghost use mathlib.Core.Path.{_≡_};
 ghost use mathlib.Core.Bool.{true, cond};
 ghost use mathlib.Core.List.{[]};
@@ -188,8 +188,8 @@ fn refused(outcome: files::Outcome) -> Planned
 {
     Planned {
         outcome: outcome,
-        actions: 0,
-        facts: 0,
+        action_marks: 0,
+        fact_marks: 0,
         reduced: 0,
         origin: 0,
         table: 0,
@@ -217,8 +217,8 @@ fn together(first: reduction::Reduced, found: Found) -> Run
     Run {
         planned: Planned {
             outcome: outcome,
-            actions: first.actions,
-            facts: first.facts,
+            action_marks: first.action_marks,
+            fact_marks: first.fact_marks,
             reduced: first.reduced,
             origin: first.origin,
             table: states,
@@ -231,7 +231,7 @@ fn together(first: reduction::Reduced, found: Found) -> Run
     }
 }
 
-// The whole row, for a table of `room` entries.
+// All stages, for a table of `room` entries.
 pub fn plan_columns(
     task: &[u8],
     signer: u32,

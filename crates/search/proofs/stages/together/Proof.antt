@@ -1,8 +1,8 @@
 -- A refusal of the search has no numbers; else both answers stand together.
-use Rattle.search.proofs.RowLaws.{together-refused, together-done}
+use Rattle.search.proofs.StageLaws.{together-refused, together-done}
 use borrow.Author.Needs.{needs}
-use Rattle.search.proofs.row.together.Statement.{statement}
-use Rattle.search.proofs.row.together.Tie as tie
+use Rattle.search.proofs.stages.together.Statement.{statement}
+use Rattle.search.proofs.stages.together.Tie as tie
 
 refused-requires : tie.Need-refused-requires
 refused-requires c κs = search needs

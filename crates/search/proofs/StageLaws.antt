@@ -34,8 +34,8 @@ use Rattle.reduction.specs.Preserved.{FilesPreserve, byOriginFile}
 use Rattle.reduction.proofs.FilesPreserved.{reduction-of-files}
 use Rattle.reduction.proofs.Preservation.{reduction-preserves, reduction-accepted}
 use Rattle.search.specs.declared.Planned.{Planned}
-use Rattle.search.specs.declared.row.Found.{Found}
-use Rattle.search.specs.declared.row.Run.{Run}
+use Rattle.search.specs.declared.stages.Found.{Found}
+use Rattle.search.specs.declared.stages.Run.{Run}
 use Rattle.search.specs.States.{stateCount}
 use Rattle.search.specs.Table.{tableOf}
 use Rattle.search.specs.FirstPlan.{firstPlan}
@@ -55,8 +55,8 @@ module _ (first : Reduced) (found : Found) where
   both-planned =
       record {
         outcome = found .outcome;
-        actions = first .actions;
-        facts = first .facts;
+        «action_marks» = first .«action_marks»;
+        «fact_marks» = first .«fact_marks»;
         reduced = first .reduced;
         origin = first .origin;
         table = found .states;
@@ -179,7 +179,7 @@ module _ (task : List ℕ) (signer : ℕ) (room : Rooms) (tableRoom planRoom : �
       same-numbers = ap (λ (o : Origin). λ plan. map (λ n. getD (o .actions) n 0) plan) same-origin
 
       -- the numbers of reduction
-      numbers : first ≡ record { outcome = reduceStage task planLevel signer room; actions = actionCount t; facts = factCount t; reduced = length reduced-bytes; origin = length origin-bytes; rounds = marking t planLevel .rounds }
+      numbers : first ≡ record { outcome = reduceStage task planLevel signer room; «action_marks» = actionCount t; «fact_marks» = factCount t; reduced = length reduced-bytes; origin = length origin-bytes; rounds = marking t planLevel .rounds }
       unfolding reduce reduceAnswer
       numbers = a ∙ rw (is-done (reduceStage task planLevel signer room) stage-done) refl
 
@@ -330,8 +330,8 @@ module _ (task : List ℕ) (signer : ℕ) (room : Rooms) (tableRoom planRoom : �
                 (λ i.
                 record {
                   outcome = found .outcome;
-                  actions = numbers i .actions;
-                  facts = numbers i .facts;
+                  «action_marks» = numbers i .«action_marks»;
+                  «fact_marks» = numbers i .«fact_marks»;
                   reduced = numbers i .reduced;
                   origin = numbers i .origin;
                   table = found-numbers i .states;

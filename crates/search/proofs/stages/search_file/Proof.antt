@@ -10,8 +10,8 @@ use Rattle.files.proofs.TaskChecked.{action-count, task-accepted}
 use Rattle.marking.proofs.MarkLaws.{held-by}
 use Rattle.search.proofs.FoundLaws.{answer-alike, table-alike, plan-alike}
 use borrow.Author.Needs.{needs}
-use Rattle.search.proofs.row.search_file.Statement.{statement}
-use Rattle.search.proofs.row.search_file.Tie as tie
+use Rattle.search.proofs.stages.search_file.Statement.{statement}
+use Rattle.search.proofs.stages.search_file.Tie as tie
 
 -- from each call to the one before it
 abbrev to-start : tie.After-read-task → tie.Start

@@ -102,20 +102,20 @@ module _ (t : Task) (level signer : ℕ) (actionRoom factRoom reducedRoom origin
       pub row-second : (r : Reduced) → (o .number ≡ 0 → ⊥) → r ≡ noFiles o → r ≡ reduceAnswer both t level signer
       row-second r d q = answer-refused r o second-is d q
 
-      lengths : (marked .actions ≡ actionCount t) × (marked .facts ≡ factCount t) × (marked .rounds ≡ marking t level .rounds)
+      lengths : (marked .«action_marks» ≡ actionCount t) × (marked .«fact_marks» ≡ factCount t) × (marked .rounds ≡ marking t level .rounds)
       unfolding markAnswer
       lengths =
-          let full : Marked = record { outcome = marksFit t actionRoom factRoom; actions = actionCount t; facts = factCount t; rounds = marking t level .rounds } in
+          let full : Marked = record { outcome = marksFit t actionRoom factRoom; «action_marks» = actionCount t; «fact_marks» = factCount t; rounds = marking t level .rounds } in
           let whole : marked ≡ full =
           m ∙ ap (λ (b : Bool). cond b full (noMarks (marksFit t actionRoom factRoom))) (is-done (marksFit t actionRoom factRoom) (sym (ap (λ (x : Outcome). x .number) first-is) ∙ z)) in
-          (ap (λ (x : Marked). x .actions) whole, ap (λ (x : Marked). x .facts) whole, ap (λ (x : Marked). x .rounds) whole)
+          (ap (λ (x : Marked). x .«action_marks») whole, ap (λ (x : Marked). x .«fact_marks») whole, ap (λ (x : Marked). x .rounds) whole)
 
       pub row-done : (reduced origin : ℕ) → o .number ≡ 0 → reduced ≡ length (taskFile (reducedBy t (keptAt t level)) signer) → origin ≡ length (originFile (originBy t (keptAt t level)) signer)
-          → record { outcome = o; actions = marked .actions; facts = marked .facts; reduced = reduced; origin = origin; rounds = marked .rounds } ≡ reduceAnswer both t level signer
+          → record { outcome = o; «action_marks» = marked .«action_marks»; «fact_marks» = marked .«fact_marks»; reduced = reduced; origin = origin; rounds = marked .rounds } ≡ reduceAnswer both t level signer
       unfolding reduceAnswer reducedFile originsFile reducedTask originsAt
       row-done reduced origin w a b =
           let n = lengths in
-          rw (← second-is, is-done o w) (λ i. record { outcome = o; actions = n .0 i; facts = n .1 i; reduced = a i; origin = b i; rounds = n .2 i })
+          rw (← second-is, is-done o w) (λ i. record { outcome = o; «action_marks» = n .0 i; «fact_marks» = n .1 i; reduced = a i; origin = b i; rounds = n .2 i })
 
   -- a buffer of a stage that is not reached
   pub buffer-untouched : (r : Reduced) (o : Outcome) (result old : List ℕ) → r ≡ noFiles o → (o .number ≡ 0 → ⊥) → old ≡ after (r .outcome) result old

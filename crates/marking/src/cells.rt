@@ -1,4 +1,4 @@
-// Marks and entries of rows, one at a time.
+// Marks and cells of rows, one at a time.
 ghost use mathlib.Core.Path.{_≡_};
 ghost use mathlib.Core.Bool.{cond};
 ghost use Rattle.files.specs.Below.{bit};
@@ -17,12 +17,12 @@ pub fn raised(mark: u8, test: bool) -> u8
     if test { 1 } else { mark }
 }
 
-// Whether an entry of a row is there and is not the value given.
-pub fn other_than(entry: u8, value: u8) -> bool
-    ensures { λ r. ⌜ r ≡ otherThan entry value ⌝ }
+// Whether a cell of a row is there and is not the value given.
+pub fn other_than(cell: u8, value: u8) -> bool
+    ensures { λ r. ⌜ r ≡ otherThan cell value ⌝ }
 {
-    if entry == 255 {
+    if cell == 255 {
         return false;
     }
-    entry != value
+    cell != value
 }

@@ -2,8 +2,8 @@
 use mathlib.Core.Path.{refl}
 use borrow.Author.Tests.{eq-eqb, ne-eqb}
 use Rattle.marking.specs.Dense.{otherThan}
-use Rattle.marking.proofs.entries.other_than.Statement.{statement}
-use Rattle.marking.proofs.entries.other_than.Tie as tie
+use Rattle.marking.proofs.cells.other_than.Statement.{statement}
+use Rattle.marking.proofs.cells.other_than.Tie as tie
 
 returns : tie.Need-returns
 unfolding otherThan
