@@ -1,22 +1,19 @@
 // The planner's stages, with the work table as two columns.
 ghost use mathlib.Core.Path.{_≡_};
-ghost use mathlib.Core.Bool.{true, cond};
-ghost use mathlib.Core.List.{[]};
+ghost use mathlib.Core.Bool.{true};
 ghost use Prim.Native.Nat.{_≤_};
 ghost use lib.ListN.{length};
 ghost use Rattle.files.specs.Accepted.{acceptedTask};
 ghost use Rattle.files.specs.Dense.{held, arrays};
 ghost use Rattle.files.specs.OriginFile.{originOf};
-ghost use Rattle.files.specs.Outcome.{done, isDone, after};
-ghost use Rattle.files.specs.PlanFile.{planFile};
+ghost use Rattle.files.specs.Outcome.{done};
 ghost use Rattle.files.specs.Task.{actionCount};
 ghost use Rattle.files.specs.TaskFile.{checkTask, taskOf};
 ghost use Rattle.reduction.specs.Preserved.{byOriginFile};
-ghost use Rattle.reduction.specs.Reduce.{rooms};
-ghost use Rattle.search.specs.Table.{tableOf};
+ghost use Rattle.reduction.specs.Reduce.{buffers};
 ghost use Rattle.search.specs.Columns.{entriesIn};
-ghost use Rattle.search.specs.Planner.{planRooms, statesFit, searched, searchStage, planAnswer, unplanned, plannedActionMarks, plannedFactMarks, plannedReduced, plannedOrigin, plannedPlan};
-ghost use Rattle.search.specs.Found.{foundPlan, notFound, foundAnswer, bothTogether};
+ghost use Rattle.search.specs.Planner.{unplanned};
+ghost use Rattle.search.specs.Found.{notFound, bothTogether, SearchesRoom, PlansRoom};
 use crate::Planned;
 use crate::first_plan;
 use crate::states;
@@ -46,7 +43,7 @@ pub struct Run {
 
 // A refusal with so many entries filled.
 fn not_found(outcome: files::Outcome, states: usize) -> Found
-    ensures { λ r. ⌜ r ≡ notFound outcome states ⌝ }
+    ensures { λ r. ⌜ r ≡ notFound states outcome ⌝ }
 {
     Found {
         outcome: outcome,
@@ -75,9 +72,7 @@ fn search_task(
     effects: &[u8; 32768],
 ) -> Found
     requires { ⌜ (acceptedTask (held (arrays variables actions (now sizes) (now starts) (now goal) (now costs) (now conditions) (now effects))) ≡ true) × (4096 ≤ length (now minutes)) × (4096 ≤ length (now steps)) × (actions ≤ length (originOf (now origin) .actions)) ⌝ }
-    ensures answer { λ r. ⌜ r ≡ foundAnswer (held (arrays variables actions (now (sizes .entry)) (now (starts .entry)) (now (goal .entry)) (now (costs .entry)) (now (conditions .entry)) (now (effects .entry)))) (byOriginFile (now (origin .entry))) signer room (length (now (plan .entry))) ⌝ }
-    ensures table { λ r. ⌜ entriesIn (now (minutes .exit)) (now (steps .exit)) (r .states) ≡ cond (isDone (statesFit (held (arrays variables actions (now (sizes .entry)) (now (starts .entry)) (now (goal .entry)) (now (costs .entry)) (now (conditions .entry)) (now (effects .entry)))) room)) (tableOf (held (arrays variables actions (now (sizes .entry)) (now (starts .entry)) (now (goal .entry)) (now (costs .entry)) (now (conditions .entry)) (now (effects .entry))))) [] ⌝ }
-    ensures plan { λ r. ⌜ now (plan .exit) ≡ after (r .outcome) (planFile (byOriginFile (now (origin .entry)) (foundPlan (held (arrays variables actions (now (sizes .entry)) (now (starts .entry)) (now (goal .entry)) (now (costs .entry)) (now (conditions .entry)) (now (effects .entry)))))) signer) (now (plan .entry)) ⌝ }
+    ensures { λ r. ⌜ SearchesRoom (held (arrays variables actions (now (sizes .entry)) (now (starts .entry)) (now (goal .entry)) (now (costs .entry)) (now (conditions .entry)) (now (effects .entry)))) (byOriginFile (now (origin .entry))) signer room (now (plan .entry)) r (entriesIn (now (minutes .exit)) (now (steps .exit)) (r .states)) (now (plan .exit)) ⌝ }
 {
     let count = states::count(sizes, variables);
     if 4096 < count {
@@ -143,9 +138,7 @@ fn search_file(
     reduced: &[u8],
 ) -> Found
     requires { ⌜ (checkTask (now reduced) ≡ done) × (4096 ≤ length (now minutes)) × (4096 ≤ length (now steps)) × (actionCount (taskOf (now reduced)) ≤ length (originOf (now origin) .actions)) ⌝ }
-    ensures answer { λ r. ⌜ r ≡ foundAnswer (taskOf (now (reduced .entry))) (byOriginFile (now (origin .entry))) signer room (length (now (plan .entry))) ⌝ }
-    ensures table { λ r. ⌜ entriesIn (now (minutes .exit)) (now (steps .exit)) (r .states) ≡ cond (isDone (statesFit (taskOf (now (reduced .entry))) room)) (tableOf (taskOf (now (reduced .entry)))) [] ⌝ }
-    ensures plan { λ r. ⌜ now (plan .exit) ≡ after (r .outcome) (planFile (byOriginFile (now (origin .entry)) (foundPlan (taskOf (now (reduced .entry))))) signer) (now (plan .entry)) ⌝ }
+    ensures { λ r. ⌜ SearchesRoom (taskOf (now (reduced .entry))) (byOriginFile (now (origin .entry))) signer room (now (plan .entry)) r (entriesIn (now (minutes .exit)) (now (steps .exit)) (r .states)) (now (plan .exit)) ⌝ }
 {
     let mut sizes = [0u8; 64];
     let mut starts = [0u8; 64];
@@ -245,13 +238,7 @@ pub fn plan_columns(
     plan: &mut [u8],
 ) -> Run
     requires { ⌜ (4096 ≤ length (now minutes)) × (4096 ≤ length (now steps)) ⌝ }
-    ensures answer { λ r. ⌜ r .planned ≡ planAnswer (now (task .entry)) signer (planRooms (rooms (length (now (actions .entry))) (length (now (facts .entry))) (length (now (reduced .entry))) (length (now (origin .entry)))) room (length (now (plan .entry)))) ⌝ }
-    ensures actions { λ r. ⌜ now (actions .exit) ≡ plannedActionMarks (now (task .entry)) signer (planRooms (rooms (length (now (actions .entry))) (length (now (facts .entry))) (length (now (reduced .entry))) (length (now (origin .entry)))) room (length (now (plan .entry)))) (now (actions .entry)) ⌝ }
-    ensures facts { λ r. ⌜ now (facts .exit) ≡ plannedFactMarks (now (task .entry)) signer (planRooms (rooms (length (now (actions .entry))) (length (now (facts .entry))) (length (now (reduced .entry))) (length (now (origin .entry)))) room (length (now (plan .entry)))) (now (facts .entry)) ⌝ }
-    ensures reduced { λ r. ⌜ now (reduced .exit) ≡ plannedReduced (now (task .entry)) signer (planRooms (rooms (length (now (actions .entry))) (length (now (facts .entry))) (length (now (reduced .entry))) (length (now (origin .entry)))) room (length (now (plan .entry)))) (now (reduced .entry)) ⌝ }
-    ensures origin { λ r. ⌜ now (origin .exit) ≡ plannedOrigin (now (task .entry)) signer (planRooms (rooms (length (now (actions .entry))) (length (now (facts .entry))) (length (now (reduced .entry))) (length (now (origin .entry)))) room (length (now (plan .entry)))) (now (origin .entry)) ⌝ }
-    ensures plan { λ r. ⌜ now (plan .exit) ≡ plannedPlan (now (task .entry)) signer (planRooms (rooms (length (now (actions .entry))) (length (now (facts .entry))) (length (now (reduced .entry))) (length (now (origin .entry)))) room (length (now (plan .entry)))) (now (plan .entry)) ⌝ }
-    ensures table { λ r. ⌜ (entriesIn (now (minutes .exit)) (now (steps .exit)) (r .states) ≡ cond (isDone (searchStage (now (task .entry)) signer (planRooms (rooms (length (now (actions .entry))) (length (now (facts .entry))) (length (now (reduced .entry))) (length (now (origin .entry)))) room (length (now (plan .entry)))))) (tableOf (searched (now (task .entry)))) []) × (r .states ≤ room) × (r .states ≤ 4096) ⌝ }
+    ensures { λ r. ⌜ PlansRoom (now (task .entry)) signer room (buffers (now (actions .entry)) (now (facts .entry)) (now (reduced .entry)) (now (origin .entry))) (now (plan .entry)) r (buffers (now (actions .exit)) (now (facts .exit)) (now (reduced .exit)) (now (origin .exit))) (entriesIn (now (minutes .exit)) (now (steps .exit)) (r .states)) (now (plan .exit)) ⌝ }
 {
     let first = reduction::reduce(task, LEVEL, signer, actions, facts, reduced, origin);
     let outcome = first.outcome;

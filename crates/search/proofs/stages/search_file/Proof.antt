@@ -8,7 +8,7 @@ use Rattle.files.specs.Bytes.{Octets}
 use Rattle.files.specs.TaskFile.{checkTask}
 use Rattle.files.proofs.TaskChecked.{action-count, task-accepted}
 use Rattle.marking.proofs.MarkLaws.{held-by}
-use Rattle.search.proofs.FoundLaws.{answer-alike, table-alike, plan-alike}
+use Rattle.search.proofs.FoundLaws.{searches-alike}
 use borrow.Author.Needs.{needs}
 use Rattle.search.proofs.stages.search_file.Statement.{statement}
 use Rattle.search.proofs.stages.search_file.Tie as tie
@@ -59,10 +59,8 @@ returns : tie.Need-returns
 returns c =
     let k = c .before .before .before .before .before .before in
     let a = k .before .before .before .before .before .before .before .before .before .before in
-    let is = held-by _ _ _ _ _ _ _ _ _ _ _ (a .before .variables-in .ensures .0) (a .actions-in .ensures .0) (to-read a .read-task .ensures .1 .0 (passes (to-read a))) in (
-      answer-alike _ _ is _ _ _ _ _ (k .search-task .ensures .0),
-      (table-alike _ _ is _ _ (k .search-task .ensures .1 .0), plan-alike _ _ is _ _ _ _ _ (k .search-task .ensures .1 .1)),
-    )
+    let is = held-by _ _ _ _ _ _ _ _ _ _ _ (a .before .variables-in .ensures .0) (a .actions-in .ensures .0) (to-read a .read-task .ensures .1 .0 (passes (to-read a))) in
+    searches-alike _ _ is _ _ _ _ _ _ _ (k .search-task .ensures)
 
 pub search-file-spec : {M : Type 1} → statement M
 search-file-spec =

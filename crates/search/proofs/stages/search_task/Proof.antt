@@ -1,22 +1,22 @@
 -- The answers in the order of the refusals: too many states, the table's room, no plan, the plan's room, the plan.
 use Prim.Native.Nat.{ℕ, _+_, _*_, _≤_, _<_}
 use mathlib.Core.Path.{_≡_, sym, ap, _∙_}
+use mathlib.Core.List.{List}
 use native.Mathlib.Omega.{arith}
 use denote.Ref.{now}
 use borrow.Author.Needs.{needs}
 use Rattle.files.specs.Dense.{Arrays, held, arrays}
-use Rattle.files.specs.declared.Outcome.{Outcome}
-use Rattle.files.specs.Outcome.{done, refusal}
+use Rattle.files.specs.Outcome.{done, refusal, overwrite}
+use Rattle.files.specs.PlanFile.{planFile}
 use Rattle.plans.specs.Plan.{Total}
 use Rattle.files.proofs.Valid.{Valid}
 use Rattle.marking.proofs.MarkLaws.{refusal-number}
-use Rattle.search.specs.declared.stages.Found.{Found}
 use Rattle.search.specs.States.{stateCount}
 use Rattle.search.specs.Planner.{statesFit}
 use Rattle.search.proofs.HeldStates.{held-states, held-valid, held-sizes, held-few}
 use Rattle.search.proofs.Radix.{start-below}
 use Rattle.search.proofs.TableEntries.{at-count, start-none, start-some, start-distance, start-low, start-steps}
-use Rattle.search.proofs.FoundLaws.{states-many, table-short, states-fit, early-answer, early-table, full-table, refused-plan, late-answer, done-answer, no-plan, plan-short, plan-fits, read-plan, read-total, read-needed, read-length, plan-written}
+use Rattle.search.proofs.FoundLaws.{states-many, table-short, states-fit, search-early, search-late, search-done, no-plan, plan-short, plan-fits, read-plan, read-total, read-needed, read-length, plan-made}
 use Rattle.search.proofs.stages.search_task.Statement.{statement}
 use Rattle.search.proofs.stages.search_task.Tie as tie
 
@@ -70,10 +70,7 @@ returns c =
     let t = held (task-of (to-start k)) in
     let many : 4096 < stateCount (t .variables) = omega (arith, held-states (task-of (to-start k)), k .count .ensures .1 (c .before .before .if1 .taken)) in
     let fit = states-many t _ _ many (c .before .refuse .ensures) in
-    let refused = refusal-number _ 25 _ (omega arith) (c .before .refuse .ensures) in (
-      early-answer t _ _ _ _ _ fit refused _ (c .not-found .ensures),
-      (early-table t _ _ fit refused _ (c .not-found .ensures) _ _, refused-plan _ _ _ (c .not-found .ensures) refused _ _),
-    )
+    search-early t _ _ _ _ _ fit (refusal-number _ 25 _ (omega arith) (c .before .refuse .ensures)) _ (c .not-found .ensures) _ _
 
 refuse-requires-2 : tie.Need-refuse-requires-2
 refuse-requires-2 c κs = search needs
@@ -89,10 +86,7 @@ returns-2 c =
     let few : stateCount (t .variables) ≤ 4096 = omega (arith, c .before .before .before .if1 .left) in
     let short : to-start k .args .room < stateCount (t .variables) = omega (arith, c .before .before .if2 .taken) in
     let fit = table-short t _ _ few short (c .before .refuse2 .ensures ∙ ap (refusal 21) s) in
-    let refused = refusal-number _ 21 _ (omega arith) (c .before .refuse2 .ensures) in (
-      early-answer t _ _ _ _ _ fit refused _ (c .not-found2 .ensures),
-      (early-table t _ _ fit refused _ (c .not-found2 .ensures) _ _, refused-plan _ _ _ (c .not-found2 .ensures) refused _ _),
-    )
+    search-early t _ _ _ _ _ fit (refusal-number _ 21 _ (omega arith) (c .before .refuse2 .ensures)) _ (c .not-found2 .ensures) _ _
 
 search-requires : tie.Need-search-requires
 search-requires c κs =
@@ -126,10 +120,7 @@ returns-3 c =
     let table = at-count t _ _ _ _ (states-are k) (k .search .ensures .1) in
     let none-found = start-none t _ _ table (valid (to-start (to-count k))) _ (k .search .ensures .0) (omega (arith, few k, states-are k)) (c .before .before .if3 .taken) in
     let p = no-plan t _ _ _ _ none-found (c .before .refuse3 .ensures) in
-    let refused = refusal-number _ 24 _ (omega arith) (c .before .refuse3 .ensures) in (
-      late-answer t _ _ _ _ (fit k) _ p refused _ _ (states-are k) (c .not-found3 .ensures),
-      (full-table t _ (fit k) _ _ _ (ap (λ (x : Found). x .states) (c .not-found3 .ensures) ∙ states-are k) table, refused-plan _ _ _ (c .not-found3 .ensures) refused _ _),
-    )
+    search-late t _ _ _ _ (fit k) _ _ table _ p (refusal-number _ 24 _ (omega arith) (c .before .refuse3 .ensures)) _ (states-are k) _ (c .not-found3 .ensures)
 
 mul-fewest : tie.Need-mul-fewest
 mul-fewest c = omega (arith, inside (c .before .before .before .before .before .before), few (c .before .before .before .before .before .before))
@@ -166,10 +157,7 @@ returns-4 c =
     let e = start-distance t _ _ table ok _ (k .search .ensures .0) _ (x .distance) in
     let needed = read-needed t ok _ e _ _ _ (n .needed .ensures ∙ ap (λ (m : ℕ). 16 + 2 * m) (x .steps-are)) in
     let p = plan-short t _ _ _ _ (read-plan t ok _ e) _ _ needed (c .before .before .if4 .taken) (c .before .refuse4 .ensures) in
-    let refused = refusal-number _ 21 _ (omega arith) (c .before .refuse4 .ensures) in (
-      late-answer t _ _ _ _ (fit k) _ p refused _ _ (states-are k) (c .not-found4 .ensures),
-      (full-table t _ (fit k) _ _ _ (ap (λ (x : Found). x .states) (c .not-found4 .ensures) ∙ states-are k) table, refused-plan _ _ _ (c .not-found4 .ensures) refused _ _),
-    )
+    search-late t _ _ _ _ (fit k) _ _ table _ p (refusal-number _ 21 _ (omega arith) (c .before .refuse4 .ensures)) _ (states-are k) _ (c .not-found4 .ensures)
 
 write-plan-requires : tie.Need-write-plan-requires
 write-plan-requires c κs =
@@ -206,19 +194,19 @@ returns-5 : tie.Need-returns-5
 returns-5 c =
     let n = to-needed c in
     let k = to-search n in
-    let t = held (task-of (to-start (to-count k))) in
+    let s = to-start (to-count k) in
+    let t = held (task-of s) in
     let ok = valid (to-start (to-count k)) in
     let table = at-count t _ _ _ _ (states-are k) (k .search .ensures .1) in
     let x = start-some t _ _ table ok _ (k .search .ensures .0) (n .before .before .if3 .left) in
     let e = start-distance t _ _ table ok _ (k .search .ensures .0) _ (x .distance) in
-    let needed = read-needed t ok _ e _ _ _ (n .needed .ensures ∙ ap (λ (m : ℕ). 16 + 2 * m) (x .steps-are)) in
-    let p = c .done .ensures ∙ plan-fits t _ _ _ _ (read-plan t ok _ e) _ needed (c .before .before .before .before .before .before .before .if4 .left) in
-    let z = ap (λ (o : Outcome). o .number) (c .done .ensures) in
-    let whole = read-length t ok _ e _ _ _ (n .needed .ensures ∙ ap (λ (m : ℕ). 16 + 2 * m) (x .steps-are)) in
-    let total = read-total t ok _ e in (
-      done-answer t _ _ _ _ (fit k) _ p z _ _ _ _ (states-are k) whole (x .minutes-are ∙ ap (λ (y : Total). y .minutes) (sym total)) (x .steps-are ∙ ap (λ (y : Total). y .steps) (sym total)),
-      (full-table t _ (fit k) _ _ _ (states-are k) table, plan-written t _ _ _ _ _ z (c .before .before .before .write-plan .ensures)),
-    )
+    let bytes = n .needed .ensures ∙ ap (λ (m : ℕ). 16 + 2 * m) (x .steps-are) in
+    let read = read-plan t ok _ e in
+    let p = plan-fits t _ _ _ _ read _ (read-needed t ok _ e _ _ _ bytes) (c .before .before .before .before .before .before .before .if4 .left) in
+    let total = read-total t ok _ e in
+    let written = c .before .before .before .write-plan .ensures ∙ ap (λ (l : List ℕ). overwrite (now (s .args .plan)) (planFile l (s .args .signer))) (sym (plan-made t _ _ read)) in
+    search-done t _ _ _ _ (fit k) _ _ table p _ (c .done .ensures) _ _ _ _ (states-are k) (read-length t ok _ e _ _ _ bytes)
+    (x .minutes-are ∙ ap (λ (y : Total). y .minutes) (sym total)) (x .steps-are ∙ ap (λ (y : Total). y .steps) (sym total)) _ written
 
 pub search-task-spec : {M : Type 1} → statement M
 search-task-spec =
