@@ -21,7 +21,7 @@ use Rattle.search.specs.declared.stages.Found.{Found}
 use Rattle.search.specs.States.{stateCount}
 use Rattle.search.specs.Table.{distances, tableOf}
 use Rattle.search.specs.FirstPlan.{startNumber, firstPlan}
-use Rattle.search.specs.Columns.{entriesIn}
+use Rattle.search.specs.Entries.{entriesIn}
 use Rattle.search.specs.Planner.{statesFit, planFits}
 use Rattle.search.specs.Found.{searchOutcome, foundPlan, foundStates, notFound, foundAnswer}
 use Rattle.search.proofs.Radix.{start-below}
@@ -42,9 +42,9 @@ module _ (t : Task) (room : ℕ) where
   states-fit h k = goes-le (stateCount (t .variables)) 4096 25 0 _ done _ _ refl refl h (goes-le (stateCount (t .variables)) room 21 (stateCount (t .variables)) _ done _ _ refl refl k refl)
 
 -- the entries of no states
-pub no-entries : (minutes steps : List ℕ) → entriesIn minutes steps 0 ≡ []
+pub no-entries : (entries : List ℕ) → entriesIn entries 0 ≡ []
 unfolding entriesIn
-no-entries minutes steps = refl
+no-entries entries = refl
 
 -- the plan buffer after a refusal
 pub refused-plan : (r : Found) (o : Outcome) (states : ℕ) → r ≡ notFound o states → (o .number ≡ 0 → ⊥) → (new old : List ℕ) → old ≡ after (r .outcome) new old
@@ -52,16 +52,16 @@ refused-plan r o states q d new old = sym (after-refused (r .outcome) new old (�
 
 module _ (t : Task) (room : ℕ) where
   pub early-table : (o : Outcome) → o ≡ statesFit t room → (o .number ≡ 0 → ⊥) → (r : Found) → r ≡ notFound o 0
-      → (minutes steps : List ℕ) → entriesIn minutes steps (r .states) ≡ cond (isDone (statesFit t room)) (tableOf t) []
-  early-table o e d r q minutes steps = rw (← e, is-refused o d) (ap (λ (x : Found). entriesIn minutes steps (x .states)) q ∙ no-entries minutes steps)
+      → (entries : List ℕ) → entriesIn entries (r .states) ≡ cond (isDone (statesFit t room)) (tableOf t) []
+  early-table o e d r q entries = rw (← e, is-refused o d) (ap (λ (x : Found). entriesIn entries (x .states)) q ∙ no-entries entries)
 
   fit : done ≡ statesFit t room → isDone (statesFit t room) ≡ true
   unfolding isDone
   fit e = ap isDone (sym e)
 
-  pub full-table : done ≡ statesFit t room → (minutes steps : List ℕ) (states : ℕ) → states ≡ stateCount (t .variables)
-      → entriesIn minutes steps (stateCount (t .variables)) ≡ tableOf t → entriesIn minutes steps states ≡ cond (isDone (statesFit t room)) (tableOf t) []
-  full-table e minutes steps states s w = rw (fit e, s) w
+  pub full-table : done ≡ statesFit t room → (entries : List ℕ) (states : ℕ) → states ≡ stateCount (t .variables)
+      → entriesIn entries (stateCount (t .variables)) ≡ tableOf t → entriesIn entries states ≡ cond (isDone (statesFit t room)) (tableOf t) []
+  full-table e entries states s w = rw (fit e, s) w
 
 module _ (t : Task) (original : List ℕ → List ℕ) (signer room planRoom : ℕ) where
   answer-refused : (r : Found) (o : Outcome) (states : ℕ) → o ≡ searchOutcome t original signer room planRoom → (o .number ≡ 0 → ⊥) → states ≡ foundStates t room

@@ -40,7 +40,7 @@ use Rattle.search.specs.States.{stateCount}
 use Rattle.search.specs.Table.{tableOf}
 use Rattle.search.specs.FirstPlan.{firstPlan}
 use Rattle.search.specs.Least.{PlanFirst}
-use Rattle.search.specs.Columns.{entriesIn}
+use Rattle.search.specs.Entries.{entriesIn}
 use Rattle.search.specs.Planner.{planLevel, PlanRooms, planRooms, searched, searchedStates, planFound, statesFit, searchStage, planFits, planStage, planMade, unplanned, planAnswer, plannedActionMarks, plannedFactMarks, plannedReduced, plannedOrigin, plannedPlan}
 use Rattle.search.specs.Found.{searchOutcome, foundPlan, foundStates, foundAnswer, bothTogether}
 use Rattle.search.proofs.FoundLaws.{no-entries, plan-is}
@@ -132,8 +132,8 @@ module _ (task : List ℕ) (signer : ℕ) (room : Rooms) (tableRoom planRoom : �
       unfolding plannedPlan
       early-plan old = rw (← early-stage) (sym (after-refused (first .outcome) _ old d))
 
-      pub early-table : (minutes steps : List ℕ) → entriesIn minutes steps 0 ≡ cond (isDone (searchStage task signer whole)) (tableOf (searched task)) []
-      early-table minutes steps = rw (← early-search, is-refused (first .outcome) d) (no-entries minutes steps)
+      pub early-table : (entries : List ℕ) → entriesIn entries 0 ≡ cond (isDone (searchStage task signer whole)) (tableOf (searched task)) []
+      early-table entries = rw (← early-search, is-refused (first .outcome) d) (no-entries entries)
 
     -- reduction is done: its files say what they should
     module _ (z : first .outcome .number ≡ 0) (octets : Octets task) (small : signer < 2 ^ 32) where
@@ -265,9 +265,9 @@ module _ (task : List ℕ) (signer : ℕ) (room : Rooms) (tableRoom planRoom : �
           unfolding planStage planFound searchOutcome
           plan-stage = found-outcome ∙ ap (λ (o : Outcome). andThen o (planFits (Option·map (byOriginal t planLevel) (firstPlan u)) signer planRoom)) search-stage
 
-          pub row-table : (minutes steps : List ℕ) → entriesIn minutes steps (found .states) ≡ cond (isDone (statesFit (taskOf file) tableRoom)) (tableOf (taskOf file)) []
-              → entriesIn minutes steps (found .states) ≡ cond (isDone (searchStage task signer whole)) (tableOf u) []
-          row-table minutes steps w =
+          pub row-table : (entries : List ℕ) → entriesIn entries (found .states) ≡ cond (isDone (statesFit (taskOf file) tableRoom)) (tableOf (taskOf file)) []
+              → entriesIn entries (found .states) ≡ cond (isDone (searchStage task signer whole)) (tableOf u) []
+          row-table entries w =
               w
               ∙ ap (λ (x : Task). cond (isDone (statesFit x tableRoom)) (tableOf x) []) file-task
               ∙ ap (λ (o : Outcome). cond (isDone o) (tableOf u) []) search-stage

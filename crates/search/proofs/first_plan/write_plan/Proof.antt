@@ -18,12 +18,12 @@ use Rattle.search.proofs.first_plan.write_plan.Statement.{statement}
 use Rattle.search.proofs.first_plan.write_plan.Tie as tie
 
 abbrev Inv-loop : tie.InvT-loop
-Inv-loop plan₀ signer origin minutes steps variables actions sizes starts goal costs conditions effects place s₀ count values₀ i₀ plan s values i =
+Inv-loop plan₀ signer origin entries variables actions sizes starts goal costs conditions effects place s₀ count values₀ i₀ plan s values i =
     Writing (arrays variables actions sizes starts goal costs conditions effects) origin plan₀ plan values count s i
     × (16 + 2 * count ≤ length plan₀)
 
 abbrev μ-loop : tie.MeasureT-loop
-μ-loop plan₀ signer origin minutes steps variables actions sizes starts goal costs conditions effects place s₀ count values₀ i₀ plan s values i =
+μ-loop plan₀ signer origin entries variables actions sizes starts goal costs conditions effects place s₀ count values₀ i₀ plan s values i =
     count - i
 
 abbrev Started : Type 0

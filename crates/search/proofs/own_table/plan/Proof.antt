@@ -50,7 +50,7 @@ use Rattle.search.proofs.Entry as T₀
 use Rattle.search.proofs.Entry.Laws as T′
 use Rattle.search.proofs.Planned as P₀
 use Rattle.search.proofs.Planned.Laws as P′
-use Rattle.search.proofs.Entries.{R, vals, tells, is-entry}
+use Rattle.search.proofs.EntrySlices.{R, vals, tells, is-entry}
 use Rattle.search.proofs.Hand.{told, big-lit, ref, lend-array-mut, array-mut-home}
 use Rattle.search.proofs.plan as p
 use Rattle.search.proofs.plan.Symbol as p-def

@@ -4,7 +4,7 @@ use mathlib.Core.Path.{ap, _∙_}
 use native.Mathlib.Omega.{arith}
 use denote.Ref.{now}
 use Rattle.files.specs.Bytes.{Octets}
-use Rattle.search.specs.Columns.{entriesIn}
+use Rattle.search.specs.Entries.{entriesIn}
 use Rattle.search.proofs.StageLaws.{action-marks, fact-marks, reduced-file, origin-file, early-answer, early-plan, early-table, reduced-part, origin-part, reduced-fits, origin-fits, file-checked, enough-numbers, found-states, filled-bounded, row-table, row-plan, row-answer}
 use borrow.Author.Needs.{needs}
 use Rattle.search.proofs.stages.plan_columns.Statement.{statement}

@@ -48,14 +48,14 @@ known t = (
 )
 
 abbrev offer-Inv-loop : offer-lts.InvT-loop
-offer-Inv-loop minutes₀ steps₀ changed₀ sizes weights conditions effects base variables from number cost count v weight rest value₀ high minutes steps changed value =
+offer-Inv-loop entries₀ changed₀ sizes weights conditions effects base variables from number cost count v weight rest value₀ high entries changed value =
     (Walk sizes weights conditions effects base variables from number v weight rest value₀ high)
-    × (Turns sizes weights conditions effects base variables from number v value₀ high (entry cost count) minutes₀ steps₀ minutes steps value)
-    × Unchanged changed₀ minutes₀ steps₀ changed minutes steps
+    × (Turns sizes weights conditions effects base variables from number v value₀ high (entry cost count) entries₀ entries value)
+    × Unchanged changed₀ entries₀ changed entries
     × (length changed ≡ length changed₀)
 
 abbrev offer-μ-loop : offer-lts.MeasureT-loop
-offer-μ-loop minutes₀ steps₀ changed₀ sizes weights conditions effects base variables from number cost count v weight rest value₀ high minutes steps changed value =
+offer-μ-loop entries₀ changed₀ sizes weights conditions effects base variables from number cost count v weight rest value₀ high entries changed value =
     high - value
 
 offer-next-effect-requires : (t : ℕ) → offer-lts.Need-next-effect-requires (known t) (offer-at t) offer.Post offer-Inv-loop offer-μ-loop

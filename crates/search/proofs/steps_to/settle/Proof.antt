@@ -11,13 +11,13 @@ use Rattle.search.proofs.steps_to.settle.Statement.{statement}
 use Rattle.search.proofs.steps_to.settle.Tie as tie
 
 abbrev Inv-loop : tie.InvT-loop
-Inv-loop minutes₀ steps₀ changed₀ sizes weights costs conditions effects variables actions x cost count values a₀ minutes steps changed a =
-    Actions sizes weights costs conditions effects variables actions x minutes₀ steps₀ cost count minutes steps a
-    × Unchanged changed₀ minutes₀ steps₀ changed minutes steps
+Inv-loop entries₀ changed₀ sizes weights costs conditions effects variables actions x cost count values a₀ entries changed a =
+    Actions sizes weights costs conditions effects variables actions x entries₀ cost count entries a
+    × Unchanged changed₀ entries₀ changed entries
     × (length changed ≡ length changed₀)
 
 abbrev μ-loop : tie.MeasureT-loop
-μ-loop minutes₀ steps₀ changed₀ sizes weights costs conditions effects variables actions x cost count values a₀ minutes steps changed a = actions - a
+μ-loop entries₀ changed₀ sizes weights costs conditions effects variables actions x cost count values a₀ entries changed a = actions - a
 
 mul-cost : tie.Need-mul-cost Inv-loop μ-loop
 mul-cost c = search needs

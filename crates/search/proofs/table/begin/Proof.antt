@@ -7,10 +7,10 @@ use Rattle.search.proofs.table.begin.Statement.{statement}
 use Rattle.search.proofs.table.begin.Tie as tie
 
 abbrev Inv-loop : tie.InvT-loop
-Inv-loop minutes₀ steps₀ sizes goal variables count s₀ minutes steps s = Begun sizes goal variables count minutes₀ steps₀ minutes steps s
+Inv-loop entries₀ sizes goal variables count s₀ entries s = Begun sizes goal variables count entries₀ entries s
 
 abbrev μ-loop : tie.MeasureT-loop
-μ-loop minutes₀ steps₀ sizes goal variables count s₀ minutes steps s = count - s
+μ-loop entries₀ sizes goal variables count s₀ entries s = count - s
 
 loop-holds : tie.Need-loop-holds Inv-loop μ-loop
 loop-holds c = begun-none _ _ _ _ _ _

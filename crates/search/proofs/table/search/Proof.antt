@@ -5,7 +5,7 @@ use native.Mathlib.Omega.{arith}
 use denote.Ref.{now}
 use lib.ListN.{length, replicate, length-replicate, length-set}
 use Rattle.files.specs.Dense.{Arrays, arrays}
-use Rattle.search.specs.Columns.{rowStates, Searchable}
+use Rattle.search.specs.Rows.{rowStates, Searchable}
 use Rattle.search.specs.Settling.{Known}
 use Rattle.search.proofs.HeldStates.{held-states, held-start, held-sizes, held-starts, held-few, searchable}
 use Rattle.search.proofs.Searching.{openCount, Searching, begin, falls, low-minutes, low-steps, next, end}
@@ -14,14 +14,14 @@ use Rattle.search.proofs.table.search.Statement.{statement}
 use Rattle.search.proofs.table.search.Tie as tie
 
 abbrev Inv-loop : tie.InvT-loop
-Inv-loop minutes₀ steps₀ count variables actions sizes starts goal costs conditions effects weights settled₀ changed₀ least₀ s₀ minutes steps settled changed least s =
-    Searching (arrays variables actions sizes starts goal costs conditions effects) count minutes steps settled s
+Inv-loop entries₀ count variables actions sizes starts goal costs conditions effects weights settled₀ changed₀ least₀ s₀ entries settled changed least s =
+    Searching (arrays variables actions sizes starts goal costs conditions effects) count entries settled s
     × (length minutes ≡ length minutes₀) × (length steps ≡ length steps₀)
-    × Known minutes steps settled count changed least
+    × Known entries settled count changed least
     × (length changed ≡ 64) × (length least ≡ 64)
 
 abbrev μ-loop : tie.MeasureT-loop
-μ-loop minutes₀ steps₀ count variables actions sizes starts goal costs conditions effects weights settled₀ changed₀ least₀ s₀ minutes steps settled changed least s = openCount settled
+μ-loop entries₀ count variables actions sizes starts goal costs conditions effects weights settled₀ changed₀ least₀ s₀ entries settled changed least s = openCount settled
 
 abbrev Started : Type 0
 Started = tie.Start Inv-loop μ-loop
