@@ -11,6 +11,7 @@ use Rattle.files.specs.Dense.{rowPairs}
 use Rattle.files.proofs.Logic.{split-le}
 use Rattle.plans.specs.State.{allHold}
 use Rattle.plans.specs.Tally.{listState}
+use Rattle.search.specs.declared.Entry.{Entry}
 use Rattle.search.specs.States.{stateAt}
 use Rattle.search.specs.Entries.{firstEntry, entryIn, Put}
 use Rattle.search.specs.Rows.{rowVariables}
@@ -33,9 +34,9 @@ module _ (sizes goal : List ℕ) (variables count : ℕ) (entries₀ : List ℕ)
       → length entries′ ≡ length entries
       → ((starts : List ℕ) → listState values ≡ stateAt (rowVariables variables sizes starts) s)
       → b ≡ allHold (rowPairs goal 0 0 variables) (listState values)
-      → Put entries s (firstEntry b) entries′
+      → (x : Entry) → x ≡ firstEntry b → Put entries s x entries′
       → Begun sizes goal variables count entries₀ entries′ (s + 1)
-  begun-next entries entries′ values s b w h m v e f =
+  begun-next entries entries′ values s b w h m v e x is f =
       record {
         below = omega arith;
         same = m ∙ w .same;
@@ -45,9 +46,10 @@ module _ (sizes goal : List ℕ) (variables count : ℕ) (entries₀ : List ℕ)
             (λ q.
             let here : r ≡ s = omega arith in
             f r
-            ∙ ap (λ (t : Bool). cond t (firstEntry b) (entryIn entries r)) (eq-eqb r s here)
+            ∙ ap (λ (t : Bool). cond t x (entryIn entries r)) (eq-eqb r s here)
+            ∙ is
             ∙ ap firstEntry (e ∙ ap (allHold (rowPairs goal 0 0 variables)) (v starts ∙ ap (stateAt (rowVariables variables sizes starts)) (sym here))))
-            (λ q. f r ∙ ap (λ (t : Bool). cond t (firstEntry b) (entryIn entries r)) (ne-eqb r s (λ z. omega arith)) ∙ w .filled starts r q);
+            (λ q. f r ∙ ap (λ (t : Bool). cond t x (entryIn entries r)) (ne-eqb r s (λ z. omega arith)) ∙ w .filled starts r q);
       }
 
   pub begun-all : (entries : List ℕ) (s : ℕ) → Begun sizes goal variables count entries₀ entries s → count ≤ s

@@ -42,9 +42,12 @@ unfolding entryOf
 low-near e h = omega (arith, h .minutes)
 
 -- before any step
-pub first-goal : record { minutes = 0; steps = 0 } ≡ firstEntry true
+pub first-yes : (reached : Bool) → reached ≡ true → record { minutes = 0; steps = 0 } ≡ firstEntry reached
 unfolding entryOf noSteps
-first-goal = refl
+first-yes reached e = rw e refl
+
+pub first-no : (reached : Bool) (far : Entry) → reached ≡ false → far ≡ noEntry → far ≡ firstEntry reached
+first-no reached far e h = rw e h
 
 -- an entry of few steps, each of which costs at most a million
 abbrev pub Within : ℕ → Entry → Type 0

@@ -12,7 +12,7 @@ use Rattle.plans.specs.State.{State}
 use Rattle.plans.specs.Tally.{meetsCell}
 use Rattle.files.proofs.Truth.{same-truth}
 use Rattle.search.specs.Entries.{lowered, Holds, entryIn}
-use Rattle.search.specs.Rows.{rowStates, rowWeight, rowState, differsOnly, StepRow, Spanned, Offered}
+use Rattle.search.specs.Rows.{rowStates, rowWeight, rowState, differsOnly, StepRow, Spanned, NextEffect, Offered, OfferFrom}
 use Rattle.search.specs.declared.Entry.{Entry}
 use Rattle.search.proofs.RowNumbers.{weight-most}
 use Rattle.search.proofs.OneChange.{changed, changed-here, changed-other, state-inside, same-number, value-least, change-below, change-state}
@@ -84,8 +84,9 @@ module _ (sizes weights conditions effects : List ℕ) (base n from number : ℕ
     pub rest-is : rest ≡ number - weight * getD effects (base + v) 0
     pub span : Spanned (getD conditions (base + v) 0) (getD sizes v 0) low high
 
-  pub found : (v : ℕ) → StepRow n base sizes weights conditions effects → number < rowStates n sizes → EffectsSet → from ≤ v → NoneBetween v → (v < n → getD effects (base + v) 0 ≡ 255 → ⊥) → v < n → Found v
-  found v row below set first between there last = record { row = row; below = below; set = set; first = first; last = last; between = between; there = there last }
+  pub found : (v : ℕ) (entries changed : List ℕ) → OfferFrom n base from number sizes weights conditions effects entries changed → NextEffect effects n base from v → v < n → Found v
+  found v entries changed asked next last =
+      record { row = asked .row; below = asked .below; set = asked .set; first = next .first; last = last; between = next .between; there = next .there last }
 
   pub walk : (v weight effect condition size low high : ℕ) → Found v → weight ≡ getD weights v 0 → effect ≡ getD effects (base + v) 0 → condition ≡ getD conditions (base + v) 0 → size ≡ getD sizes v 0
       → Spanned condition size low high → Walk v weight (number - weight * effect) low high

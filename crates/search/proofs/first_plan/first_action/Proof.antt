@@ -24,7 +24,7 @@ loop-holds c = (omega arith, λ t tabled. first-begin t _ _ _)
 
 leads-on-requires : tie.Need-leads-on-requires Inv-loop μ-loop
 leads-on-requires c κs =
-    record { here = c .before .before .before .before .pre; action = c .loop-test .taken }
+    record { here = c .before .before .before .pre; action = c .loop-test .taken }
 
 returns : tie.Need-returns Inv-loop μ-loop
 returns c =

@@ -13,11 +13,11 @@ abbrev μ-loop : tie.MeasureT-loop
 μ-loop entries settled count from limit best₀ s₀ best s = limit - s
 
 loop-holds : tie.Need-loop-holds Inv-loop μ-loop
-loop-holds c = (pick-none _ _ _ _, omega arith, c .before .before .before .pre .order)
+loop-holds c = (pick-none _ _ _ _, omega arith, c .before .before .pre .order)
 
 better-requires : tie.Need-better-requires Inv-loop μ-loop
 better-requires c κs =
-    let pre = c .before .before .before .before .before .pre in
+    let pre = c .before .before .before .before .pre in
     record { room = pre .room; marks = pre .marks; most = c .before .loop .inv .0 .range; below = omega (arith, c .loop-test .taken, pre .inside) }
 
 add-s : tie.Need-add-s Inv-loop μ-loop

@@ -41,7 +41,7 @@ same-length-2 c = search needs
 
 returns : tie.Need-returns
 returns c =
-    let s = c .before .before .before .before .before .before .before .before .before in
+    let s = c .before .before .before .before .before .before .before .before in
     let end = c .before .block-end .ensures in
     let p = pick-to _ _ _ _ _ _ _ (end .most) (end .last) (c .pick .ensures) in
     let blocks = s .pre .blocks in
@@ -52,7 +52,7 @@ returns c =
     }
 
 returns-2 : tie.Need-returns-2
-returns-2 c = let s = c .before .before .before .before .before .before .before in record { known = s .pre .blocks .known; picked = s .pre .blocks .known _ (s .pre .begins) (c .if1 .left) }
+returns-2 c = let s = c .before .before .before .before .before .before in record { known = s .pre .blocks .known; picked = s .pre .blocks .known _ (s .pre .begins) (c .if1 .left) }
 
 pub refresh-spec : {M : Type 1} → statement M
 refresh-spec =

@@ -16,14 +16,14 @@ abbrev μ-loop : tie.MeasureT-loop
 μ-loop entries settled changed₀ least₀ count best₀ b₀ changed least best b = count - 64 * b
 
 loop-holds : tie.Need-loop-holds Inv-loop μ-loop
-loop-holds c = (c .before .before .before .before .before .pre .known, pick-none _ _ _ _, refl, refl, omega arith)
+loop-holds c = (c .before .before .before .before .pre .known, pick-none _ _ _ _, refl, refl, omega arith)
 
 mul-loop : tie.Need-mul-loop Inv-loop μ-loop
 mul-loop c = omega (arith, c .loop .inv .4)
 
 refresh-requires : tie.Need-refresh-requires Inv-loop μ-loop
 refresh-requires c κs =
-    let s = c .before .before .before .before .before .before .before .before .before in
+    let s = c .before .before .before .before .before .before .before .before in
     let i = c .before .before .before .loop .inv in
     record {
       blocks =
@@ -43,13 +43,13 @@ mul-lesser c = omega (arith, c .before .before .before .before .before .before .
 
 slice-read-lesser : tie.Need-slice-read-lesser Inv-loop μ-loop
 slice-read-lesser c =
-    let s = c .before .before .before .before .before .before .before .before .before .before .before .before .before .before .before in
+    let s = c .before .before .before .before .before .before .before .before .before .before .before .before .before .before in
     let i = c .before .before .before .before .before .before .before .before .before .loop .inv in
     omega (arith, c .before .before .before .before .before .before .before .before .loop-test .taken, s .pre .few, s .pre .least-long, c .before .before .before .before .before .refresh .kept .1 .1 .1 .0, i .3)
 
 lesser-requires : tie.Need-lesser-requires Inv-loop μ-loop
 lesser-requires c κs =
-    let s = c .before .before .before .before .before .before .before .before .before .before .before .before .before .before .before in
+    let s = c .before .before .before .before .before .before .before .before .before .before .before .before .before .before in
     record {
       room = s .pre .room;
       first-most = c .before .before .before .before .before .before .before .before .before .loop .inv .1 .range;
@@ -64,7 +64,7 @@ loop-less c = omega (arith, c .before .before .before .before .before .before .b
 
 loop-again : tie.Need-loop-again Inv-loop μ-loop
 loop-again c =
-    let s = c .before .before .before .before .before .before .before .before .before .before .before .before .before .before .before .before in
+    let s = c .before .before .before .before .before .before .before .before .before .before .before .before .before .before .before in
     let i = c .before .before .before .before .before .before .before .before .before .before .loop .inv in
     let r = c .before .before .before .before .before .before .refresh in (
       r .ensures .known,

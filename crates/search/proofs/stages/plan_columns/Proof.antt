@@ -12,13 +12,13 @@ use Rattle.search.proofs.stages.plan_columns.Tie as tie
 
 -- from each call to the one before it
 abbrev to-start : tie.After-reduce → tie.Start
-to-start c = c .before .before .before .before .before .before .before .before .before .before .before .before .before
+to-start c = c .before .before .before .before .before .before .before .before .before .before .before .before
 
 abbrev to-reduce : tie.After-search-file → tie.After-reduce
-to-reduce c = c .before .before .before .before .before .before .before .before .before .before .before .before .before .before .before .before .before .before .before
+to-reduce c = c .before .before .before .before .before .before .before .before .before .before .before .before .before .before .before .before .before .before
 
 octets : (k : tie.After-reduce) → Octets (now (to-start k .args .task))
-octets k i = omega (arith, k .before .before .before .before .before .before .before .before .before .before .before .before .shared-slice-known .given i)
+octets k i = omega (arith, k .before .before .before .before .before .before .before .before .before .before .before .shared-slice-known .given i)
 
 small : (k : tie.After-reduce) → to-start k .args .signer < 2 ^ 32
 small k = omega (arith, to-start k .fits)
@@ -55,7 +55,7 @@ returns c =
             reduced-file _ _ _ _ _ _ _ (k .reduce .ensures .1 .1 .1 .0),
             (
               origin-file _ _ _ _ _ _ _ (k .reduce .ensures .1 .1 .1 .1),
-              (early-plan _ _ _ _ _ _ a d _, (early-table _ _ _ _ _ _ a d _ _, omega arith, omega arith)),
+              (early-plan _ _ _ _ _ _ a d _, (early-table _ _ _ _ _ _ a d _, omega arith, omega arith)),
             ),
           ),
         ),
@@ -69,7 +69,7 @@ part-search-file-start : tie.Need-part-search-file-start
 part-search-file-start c = search needs
 
 part-search-file-end : tie.Need-part-search-file-end
-part-search-file-end c = origin-fits _ _ _ 0 0 _ (c .before .before .before .before .before .before .before .before .before .before .before .before .before .before .before .reduce .ensures .0) (c .before .before .before .before .if1 .left) (octets (c .before .before .before .before .before .before .before .before .before .before .before .before .before .before .before)) (small (c .before .before .before .before .before .before .before .before .before .before .before .before .before .before .before)) _ _ (c .before .before .before .before .before .before .before .before .before .before .before .before .before .before .before .reduce .ensures .1 .1 .1 .1)
+part-search-file-end c = origin-fits _ _ _ 0 0 _ (c .before .before .before .before .before .before .before .before .before .before .before .before .before .before .reduce .ensures .0) (c .before .before .before .if1 .left) (octets (c .before .before .before .before .before .before .before .before .before .before .before .before .before .before)) (small (c .before .before .before .before .before .before .before .before .before .before .before .before .before .before)) _ _ (c .before .before .before .before .before .before .before .before .before .before .before .before .before .before .reduce .ensures .1 .1 .1 .1)
 
 sub-search-file-2 : tie.Need-sub-search-file-2
 sub-search-file-2 c = search needs
@@ -78,19 +78,18 @@ part-search-file-start-2 : tie.Need-part-search-file-start-2
 part-search-file-start-2 c = search needs
 
 part-search-file-end-2 : tie.Need-part-search-file-end-2
-part-search-file-end-2 c = reduced-fits _ _ _ 0 0 _ (c .before .before .before .before .before .before .before .before .before .before .before .before .before .before .before .before .before .reduce .ensures .0) (c .before .before .before .before .before .before .if1 .left) (octets (c .before .before .before .before .before .before .before .before .before .before .before .before .before .before .before .before .before)) (small (c .before .before .before .before .before .before .before .before .before .before .before .before .before .before .before .before .before)) _ _ (c .before .before .before .before .before .before .before .before .before .before .before .before .before .before .before .before .before .reduce .ensures .1 .1 .1 .0)
+part-search-file-end-2 c = reduced-fits _ _ _ 0 0 _ (c .before .before .before .before .before .before .before .before .before .before .before .before .before .before .before .before .reduce .ensures .0) (c .before .before .before .before .before .if1 .left) (octets (c .before .before .before .before .before .before .before .before .before .before .before .before .before .before .before .before)) (small (c .before .before .before .before .before .before .before .before .before .before .before .before .before .before .before .before)) _ _ (c .before .before .before .before .before .before .before .before .before .before .before .before .before .before .before .before .reduce .ensures .1 .1 .1 .0)
 
 search-file-requires : tie.Need-search-file-requires
 search-file-requires c κs =
-    let k = c .before .before .before .before .before .before .before .before .before .before .before .before .before .before .before .before .before .before in
+    let k = c .before .before .before .before .before .before .before .before .before .before .before .before .before .before .before .before .before in
     let s = to-start k in
     let a = k .reduce .ensures .0 in
-    let z = c .before .before .before .before .before .before .before .if1 .left in
+    let z = c .before .before .before .before .before .before .if1 .left in
     let f = reduced-part _ _ _ 0 0 _ a z (octets k) (small k) _ _ (k .reduce .ensures .1 .1 .1 .0) in
     let g = origin-part _ _ _ 0 0 _ a z (octets k) (small k) _ _ (k .reduce .ensures .1 .1 .1 .1) in (
       file-checked _ _ _ 0 0 _ a z (octets k) (small k) _ _ f g,
-      s .pre .0,
-      s .pre .1,
+      s .pre,
       enough-numbers _ _ _ 0 0 _ a z (octets k) (small k) _ _ f g,
     )
 
@@ -98,16 +97,16 @@ together-requires : tie.Need-together-requires
 together-requires c κs = search needs
 
 same-length-5 : tie.Need-same-length-5
-same-length-5 c = c .before .before .before .before .before .before .before .before .before .before .before .before .before .before .before .before .before .before .before .before .before .before .before .before .before .before .reduce .kept .1 .1 .1 .0
+same-length-5 c = c .before .before .before .before .before .before .before .before .before .before .before .before .before .before .before .before .before .before .before .before .before .before .before .reduce .kept .1 .1 .1 .0
 
 same-length-6 : tie.Need-same-length-6
-same-length-6 c = c .before .before .before .before .before .before .before .before .before .before .before .before .before .before .before .before .before .before .before .before .before .before .before .before .before .before .reduce .kept .1 .1 .1 .1 .0
+same-length-6 c = c .before .before .before .before .before .before .before .before .before .before .before .before .before .before .before .before .before .before .before .before .before .before .before .reduce .kept .1 .1 .1 .1 .0
 
 same-length-7 : tie.Need-same-length-7
-same-length-7 c = c .before .before .before .before .before .before .before .before .before .before .before .before .before .before .before .before .before .before .before .before .before .before .before .before .before .before .reduce .kept .1 .1 .1 .1 .1 .0
+same-length-7 c = c .before .before .before .before .before .before .before .before .before .before .before .before .before .before .before .before .before .before .before .before .before .before .before .reduce .kept .1 .1 .1 .1 .1 .0
 
 same-length-8 : tie.Need-same-length-8
-same-length-8 c = c .before .before .before .before .before .before .before .before .before .before .before .before .before .before .before .before .before .before .before .before .before .before .before .before .before .before .reduce .kept .1 .1 .1 .1 .1 .1 .0
+same-length-8 c = c .before .before .before .before .before .before .before .before .before .before .before .before .before .before .before .before .before .before .before .before .before .before .before .reduce .kept .1 .1 .1 .1 .1 .1 .0
 
 same-length-9 : tie.Need-same-length-9
 same-length-9 c = search needs
@@ -115,18 +114,15 @@ same-length-9 c = search needs
 same-length-10 : tie.Need-same-length-10
 same-length-10 c = search needs
 
-same-length-11 : tie.Need-same-length-11
-same-length-11 c = search needs
-
 returns-2 : tie.Need-returns-2
 returns-2 c =
-    let h = c .before .before .before .before .before .before .before in
-    let k = to-reduce h in
+    let h = c .before .before .before .before in
+    let k = to-reduce (h .before) in
     let a = k .reduce .ensures .0 in
     let z = h .before .before .before .before .before .before .before .before .if1 .left in
     let f = reduced-part _ _ _ 0 0 _ a z (octets k) (small k) _ _ (k .reduce .ensures .1 .1 .1 .0) in
     let g = origin-part _ _ _ 0 0 _ a z (octets k) (small k) _ _ (k .reduce .ensures .1 .1 .1 .1) in
-    let found = h .search-file .ensures .0 in
+    let found = h .before .search-file .ensures .0 in
     let answer = row-answer _ _ _ _ _ _ a z (octets k) (small k) _ _ f g _ found _ (c .together .ensures) in
     let bounded = filled-bounded _ _ _ (answer .1 ∙ found-states _ _ _ _ _ _ a z (octets k) (small k) _ _ f g _ found) in (
       answer .0,
@@ -139,8 +135,8 @@ returns-2 c =
             (
               origin-file _ _ _ _ _ _ _ (k .reduce .ensures .1 .1 .1 .1),
               (
-                row-plan _ _ _ _ _ _ a z (octets k) (small k) _ _ f g _ found _ _ (h .search-file .ensures .1 .1),
-                (ap (entriesIn _ _) (answer .1) ∙ row-table _ _ _ _ _ _ a z (octets k) (small k) _ _ f g _ found _ _ (h .search-file .ensures .1 .0), bounded .0, bounded .1),
+                row-plan _ _ _ _ _ _ a z (octets k) (small k) _ _ f g _ found _ _ (h .before .search-file .ensures .1 .1),
+                (ap (entriesIn _) (answer .1) ∙ row-table _ _ _ _ _ _ a z (octets k) (small k) _ _ f g _ found _ (h .before .search-file .ensures .1 .0), bounded .0, bounded .1),
               ),
             ),
           ),
@@ -173,5 +169,4 @@ plan-columns-spec =
     same-length-8
     same-length-9
     same-length-10
-    same-length-11
     returns-2)
