@@ -22,7 +22,7 @@ use Rattle.search.specs.declared.stages.Found.{Found}
 use Rattle.search.specs.States.{stateCount}
 use Rattle.search.specs.Table.{distances, tableOf}
 use Rattle.search.specs.FirstPlan.{startNumber, firstPlan}
-use Rattle.search.specs.Columns.{entriesIn}
+use Rattle.search.specs.Entries.{entriesIn}
 use Rattle.search.specs.Planner.{statesFit, planFits, searchBuffers, searchStages}
 use Rattle.search.specs.Found.{foundPlan, foundStates, notFound, SearchesRoom}
 use Rattle.search.proofs.Radix.{start-below}
@@ -43,9 +43,9 @@ module _ (t : Task) (room : ℕ) where
   states-fit h k = goes-le (stateCount (t .variables)) 4096 25 0 _ done _ _ refl refl h (goes-le (stateCount (t .variables)) room 21 (stateCount (t .variables)) _ done _ _ refl refl k refl)
 
 -- the entries of no states
-pub no-entries : (minutes steps : List ℕ) → entriesIn minutes steps 0 ≡ []
+pub no-entries : (numbers : List ℕ) → entriesIn numbers 0 ≡ []
 unfolding entriesIn
-no-entries minutes steps = refl
+no-entries numbers = refl
 
 -- the search of a task for whatever table of `room` entries, from what its parts came to
 module _ (t : Task) (original : List ℕ → List ℕ) (signer room : ℕ) (plan : List ℕ) where
@@ -54,24 +54,24 @@ module _ (t : Task) (original : List ℕ → List ℕ) (signer room : ℕ) (plan
 
   -- refused before the search: nothing is filled
   pub search-early : (o : Outcome) → o ≡ statesFit t room → (o .number ≡ 0 → ⊥) → (r : Found) → r ≡ notFound 0 o
-      → (minutes steps : List ℕ) → SearchesRoom t original signer room plan r (entriesIn minutes steps (r .states)) plan
+      → (numbers : List ℕ) → SearchesRoom t original signer room plan r (entriesIn numbers (r .states)) plan
   unfolding searchStages foundStates overwrite
-  search-early o e d r q minutes steps table len =
+  search-early o e d r q numbers table len =
       let is : o ≡ statesFit t (length table) = e ∙ ap (statesFit t) (sym len) in
       let no : isDone (statesFit t (length table)) ≡ false = ap isDone (sym is) ∙ is-refused o d in
-      let empty : entriesIn minutes steps (r .states) ≡ [] = ap (λ (x : Found). entriesIn minutes steps (x .states)) q ∙ no-entries minutes steps in
+      let empty : entriesIn numbers (r .states) ≡ [] = ap (λ (x : Found). entriesIn numbers (x .states)) q ∙ no-entries numbers in
       by-stop no (q ∙ ap (notFound 0) is ∙ rw no refl) (ap (λ (l : List Entry). searchBuffers (overwrite table l) plan) empty)
 
-  module _ (e : done ≡ statesFit t room) (minutes steps : List ℕ) (w : entriesIn minutes steps (stateCount (t .variables)) ≡ tableOf t) where
+  module _ (e : done ≡ statesFit t room) (numbers : List ℕ) (w : entriesIn numbers (stateCount (t .variables)) ≡ tableOf t) where
     fit : (table : List Entry) → length table ≡ room → isDone (statesFit t (length table)) ≡ true
     fit table len = is-yes _ (ap (statesFit t) len ∙ sym e)
 
-    table-is : (states : ℕ) → states ≡ stateCount (t .variables) → (table : List Entry) → overwrite table (entriesIn minutes steps states) ≡ overwrite table (tableOf t)
-    table-is states s table = ap (overwrite table) (ap (entriesIn minutes steps) s ∙ w)
+    table-is : (states : ℕ) → states ≡ stateCount (t .variables) → (table : List Entry) → overwrite table (entriesIn numbers states) ≡ overwrite table (tableOf t)
+    table-is states s table = ap (overwrite table) (ap (entriesIn numbers) s ∙ w)
 
     -- no plan, or no room for it: the table is filled
     pub search-late : (o : Outcome) → o ≡ planFits found-is signer (length plan) → (o .number ≡ 0 → ⊥) → (states : ℕ) → states ≡ stateCount (t .variables) → (r : Found) → r ≡ notFound states o
-        → SearchesRoom t original signer room plan r (entriesIn minutes steps (r .states)) plan
+        → SearchesRoom t original signer room plan r (entriesIn numbers (r .states)) plan
     unfolding searchStages foundStates
     search-late o p d states s r q table len =
         let no : isDone (planFits found-is signer (length plan)) ≡ false = ap isDone (sym p) ∙ is-refused o d in
@@ -83,7 +83,7 @@ module _ (t : Task) (original : List ℕ → List ℕ) (signer room : ℕ) (plan
     pub search-done : done ≡ planFits found-is signer (length plan) → (o : Outcome) → o ≡ done → (states bytes cost fewest : ℕ) → states ≡ stateCount (t .variables)
         → bytes ≡ length (planFile (original (foundPlan t)) signer) → cost ≡ totalOf t (foundPlan t) .minutes → fewest ≡ totalOf t (foundPlan t) .steps
         → (now : List ℕ) → now ≡ overwrite plan (planFile (Option·getD found-is []) signer)
-        → SearchesRoom t original signer room plan (record { outcome = o; states = states; plan = bytes; cost = record { 0 = cost }; steps = record { 0 = fewest } }) (entriesIn minutes steps states) now
+        → SearchesRoom t original signer room plan (record { outcome = o; states = states; plan = bytes; cost = record { 0 = cost }; steps = record { 0 = fewest } }) (entriesIn numbers states) now
     unfolding searchStages
     search-done p o z states bytes cost fewest s l m k now q table len =
         by-next (fit table len)

@@ -42,7 +42,7 @@ use Rattle.search.specs.States.{stateCount}
 use Rattle.search.specs.Table.{entry}
 use Rattle.search.specs.FirstPlan.{firstPlan}
 use Rattle.search.specs.Least.{PlanFirst}
-use Rattle.search.specs.Columns.{entriesIn}
+use Rattle.search.specs.Entries.{entriesIn}
 use Rattle.search.specs.Planner.{planLevel, searched, searchedStates, planFound, planMade, statesFit, planFits, SearchBuffers, searchBuffers, searchStages, lent, unplanned, planWhole, planStages}
 use Rattle.search.specs.Found.{foundPlan, foundStates, foundWhole, notFound, Searches, SearchesRoom, bothTogether, PlansRoom}
 use Rattle.search.proofs.FoundLaws.{no-entries, plan-is}
@@ -109,15 +109,15 @@ module _ (task : List ℕ) (signer : ℕ) (before : Buffers) (first : Reduced) (
 
   -- reduction refuses
   pub plans-early : (first .outcome .number ≡ 0 → ⊥) → (room : ℕ) (plan : List ℕ) (p : Planned) → p ≡ unplanned (first .outcome)
-      → (minutes steps : List ℕ) → PlansRoom task signer room before plan (record { planned = p; states = 0 }) after (entriesIn minutes steps 0) plan
+      → (numbers : List ℕ) → PlansRoom task signer room before plan (record { planned = p; states = 0 }) after (entriesIn numbers 0) plan
   unfolding planStages overwrite
-  plans-early d room plan p q minutes steps =
+  plans-early d room plan p q numbers =
       let n = row-refused d in
       let is : first .outcome ≡ outcomeOf files-row = ap (λ (x : Reduced). x .outcome) (given-refused k n) in
       record {
         plans = λ table len.
             by-first files-row (searchStages u (planFound task) signer (searchBuffers table plan)) _ _ before n (q ∙ ap unplanned is)
-            (λ i. lent (k .buffers i) (ap (overwrite table) (no-entries minutes steps) i) plan);
+            (λ i. lent (k .buffers i) (ap (overwrite table) (no-entries numbers) i) plan);
         states-inside = omega arith;
         states-few = omega arith;
       }

@@ -1,6 +1,6 @@
 // Search over the states of the reduced task, and the planner.
 // The call open to callers is plan; the module own_table serves the programs.
-mod columns;
+mod entries;
 mod first_plan;
 pub mod own_table;
 mod selection;
@@ -50,8 +50,7 @@ pub fn plan(
 ) -> Planned
     ensures { λ r. ⌜ PlansRight (now (task .entry)) signer (lentOf (now (actions .entry)) (now (facts .entry)) (now (reduced .entry)) (now (origin .entry)) (now (table .entry)) (now (plan .entry))) r (lentOf (now (actions .exit)) (now (facts .exit)) (now (reduced .exit)) (now (origin .exit)) (now (table .exit)) (now (plan .exit))) ⌝ }
 {
-    let mut minutes = [0u64; 4096];
-    let mut steps = [0u16; 4096];
+    let mut entries = [0u64; 8192];
     let room = table.len();
     let run = stages::plan_columns(
         task,
@@ -60,12 +59,11 @@ pub fn plan(
         facts,
         reduced,
         origin,
-        &mut minutes,
-        &mut steps,
+        &mut entries,
         room,
         plan,
     );
     let states = run.states;
-    work_table::fill(table, &minutes, &steps, states);
+    work_table::fill(table, &entries, states);
     run.planned
 }

@@ -16,8 +16,7 @@ pub fn plan(
 ) -> Planned
     ensures { λ r. ⌜ PlansAlone (now (task .entry)) signer (buffers (now (actions .entry)) (now (facts .entry)) (now (reduced .entry)) (now (origin .entry))) (now (plan .entry)) r (buffers (now (actions .exit)) (now (facts .exit)) (now (reduced .exit)) (now (origin .exit))) (now (plan .exit)) ⌝ }
 {
-    let mut minutes = [0u64; 4096];
-    let mut steps = [0u16; 4096];
+    let mut entries = [0u64; 8192];
     let run = stages::plan_columns(
         task,
         signer,
@@ -25,8 +24,7 @@ pub fn plan(
         facts,
         reduced,
         origin,
-        &mut minutes,
-        &mut steps,
+        &mut entries,
         4096,
         plan,
     );
