@@ -1,6 +1,7 @@
 // Origin files: the check of each record in the order of refusals.
 ghost use mathlib.Core.Path.{_≡_};
-ghost use Prim.Native.Nat.{_+_, _*_, _^_, _<_, _≤_};
+ghost use Prim.Native.Nat.{_+_, _*_, _^_, _<_};
+ghost use Rattle.files.specs.Contracts.{IsBelow, IsAtMost};
 ghost use Rattle.files.specs.OriginFile.{valuesIn, variableOriginAt, variableOriginsAt, actionOriginsAt, originVariablesIn, originActionsPlace};
 ghost use Rattle.files.specs.Records.{offsetLimit};
 use crate::Outcome;
@@ -11,7 +12,7 @@ use crate::records;
 
 // How many values the variable origin at `at` gives.
 fn values_in(s: &[u8], at: usize) -> usize
-    ensures { λ r. ⌜ (r ≡ valuesIn (now (s .entry)) at) × (r < 65536) ⌝ }
+    ensures { λ r. ⌜ IsBelow r (valuesIn (now (s .entry)) at) 65536 ⌝ }
 {
     let body = records::body_length(s, at);
     if body < 2 {
@@ -84,7 +85,7 @@ pub(crate) fn check_actions(s: &[u8], at: usize, count: usize) -> Outcome
 
 // How many records of kind 6 stand in a row at the file's start, counted up to 65.
 pub(crate) fn variables_in(s: &[u8]) -> usize
-    ensures { λ r. ⌜ (r ≡ originVariablesIn (now (s .entry))) × (r ≤ 65) ⌝ }
+    ensures { λ r. ⌜ IsAtMost r (originVariablesIn (now (s .entry))) 65 ⌝ }
 {
     let mut found: usize = 0;
     let mut place: usize = 0;
@@ -103,7 +104,7 @@ pub(crate) fn variables_in(s: &[u8]) -> usize
 
 // Where the record of kind 7 stands.
 pub fn actions_place(s: &[u8]) -> usize
-    ensures { λ r. ⌜ (r ≡ originActionsPlace (now (s .entry))) × (r < 8589934592) ⌝ }
+    ensures { λ r. ⌜ IsBelow r (originActionsPlace (now (s .entry))) 8589934592 ⌝ }
 {
     reader::records_after(s, 0, variables_in(s))
 }

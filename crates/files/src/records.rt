@@ -4,7 +4,8 @@ ghost use mathlib.Core.List.{_++_};
 ghost use Prim.Native.Nat.{_+_, _*_, _^_, _<_, _≤_};
 ghost use lib.ListN.{length};
 ghost use Rattle.files.specs.Bytes.{u16Bytes, u32Bytes, placed};
-ghost use Rattle.files.specs.Records.{offsetLimit, rule, bodyLength, kindAt, recordEnd, bodyRule, bodyFits, headAt, numbersAt, signOffAt, signerOf, recordBytes};
+ghost use Rattle.files.specs.Contracts.{IsBelow, IsRule};
+ghost use Rattle.files.specs.Records.{offsetLimit, rule, bodyLength, kindAt, recordEnd, bodyFits, headAt, numbersAt, signOffAt, signerOf, recordBytes};
 use crate::Outcome;
 use crate::bytes;
 use crate::outcomes;
@@ -28,7 +29,7 @@ fn lengths(least: usize, step: usize, limit: usize) -> Rule
 
 // The body length rule of each kind; no body fits an unknown one.
 fn body_rule(kind: usize) -> Rule
-    ensures { λ r. ⌜ (r ≡ bodyRule kind) × (0 < r .step) ⌝ }
+    ensures { λ r. ⌜ IsRule r kind ⌝ }
 {
     match kind {
         1 => lengths(4, 65536, 4),
@@ -44,7 +45,7 @@ fn body_rule(kind: usize) -> Rule
 }
 
 pub(crate) fn body_length(s: &[u8], at: usize) -> usize
-    ensures { λ r. ⌜ (r ≡ bodyLength (now (s .entry)) at) × (r < 65536) ⌝ }
+    ensures { λ r. ⌜ IsBelow r (bodyLength (now (s .entry)) at) 65536 ⌝ }
 {
     bytes::u16_at(s, at)
 }
@@ -59,7 +60,7 @@ pub(crate) fn kind_at(s: &[u8], at: usize) -> usize
 // Where the record at `at` ends.
 pub(crate) fn record_end(s: &[u8], at: usize) -> usize
     requires { ⌜ at < offsetLimit ⌝ }
-    ensures { λ r. ⌜ (r ≡ recordEnd (now (s .entry)) at) × (r < at + 65540) ⌝ }
+    ensures { λ r. ⌜ IsBelow r (recordEnd (now (s .entry)) at) (at + 65540) ⌝ }
 {
     at + 4 + body_length(s, at)
 }
@@ -144,7 +145,7 @@ pub(crate) fn check_sign_off(s: &[u8], at: usize) -> Outcome
 
 // The signer of an accepted file.
 pub fn signer(s: &[u8]) -> usize
-    ensures { λ r. ⌜ (r ≡ signerOf (now (s .entry))) × (r < 4294967296) ⌝ }
+    ensures { λ r. ⌜ IsBelow r (signerOf (now (s .entry))) 4294967296 ⌝ }
 {
     if s.len() < 8 {
         return bytes::u32_at(s, 0);

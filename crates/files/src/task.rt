@@ -1,7 +1,8 @@
 // Task files: the check of each record in the order of refusals.
 ghost use mathlib.Core.Path.{_≡_};
-ghost use Prim.Native.Nat.{_+_, _*_, _^_, _<_, _≤_};
+ghost use Prim.Native.Nat.{_+_, _*_, _^_, _<_};
 ghost use Rattle.files.specs.Bytes.{u16At};
+ghost use Rattle.files.specs.Contracts.{IsBelow, IsAtMost};
 ghost use Rattle.files.specs.Records.{offsetLimit};
 ghost use Rattle.files.specs.TaskFile.{headerAt, variablesIn, actionsIn, variableAt, variablesAt, sizeAt, pairAt, pairsAt, goalAt, conditionsIn, effectsIn, actionLength, effectsPlace, actionFormAt, actionAt, actionsAt, goalPlace, actionsPlace, actionPlace};
 use crate::Outcome;
@@ -12,13 +13,13 @@ use crate::records;
 
 // The counts that a header states.
 pub fn variables_in(s: &[u8]) -> usize
-    ensures { λ r. ⌜ (r ≡ variablesIn (now (s .entry))) × (r < 65536) ⌝ }
+    ensures { λ r. ⌜ IsBelow r (variablesIn (now (s .entry))) 65536 ⌝ }
 {
     bytes::u16_at(s, 4)
 }
 
 pub fn actions_in(s: &[u8]) -> usize
-    ensures { λ r. ⌜ (r ≡ actionsIn (now (s .entry))) × (r < 65536) ⌝ }
+    ensures { λ r. ⌜ IsBelow r (actionsIn (now (s .entry))) 65536 ⌝ }
 {
     bytes::u16_at(s, 6)
 }
@@ -143,14 +144,14 @@ pub(crate) fn check_goal(s: &[u8], at: usize) -> Outcome
 // The counts of an action record.
 pub fn conditions_in(s: &[u8], at: usize) -> usize
     requires { ⌜ at < offsetLimit ⌝ }
-    ensures { λ r. ⌜ (r ≡ conditionsIn (now (s .entry)) at) × (r < 65536) ⌝ }
+    ensures { λ r. ⌜ IsBelow r (conditionsIn (now (s .entry)) at) 65536 ⌝ }
 {
     bytes::u16_at(s, at + 8)
 }
 
 pub(crate) fn effects_in(s: &[u8], at: usize) -> usize
     requires { ⌜ at < offsetLimit ⌝ }
-    ensures { λ r. ⌜ (r ≡ effectsIn (now (s .entry)) at) × (r < 65536) ⌝ }
+    ensures { λ r. ⌜ IsBelow r (effectsIn (now (s .entry)) at) 65536 ⌝ }
 {
     bytes::u16_at(s, at + 10)
 }
@@ -158,7 +159,7 @@ pub(crate) fn effects_in(s: &[u8], at: usize) -> usize
 // Where the effects of the action record at `at` stand.
 pub(crate) fn effects_place(s: &[u8], at: usize) -> usize
     requires { ⌜ at < offsetLimit ⌝ }
-    ensures { λ r. ⌜ (r ≡ effectsPlace (now (s .entry)) at) × (r ≤ at + 262152) ⌝ }
+    ensures { λ r. ⌜ IsAtMost r (effectsPlace (now (s .entry)) at) (at + 262152) ⌝ }
 {
     at + 12 + 4 * conditions_in(s, at)
 }
@@ -235,20 +236,20 @@ pub(crate) fn check_actions(s: &[u8], at: usize, count: usize) -> Outcome
 
 // Where the goal, the first action and action `a` stand.
 pub(crate) fn goal_place(s: &[u8]) -> usize
-    ensures { λ r. ⌜ (r ≡ goalPlace (now (s .entry))) × (r < 600000) ⌝ }
+    ensures { λ r. ⌜ IsBelow r (goalPlace (now (s .entry))) 600000 ⌝ }
 {
     8 * variables_in(s) + 8
 }
 
 pub(crate) fn actions_place(s: &[u8]) -> usize
-    ensures { λ r. ⌜ (r ≡ actionsPlace (now (s .entry))) × (r < 700000) ⌝ }
+    ensures { λ r. ⌜ IsBelow r (actionsPlace (now (s .entry))) 700000 ⌝ }
 {
     reader::record_after(s, goal_place(s))
 }
 
 pub fn action_place(s: &[u8], a: usize) -> usize
     requires { ⌜ a < 65536 ⌝ }
-    ensures { λ r. ⌜ (r ≡ actionPlace (now (s .entry)) a) × (r < 8589934592) ⌝ }
+    ensures { λ r. ⌜ IsBelow r (actionPlace (now (s .entry)) a) 8589934592 ⌝ }
 {
     reader::records_after(s, actions_place(s), a)
 }
