@@ -10,6 +10,7 @@ ghost use Rattle.files.specs.Rows.{cleared, stored, filled, filledRows, 
 ghost use Rattle.files.specs.TaskFile.{pairsFrom, variablesFrom, actionsFrom};
 use crate::Outcome;
 use crate::bytes;
+use crate::limits;
 use crate::reader;
 use crate::records;
 use crate::task;
@@ -20,9 +21,9 @@ fn clear_row(row: &mut [u8], base: usize)
     ensures { λ r. ⌜ now (row .exit) ≡ cleared (now (row .entry)) base 64 ⌝ }
 {
     let mut at = base;
-    let mut left: usize = 64;
+    let mut left: usize = limits::ROW;
     while 0 < left {
-        row[at] = 255;
+        row[at] = limits::NO_PAIR;
         at += 1;
         left -= 1;
     }
@@ -33,7 +34,7 @@ fn store(row: &mut [u8], base: usize, variable: usize, value: usize)
     requires { ⌜ base + 64 ≤ length (now row) ⌝ }
     ensures { λ r. ⌜ now (row .exit) ≡ stored (now (row .entry)) base variable value ⌝ }
 {
-    if variable < 64 {
+    if variable < limits::ROW {
         row[base + variable] = (value % 256) as u8;
     }
 }
@@ -99,7 +100,7 @@ fn read_conditions(rows: &mut [u8], s: &[u8], at: usize, count: usize)
         let pairs = task::conditions_in(s, place);
         clear_row(rows, base);
         fill_row(rows, base, s, place + 12, pairs);
-        base += 64;
+        base += limits::ROW;
         place = reader::record_after(s, place);
         left -= 1;
     }
@@ -118,7 +119,7 @@ fn read_effects(rows: &mut [u8], s: &[u8], at: usize, count: usize)
         let from = task::effects_place(s, place);
         clear_row(rows, base);
         fill_row(rows, base, s, from, pairs);
-        base += 64;
+        base += limits::ROW;
         place = reader::record_after(s, place);
         left -= 1;
     }

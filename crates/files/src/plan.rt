@@ -8,6 +8,7 @@ ghost use Rattle.files.specs.Contracts.{IsBelow, Writable};
 ghost use Rattle.files.specs.PlanFile.{checkPlanFile, planOf};
 use crate::Outcome;
 use crate::bytes;
+use crate::limits;
 use crate::outcomes;
 use crate::reader;
 use crate::records;
@@ -16,10 +17,10 @@ use crate::records;
 pub fn check(s: &[u8], actions: usize) -> Outcome
     ensures { λ r. ⌜ r ≡ checkPlanFile actions (now (s .entry)) ⌝ }
 {
-    if 65536 < s.len() {
-        return outcomes::refuse(4, 0);
+    if limits::MOST_BYTES < s.len() {
+        return outcomes::refuse(outcomes::OUTSIDE_LIMITS, 0);
     }
-    let head = records::check_head(s, 0, 8);
+    let head = records::check_head(s, 0, records::PLAN);
     if head.number != 0 {
         return head;
     }
@@ -58,7 +59,7 @@ pub fn put_head(buffer: &mut [u8], steps: usize)
     requires { ⌜ Writable (steps ≤ 65536) 4 (now buffer) ⌝ }
     ensures { λ r. ⌜ now (buffer .exit) ≡ placed (now (buffer .entry)) 0 (u16Bytes (2 * steps) ++ u16Bytes 8) ⌝ }
 {
-    records::put_head(buffer, 0, 8, 2 * steps);
+    records::put_head(buffer, 0, records::PLAN, 2 * steps);
 }
 
 // Writes step `i`.

@@ -12,7 +12,11 @@ ghost use Rattle.files.specs.Outcome.{overwrite};
 ghost use Rattle.files.specs.Records.{recordBytes};
 ghost use Rattle.files.specs.TaskFile.{pairBytes, variableBytes, actionBody, actionBytes, taskFile};
 use crate::bytes;
+use crate::limits;
 use crate::records;
+
+// A cell without a pair, read as a number.
+const NO_PAIR: usize = limits::NO_PAIR as usize;
 
 // How many pairs the first `count` cells of the row at `base` have.
 fn pairs_in(rows: &[u8], base: usize, count: usize) -> usize
@@ -24,7 +28,7 @@ fn pairs_in(rows: &[u8], base: usize, count: usize) -> usize
     let mut left = count;
     while 0 < left {
         let value = bytes::byte_at(rows, base + v);
-        if value != 255 {
+        if value != NO_PAIR {
             found += 1;
         }
         v += 1;
@@ -51,7 +55,7 @@ fn put_pairs(buffer: &mut [u8], at: usize, rows: &[u8], base: usize, count: usiz
     let mut left = count;
     while 0 < left {
         let value = bytes::byte_at(rows, base + v);
-        if value != 255 {
+        if value != NO_PAIR {
             put_pair(buffer, place, v, value);
             place += 4;
         }
@@ -66,7 +70,7 @@ fn put_variable(buffer: &mut [u8], at: usize, size: usize, start: usize)
     requires { ⌜ at + 8 ≤ length (now buffer) ⌝ }
     ensures { λ r. ⌜ now (buffer .exit) ≡ placed (now (buffer .entry)) at (recordBytes 2 (u16Bytes size ++ u16Bytes start)) ⌝ }
 {
-    records::put_head(buffer, at, 2, 4);
+    records::put_head(buffer, at, records::VARIABLE, 4);
     bytes::put_u16(buffer, at + 4, size);
     bytes::put_u16(buffer, at + 6, start);
 }
@@ -97,7 +101,7 @@ fn put_header(buffer: &mut [u8], variables: usize, actions: usize)
     requires { ⌜ 8 ≤ length (now buffer) ⌝ }
     ensures { λ r. ⌜ now (buffer .exit) ≡ placed (now (buffer .entry)) 0 (recordBytes 1 (u16Bytes variables ++ u16Bytes actions)) ⌝ }
 {
-    records::put_head(buffer, 0, 1, 4);
+    records::put_head(buffer, 0, records::HEADER, 4);
     bytes::put_u16(buffer, 4, variables);
     bytes::put_u16(buffer, 6, actions);
 }
@@ -108,7 +112,7 @@ fn put_goal(buffer: &mut [u8], at: usize, goal: &[u8], variables: usize) -> usiz
     ensures { λ r. ⌜ Written (now (buffer .entry)) (now (buffer .exit)) at (recordBytes 3 (pairBytes (rowPairs (now (goal .entry)) 0 0 variables))) r (at + 4 + 4 * length (rowPairs (now (goal .entry)) 0 0 variables)) ⌝ }
 {
     let pairs = pairs_in(goal, 0, variables);
-    records::put_head(buffer, at, 3, 4 * pairs);
+    records::put_head(buffer, at, records::GOAL, 4 * pairs);
     put_pairs(buffer, at + 4, goal, 0, variables)
 }
 
@@ -117,7 +121,7 @@ fn action_needed(conditions: &[u8], effects: &[u8], a: usize, variables: usize) 
     requires { ⌜ ActionRows (now conditions) (now effects) variables a ⌝ }
     ensures { λ r. ⌜ IsAtMost r (actionNeeded variables (now (conditions .entry)) (now (effects .entry)) a) 524 ⌝ }
 {
-    let base = 64 * a;
+    let base = limits::ROW * a;
     12 + 4 * pairs_in(conditions, base, variables) + 4 * pairs_in(effects, base, variables)
 }
 
@@ -176,11 +180,11 @@ fn put_action(
     requires { ⌜ Writable (ActionCells (now costs) (now conditions) (now effects) variables a) (at + actionNeeded variables (now conditions) (now effects) a) (now buffer) ⌝ }
     ensures { λ r. ⌜ Written (now (buffer .entry)) (now (buffer .exit)) at (recordBytes 4 (actionBody (rowAction variables (now (costs .entry)) (now (conditions .entry)) (now (effects .entry)) a))) r (at + actionNeeded variables (now (conditions .entry)) (now (effects .entry)) a) ⌝ }
 {
-    let base = 64 * a;
+    let base = limits::ROW * a;
     let asked = pairs_in(conditions, base, variables);
     let set = pairs_in(effects, base, variables);
     let cost = costs[a] as usize;
-    records::put_head(buffer, at, 4, 8 + 4 * asked + 4 * set);
+    records::put_head(buffer, at, records::ACTION, 8 + 4 * asked + 4 * set);
     put_counts(buffer, at + 4, cost, asked, set);
     let middle = put_pairs(buffer, at + 12, conditions, base, variables);
     put_pairs(buffer, middle, effects, base, variables)

@@ -11,6 +11,7 @@ ghost use Rattle.files.specs.OriginFile.{originFile, variableOriginBytes
 ghost use Rattle.files.specs.Outcome.{overwrite};
 ghost use Rattle.files.specs.Records.{recordBytes, numberBytes};
 use crate::bytes;
+use crate::limits;
 use crate::records;
 
 // How many bytes the records of `count` variable origins take.
@@ -66,9 +67,9 @@ fn put_origin(
     ensures { λ r. ⌜ Written (now (buffer .entry)) (now (buffer .exit)) at (recordBytes 6 (originBody (rowOrigin (now (numbers .entry)) (now (sizes .entry)) (now (values .entry)) i))) r (at + (6 + 2 * getD (now (sizes .entry)) i 0)) ⌝ }
 {
     let size = bytes::byte_at(sizes, i);
-    records::put_head(buffer, at, 6, 2 + 2 * size);
+    records::put_head(buffer, at, records::VARIABLE_ORIGIN, 2 + 2 * size);
     bytes::put_u16(buffer, at + 4, bytes::byte_at(numbers, i));
-    put_values(buffer, at + 6, values, 32 * i, size);
+    put_values(buffer, at + 6, values, limits::MOST_VALUES * i, size);
     at + (6 + 2 * size)
 }
 
@@ -125,7 +126,7 @@ pub fn write_origin(
     ensures { λ r. ⌜ now (buffer .exit) ≡ overwrite (now (buffer .entry)) (originFile (heldOrigin (originArrays variables actions (now (numbers .entry)) (now (sizes .entry)) (now (values .entry)) (now (originals .entry)))) signer) ⌝ }
 {
     let at = put_origins(buffer, numbers, sizes, values, variables);
-    records::put_head(buffer, at, 7, 2 * actions);
+    records::put_head(buffer, at, records::ACTION_ORIGIN, 2 * actions);
     put_originals(buffer, at + 4, originals, actions);
     records::put_sign_off(buffer, at + 4 + 2 * actions, signer);
 }
