@@ -2,13 +2,14 @@
 use Prim.Native.Nat.{ℕ, _≤_}
 use mathlib.Core.Path.{_≡_, refl, sym, ap, _∙_}
 use mathlib.Core.Bool.{true, false, cond}
-use mathlib.Core.List.{List}
+use mathlib.Core.List.{List, [], _∷_, _++_, map}
 use lib.Dec.{leb}
 use borrow.Author.Tests.{le-leb}
 use Rattle.files.specs.declared.Outcome.{Outcome}
 use Rattle.files.specs.Outcome.{done, isDone, andThen, fits, overwrite, after}
+use Rattle.files.specs.Stages.{Stage, stage, outcomeOf, leftBy, ByStages}
 use Rattle.files.proofs.Guards.{guard-passes, is-done}
-use Rattle.files.proofs.Logic.{split}
+use Rattle.files.proofs.Logic.{split, clash}
 
 pub is-yes : (o : Outcome) → o ≡ done → isDone o ≡ true
 is-yes o q = is-done o (ap (λ (x : Outcome). x .number) q)
@@ -50,3 +51,54 @@ pub answer-by : {A : Type 0} (o row : Outcome) (some whole : A) (beside : Outcom
 answer-by o row some whole beside e w =
     split (isDone o) (λ y. rw y (w y)) (λ n. rw n refl)
     ∙ ap (λ (x : Outcome). cond (isDone x) whole (beside x)) e
+
+-- a row in two parts
+module _ {B : Type 0} where
+  pub outcome-both : (first second : List (Stage B)) → outcomeOf (first ++ second) ≡ andThen (outcomeOf first) (outcomeOf second)
+  outcome-both [] second = sym (both-yes done _ (is-yes done refl))
+  outcome-both (s ∷ first) second =
+      ap (andThen (s .outcome)) (outcome-both first second) ∙ sym (both-both (s .outcome) (outcomeOf first) (outcomeOf second))
+
+  pub left-both : (first second : List (Stage B)) (b : B) → isDone (outcomeOf first) ≡ true → leftBy (first ++ second) b ≡ leftBy second (leftBy first b)
+  left-both [] second b e = refl
+  left-both (s ∷ first) second b e =
+      split (isDone (s .outcome))
+      (λ y. rw y (left-both first second (s .leaves) (ap isDone (sym (both-yes (s .outcome) (outcomeOf first) y)) ∙ e)))
+      (λ n. clash (sym (ap isDone (both-no (s .outcome) (outcomeOf first) n)) ∙ e) n)
+
+  pub left-first : (first second : List (Stage B)) (b : B) → isDone (outcomeOf first) ≡ false → leftBy (first ++ second) b ≡ leftBy first b
+  left-first [] second b e = clash (is-yes done refl) e
+  left-first (s ∷ first) second b e =
+      split (isDone (s .outcome))
+      (λ y. rw y (left-first first second (s .leaves) (ap isDone (sym (both-yes (s .outcome) (outcomeOf first) y)) ∙ e)))
+      (λ n. rw n refl)
+
+-- a row beside buffers that it does not touch
+module _ {B C : Type 0} (beside : B → C) where
+  abbrev pub lifted : Stage B → Stage C
+  lifted s = stage (s .outcome) (beside (s .leaves))
+
+  pub outcome-lifted : (stages : List (Stage B)) → outcomeOf (map lifted stages) ≡ outcomeOf stages
+  outcome-lifted [] = refl
+  outcome-lifted (s ∷ stages) = ap (andThen (s .outcome)) (outcome-lifted stages)
+
+  pub left-lifted : (stages : List (Stage B)) (b : B) → leftBy (map lifted stages) (beside b) ≡ beside (leftBy stages b)
+  left-lifted [] b = refl
+  left-lifted (s ∷ stages) b = split (isDone (s .outcome)) (λ y. rw y (left-lifted stages (s .leaves))) (λ n. rw n refl)
+
+-- a call by its stages, one after the other: the last is done, one is refused, one is done
+module _ {A B : Type 0} {whole : A} {beside : Outcome → A} {given : A} {now : B} where
+  pub by-end : {before : B} → given ≡ whole → now ≡ before → ByStages [] whole beside before given now
+  unfolding isDone
+  by-end e q = record { answer = e; buffers = q }
+
+  module _ {stages : List (Stage B)} {before leaves : B} {o : Outcome} where
+    pub by-stop : isDone o ≡ false → given ≡ beside o → now ≡ before → ByStages (stage o leaves ∷ stages) whole beside before given now
+    by-stop n e q =
+        let is = both-no o (outcomeOf stages) n in
+        record { answer = e ∙ sym (ap (λ (x : Outcome). cond (isDone x) whole (beside x)) is ∙ rw n refl); buffers = q ∙ rw n refl }
+
+    pub by-next : isDone o ≡ true → ByStages stages whole beside leaves given now → ByStages (stage o leaves ∷ stages) whole beside before given now
+    by-next y k =
+        let is = both-yes o (outcomeOf stages) y in
+        record { answer = k .answer ∙ sym (ap (λ (x : Outcome). cond (isDone x) whole (beside x)) is); buffers = k .buffers ∙ rw y refl }

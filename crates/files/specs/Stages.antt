@@ -24,9 +24,17 @@ abbrev pub leftBy : {B : Type 0} → List (Stage B) → B → B
 leftBy [] b = b
 leftBy (s ∷ stages) b = cond (isDone (s .outcome)) (leftBy stages (s .leaves)) b
 
--- what a call answers and leaves: an outcome of its list; the whole answer where every stage is done, and beside a
--- refusal nothing; and each lent buffer
-pub record Answers {A B : Type 0} (refusals : List Refusal) (stages : List (Stage B)) (whole : A) (beside : Outcome → A) (before : B) (answer : A) (now : B) : Type 0 where
+-- the answer of a call: the whole where every stage is done, and beside a refusal nothing
+abbrev pub answerBy : {A B : Type 0} → List (Stage B) → A → (Outcome → A) → A
+answerBy stages whole beside = cond (isDone (outcomeOf stages)) whole (beside (outcomeOf stages))
+
+-- a call by its stages: what it answers, and what each lent buffer holds now
+pub record ByStages {A B : Type 0} (stages : List (Stage B)) (whole : A) (beside : Outcome → A) (before : B) (given : A) (now : B) : Type 0 where
+  pub answer : given ≡ answerBy stages whole beside
+  pub buffers : now ≡ leftBy stages before
+
+-- the same, with an outcome of the call's list of refusals
+pub record Answers {A B : Type 0} (refusals : List Refusal) (stages : List (Stage B)) (whole : A) (beside : Outcome → A) (before : B) (given : A) (now : B) : Type 0 where
   pub outcome : listed refusals (outcomeOf stages) ≡ true
-  pub numbers : answer ≡ cond (isDone (outcomeOf stages)) whole (beside (outcomeOf stages))
+  pub numbers : given ≡ answerBy stages whole beside
   pub buffers : now ≡ leftBy stages before

@@ -14,7 +14,7 @@ pub mod FilesPreserved
 pub mod FreshMarks
 pub mod NamedHeld
 pub mod ReducedHeld
-pub mod Filled
+pub mod FilledArrays
 pub mod ReduceStages
 pub mod StretchLaws
 pub mod StretchRight

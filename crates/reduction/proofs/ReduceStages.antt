@@ -1,7 +1,7 @@
--- The row of marking and reduction: its outcome, its answer and its buffers, from those of its stages.
+-- Reduction's stages: its answer and its buffers, from what marking and the writing of both files came to.
 use Prim.Native.Nat.{ℕ, _≤_, _<_}
-use mathlib.Core.Path.{_≡_, refl, sym, ap, ap₂, _∙_}
-use mathlib.Core.Bool.{Bool, true, false, cond}
+use mathlib.Core.Path.{_≡_, refl, sym, ap, subst, _∙_}
+use mathlib.Core.Bool.{true, false}
 use mathlib.Core.List.{List, map}
 use native.Mathlib.Omega.{arith}
 use lib.Dec.{leb}
@@ -10,45 +10,30 @@ use borrow.Author.Tests.{le-leb, lt-leb}
 use Rattle.files.specs.declared.Outcome.{Outcome}
 use Rattle.files.specs.Below.{bit}
 use Rattle.files.specs.Dense.{Arrays, held}
-use Rattle.files.specs.OriginFile.{Origin, originFile}
-use Rattle.files.specs.Outcome.{refusal, isDone, andThen, overwrite, after}
+use Rattle.files.specs.OriginFile.{Origin}
+use Rattle.files.specs.Outcome.{done, refusal, isDone, andThen, overwrite, after}
 use Rattle.files.specs.Task.{Task, actionCount, factCount}
-use Rattle.files.specs.TaskFile.{checkTask, taskOf, taskFile}
+use Rattle.files.specs.TaskFile.{checkTask, taskOf}
 use Rattle.files.proofs.BelowLaws.{map-entry}
 use Rattle.files.proofs.Guards.{goes-on, stops, guard-passes, guard-refuses, is-done, is-refused, after-done, after-refused}
-use Rattle.files.proofs.Logic.{cond-case}
+use Rattle.files.proofs.Stages.{is-yes, both-yes, by-end, by-stop, by-next}
 use Rattle.files.proofs.Valid.{Valid}
 use Rattle.marking.specs.declared.Marked.{Marked}
 use Rattle.marking.specs.Rounds.{marking}
-use Rattle.marking.specs.Mark.{validLevel, marksFit, noMarks, markAnswer, actionMarksOf, factMarksOf}
+use Rattle.marking.specs.Mark.{validLevel, marksFit, markAnswer, actionMarksOf, factMarksOf}
 use Rattle.marking.proofs.HeldTask.{actions-held}
 use Rattle.marking.proofs.MarkLaws.{answer-outcome, actions-long, action-marks-long}
 use Rattle.reduction.specs.declared.Reduced.{Reduced}
-use Rattle.reduction.specs.Reduce.{Rooms, rooms, reducedFile, originsFile, filesFit, markStage, reduceStage, noFiles, reduceAnswer, reduce, reducedActionMarks, reducedFactMarks, reducedBuffer, originBuffer}
+use Rattle.reduction.specs.declared.arrays.Written.{Written}
+use Rattle.reduction.specs.Filled.{Writes}
+use Rattle.reduction.specs.Reduce.{Buffers, buffers, reducedFile, originsFile, filesFit, reduceInput, reduceStages, noFiles, ReducesTask, Reduces}
 use Rattle.reduction.specs.Task.{keptAt, reducedBy, originBy, reducedTask, originsAt}
 
-answer-of : (o : Outcome) (t : Task) (level signer : ℕ) → reduceAnswer o t level signer .outcome ≡ o
-unfolding reduceAnswer
-answer-of o t level signer = cond-case (λ (x : Reduced). x .outcome ≡ o) (isDone o) _ (noFiles o) (λ e. refl) (λ e. refl)
-
--- files of the same task and origins
-module _ (h t : Task) (e : h ≡ t) (signer : ℕ) where
-  pub task-length : length (taskFile h signer) ≡ length (taskFile t signer)
-  task-length = ap (λ (x : Task). length (taskFile x signer)) e
-
-  pub task-after : (o : Outcome) (old : List ℕ) → after o (taskFile h signer) old ≡ after o (taskFile t signer) old
-  task-after o old = ap (λ (x : Task). after o (taskFile x signer) old) e
-
-  module _ (g o : Origin) (f : g ≡ o) where
-    pub fit-alike : (reducedRoom originRoom : ℕ) → filesFit h g signer reducedRoom originRoom ≡ filesFit t o signer reducedRoom originRoom
-    fit-alike reducedRoom originRoom = ap₂ (λ (x : Task) (y : Origin). filesFit x y signer reducedRoom originRoom) e f
-
-module _ (g o : Origin) (f : g ≡ o) (signer : ℕ) where
-  pub origin-length : length (originFile g signer) ≡ length (originFile o signer)
-  origin-length = ap (λ (y : Origin). length (originFile y signer)) f
-
-  pub origin-after : (x : Outcome) (old : List ℕ) → after x (originFile g signer) old ≡ after x (originFile o signer) old
-  origin-after x old = ap (λ (y : Origin). after x (originFile y signer) old) f
+-- the files of the same task and origins
+pub writes-alike : (h t : Task) (g o : Origin) (signer : ℕ) (reduced origin : List ℕ) (w : Written) (reduced′ origin′ : List ℕ) → h ≡ t → g ≡ o
+    → Writes h g signer reduced origin w reduced′ origin′ → Writes t o signer reduced origin w reduced′ origin′
+writes-alike h t g o signer reduced origin w reduced′ origin′ e f k =
+    subst (λ (x : Task). Writes x o signer reduced origin w reduced′ origin′) e (subst (λ (y : Origin). Writes h y signer reduced origin w reduced′ origin′) f k)
 
 -- the marks that a buffer holds
 pub kept-bits : (d : Arrays) (ok : Valid (held d)) (level : ℕ) (o : Outcome) (old marks : List ℕ) → o .number ≡ 0 → marks ≡ after o (actionMarksOf (held d) level) old
@@ -72,138 +57,89 @@ marks-room d ok level o old marks z e =
       actions-held d,
     )
 
--- a buffer by the outcome that is handed back
-pub after-outcome : (r : Reduced) (o : Outcome) (new result old : List ℕ) → r ≡ noFiles o → new ≡ after o result old → new ≡ after (r .outcome) result old
-after-outcome r o new result old q e = e ∙ ap (λ (x : Reduced). after (x .outcome) result old) (sym q)
+-- the stages, from what marking and the writing of both files came to
+module _ (t : Task) (level signer : ℕ) (b : Buffers) (marked : Marked) (m : marked ≡ markAnswer (marksFit t (length (b .actions)) (length (b .facts))) t level)
+    (actions facts : List ℕ) (a : actions ≡ after (marked .outcome) (actionMarksOf t level) (b .actions)) (f : facts ≡ after (marked .outcome) (factMarksOf t level) (b .facts)) where
+  marks : Outcome
+  marks = marksFit t (length (b .actions)) (length (b .facts))
 
-module _ (t : Task) (level signer : ℕ) (actionRoom factRoom reducedRoom originRoom : ℕ) where
-  abbrev pub both : Outcome
-  both = andThen (marksFit t actionRoom factRoom) (filesFit (reducedTask t level) (originsAt t level) signer reducedRoom originRoom)
+  -- the first stage's outcome is marking's
+  first-is : andThen done marks ≡ marked .outcome
+  unfolding marks
+  first-is = both-yes done marks (is-yes done refl) ∙ sym (ap (λ (x : Marked). x .outcome) m ∙ answer-outcome marks t level)
 
-  answer-refused : (r : Reduced) (o : Outcome) → o ≡ both → (o .number ≡ 0 → ⊥) → r ≡ noFiles o → r ≡ reduceAnswer both t level signer
-  unfolding reduceAnswer
-  answer-refused r o e d q = rw (← e, is-refused o d) q
+  pub marks-refused : (marked .outcome .number ≡ 0 → ⊥) → (r : Reduced) → r ≡ noFiles (marked .outcome) → ReducesTask done t level signer b r (buffers actions facts (b .reduced) (b .origin))
+  unfolding reduceStages marks
+  marks-refused d r q =
+      by-stop (ap isDone first-is ∙ is-refused (marked .outcome) d) (q ∙ ap noFiles (sym first-is))
+      (λ i. buffers ((a ∙ after-refused (marked .outcome) (actionMarksOf t level) (b .actions) d) i) ((f ∙ after-refused (marked .outcome) (factMarksOf t level) (b .facts) d) i) (b .reduced) (b .origin))
 
-  module _ (marked : Marked) (m : marked ≡ markAnswer (marksFit t actionRoom factRoom) t level) where
-    pub first-is : marked .outcome ≡ marksFit t actionRoom factRoom
-    first-is = ap (λ (x : Marked). x .outcome) m ∙ answer-outcome (marksFit t actionRoom factRoom) t level
+  module _ (z : marked .outcome .number ≡ 0) (w : Written) (reduced origin : List ℕ) (k : Writes (reducedBy t (keptAt t level)) (originBy t (keptAt t level)) signer (b .reduced) (b .origin) w reduced origin) where
+    marks-are : actions ≡ overwrite (b .actions) (actionMarksOf t level)
+    marks-are = a ∙ after-done (marked .outcome) (actionMarksOf t level) (b .actions) z
 
-    pub marks-after : (new result old : List ℕ) → new ≡ after (marked .outcome) result old → new ≡ after (marksFit t actionRoom factRoom) result old
-    marks-after new result old e = e ∙ ap (λ (o : Outcome). after o result old) first-is
+    facts-are : facts ≡ overwrite (b .facts) (factMarksOf t level)
+    facts-are = f ∙ after-done (marked .outcome) (factMarksOf t level) (b .facts) z
 
-    pub row-first : (r : Reduced) → (marked .outcome .number ≡ 0 → ⊥) → r ≡ noFiles (marked .outcome) → r ≡ reduceAnswer both t level signer
-    row-first r d q = answer-refused r (marked .outcome) (stops (marksFit t actionRoom factRoom) _ (marked .outcome) first-is d) d q
+    first-done : isDone (andThen done marks) ≡ true
+    first-done = ap isDone first-is ∙ is-done (marked .outcome) z
 
-    module _ (z : marked .outcome .number ≡ 0) (o : Outcome) (e : o ≡ filesFit (reducedBy t (keptAt t level)) (originBy t (keptAt t level)) signer reducedRoom originRoom) where
-      second-is : o ≡ both
-      unfolding reducedTask originsAt
-      second-is = goes-on (marksFit t actionRoom factRoom) _ o (marked .outcome) first-is z e
+    second-is : filesFit (reducedTask t level) (originsAt t level) signer (length (b .reduced)) (length (b .origin)) ≡ w .outcome
+    unfolding reducedTask originsAt
+    second-is = sym (k .outcome)
 
-      pub row-second : (r : Reduced) → (o .number ≡ 0 → ⊥) → r ≡ noFiles o → r ≡ reduceAnswer both t level signer
-      row-second r d q = answer-refused r o second-is d q
+    pub files-refused : (w .outcome .number ≡ 0 → ⊥) → (r : Reduced) → r ≡ noFiles (w .outcome) → ReducesTask done t level signer b r (buffers actions facts reduced origin)
+    unfolding reduceStages marks
+    files-refused d r q =
+        by-next first-done
+        (by-stop (ap isDone second-is ∙ is-refused (w .outcome) d) (q ∙ ap noFiles (sym second-is))
+        (λ i. buffers (marks-are i) (facts-are i) ((k .reduced ∙ after-refused (w .outcome) _ (b .reduced) d) i) ((k .origin ∙ after-refused (w .outcome) _ (b .origin) d) i)))
 
-      lengths : (marked .«action_marks» ≡ actionCount t) × (marked .«fact_marks» ≡ factCount t) × (marked .rounds ≡ marking t level .rounds)
-      unfolding markAnswer
-      lengths =
-          let full : Marked = record { outcome = marksFit t actionRoom factRoom; «action_marks» = actionCount t; «fact_marks» = factCount t; rounds = marking t level .rounds } in
-          let whole : marked ≡ full =
-          m ∙ ap (λ (b : Bool). cond b full (noMarks (marksFit t actionRoom factRoom))) (is-done (marksFit t actionRoom factRoom) (sym (ap (λ (x : Outcome). x .number) first-is) ∙ z)) in
-          (ap (λ (x : Marked). x .«action_marks») whole, ap (λ (x : Marked). x .«fact_marks») whole, ap (λ (x : Marked). x .rounds) whole)
+    lengths : marked ≡ record { outcome = marks; «action_marks» = actionCount t; «fact_marks» = factCount t; rounds = marking t level .rounds }
+    unfolding markAnswer marks
+    lengths =
+        let marked-done = sym (ap (λ (x : Marked). x .outcome .number) m ∙ ap (λ (x : Outcome). x .number) (answer-outcome marks t level)) ∙ z in
+        m ∙ rw (is-done marks marked-done) refl
 
-      pub row-done : (reduced origin : ℕ) → o .number ≡ 0 → reduced ≡ length (taskFile (reducedBy t (keptAt t level)) signer) → origin ≡ length (originFile (originBy t (keptAt t level)) signer)
-          → record { outcome = o; «action_marks» = marked .«action_marks»; «fact_marks» = marked .«fact_marks»; reduced = reduced; origin = origin; rounds = marked .rounds } ≡ reduceAnswer both t level signer
-      unfolding reduceAnswer reducedFile originsFile reducedTask originsAt
-      row-done reduced origin w a b =
-          let n = lengths in
-          rw (← second-is, is-done o w) (λ i. record { outcome = o; «action_marks» = n .0 i; «fact_marks» = n .1 i; reduced = a i; origin = b i; rounds = n .2 i })
+    pub files-written : w .outcome .number ≡ 0 → (o : Outcome) → o ≡ done
+        → ReducesTask done t level signer b (record { outcome = o; «action_marks» = marked .«action_marks»; «fact_marks» = marked .«fact_marks»; reduced = w .reduced; origin = w .origin; rounds = marked .rounds }) (buffers actions facts reduced origin)
+    unfolding reduceStages marks reducedFile originsFile reducedTask originsAt
+    files-written y o q =
+        by-next first-done
+        (by-next (ap isDone second-is ∙ is-done (w .outcome) y)
+        (by-end
+        (λ i. record { outcome = q i; «action_marks» = lengths i .«action_marks»; «fact_marks» = lengths i .«fact_marks»; reduced = k .reduced-length i; origin = k .origin-length i; rounds = lengths i .rounds })
+        (λ i. buffers (marks-are i) (facts-are i) ((k .reduced ∙ after-done (w .outcome) _ (b .reduced) y) i) ((k .origin ∙ after-done (w .outcome) _ (b .origin) y) i))))
 
-  -- a buffer of a stage that is not reached
-  pub buffer-untouched : (r : Reduced) (o : Outcome) (result old : List ℕ) → r ≡ noFiles o → (o .number ≡ 0 → ⊥) → old ≡ after (r .outcome) result old
-  buffer-untouched r o result old q d = sym (after-refused (r .outcome) result old (λ z. d (sym (ap (λ (x : Reduced). x .outcome .number) q) ∙ z)))
+-- reduction called alone: the file, the level and the signer, then the stages
+module _ (file : List ℕ) (level signer : ℕ) where
+  -- a refusal of what is given leaves every buffer untouched
+  pub input-refused : (b : Buffers) (o : Outcome) → o ≡ reduceInput file level signer → (o .number ≡ 0 → ⊥) → (r : Reduced) → r ≡ noFiles o → Reduces file level signer b r b
+  unfolding reduceStages
+  input-refused b o is d r q =
+      let whole = stops (reduceInput file level signer) (marksFit (taskOf file) (length (b .actions)) (length (b .facts))) o is d in
+      by-stop (ap isDone (sym whole) ∙ is-refused o d) (q ∙ ap noFiles whole) refl
 
--- the stages of reduction called alone: the file, the level, the signer, then the row
-module _ (file : List ℕ) (level signer actionRoom factRoom reducedRoom originRoom : ℕ) (read : Outcome) (e : read ≡ checkTask file) where
-  abbrev room : Rooms
-  room = rooms actionRoom factRoom reducedRoom originRoom
+  module _ (read : Outcome) (e : read ≡ checkTask file) where
+    pub refused-file : (read .number ≡ 0 → ⊥) → read ≡ reduceInput file level signer
+    unfolding reduceInput
+    refused-file d = stops (checkTask file) _ read e d
 
-  -- a refusal before any stage writes
-  pub record Early (o : Outcome) : Type 0 where
-    pub refused : o .number ≡ 0 → ⊥
-    pub marks : o ≡ markStage file level signer room
+    module _ (z : read .number ≡ 0) where
+      pub refused-level : (o : Outcome) → validLevel level ≡ false → o ≡ refusal 8 0 → o ≡ reduceInput file level signer
+      unfolding reduceInput
+      refused-level o v q = goes-on (checkTask file) _ o read e z (guard-refuses (validLevel level) 8 0 _ o v q)
 
-  pub early-file : (read .number ≡ 0 → ⊥) → Early read
-  unfolding markStage
-  early-file d = record { refused = d; marks = stops (checkTask file) _ read e d }
+      pub refused-signer : (o : Outcome) → validLevel level ≡ true → signer < 1 → o ≡ refusal 7 0 → o ≡ reduceInput file level signer
+      unfolding reduceInput
+      refused-signer o v h q = goes-on (checkTask file) _ o read e z (guard-passes (validLevel level) 8 0 _ o v (guard-refuses (leb 1 signer) 7 0 _ o (lt-leb 1 signer h) q))
 
-  module _ (z : read .number ≡ 0) where
-    pub early-level : (o : Outcome) → (o .number ≡ 0 → ⊥) → validLevel level ≡ false → o ≡ refusal 8 0 → Early o
-    unfolding markStage
-    early-level o d v q = record { refused = d; marks = goes-on (checkTask file) _ o read e z (guard-refuses (validLevel level) 8 0 _ o v q) }
+      input-done : validLevel level ≡ true → 1 ≤ signer → done ≡ reduceInput file level signer
+      unfolding reduceInput
+      input-done v h = goes-on (checkTask file) _ done read e z (guard-passes (validLevel level) 8 0 _ done v (guard-passes (leb 1 signer) 7 0 _ done (le-leb 1 signer h) refl))
 
-    pub early-signer : (o : Outcome) → (o .number ≡ 0 → ⊥) → validLevel level ≡ true → signer < 1 → o ≡ refusal 7 0 → Early o
-    unfolding markStage
-    early-signer o d v h q =
-        record {
-          refused = d;
-          marks = goes-on (checkTask file) _ o read e z (guard-passes (validLevel level) 8 0 _ o v (guard-refuses (leb 1 signer) 7 0 _ o (lt-leb 1 signer h) q));
-        }
-
-    stage-marks : validLevel level ≡ true → 1 ≤ signer → marksFit (taskOf file) actionRoom factRoom ≡ markStage file level signer room
-    unfolding markStage
-    stage-marks v h = goes-on (checkTask file) _ (marksFit (taskOf file) actionRoom factRoom) read e z (guard-passes (validLevel level) 8 0 _ _ v (guard-passes (leb 1 signer) 7 0 _ _ (le-leb 1 signer h) refl))
-
-    module _ (v : validLevel level ≡ true) (h : 1 ≤ signer) (t : Task) (is : t ≡ taskOf file) (r : Reduced) (a : r ≡ reduceAnswer (both t level signer actionRoom factRoom reducedRoom originRoom) t level signer) where
-      stage-both : both t level signer actionRoom factRoom reducedRoom originRoom ≡ reduceStage file level signer room
-      unfolding reduceStage
-      stage-both =
-          ap (λ (x : Task). both x level signer actionRoom factRoom reducedRoom originRoom) is
-          ∙ ap (λ (o : Outcome). andThen o (filesFit (reducedTask (taskOf file) level) (originsAt (taskOf file) level) signer reducedRoom originRoom)) (stage-marks v h)
-
-      pub alone-answer : r ≡ reduce file level signer room
-      unfolding reduce
-      alone-answer = a ∙ ap₂ (λ (o : Outcome) (x : Task). reduceAnswer o x level signer) stage-both is
-
-      pub alone-actions : (new old : List ℕ) → new ≡ after (marksFit t actionRoom factRoom) (actionMarksOf t level) old → new ≡ reducedActionMarks file level signer room old
-      unfolding reducedActionMarks
-      alone-actions new old q = q ∙ ap₂ (λ (o : Outcome) (x : Task). after o (actionMarksOf x level) old) (ap (λ (x : Task). marksFit x actionRoom factRoom) is ∙ stage-marks v h) is
-
-      pub alone-facts : (new old : List ℕ) → new ≡ after (marksFit t actionRoom factRoom) (factMarksOf t level) old → new ≡ reducedFactMarks file level signer room old
-      unfolding reducedFactMarks
-      alone-facts new old q = q ∙ ap₂ (λ (o : Outcome) (x : Task). after o (factMarksOf x level) old) (ap (λ (x : Task). marksFit x actionRoom factRoom) is ∙ stage-marks v h) is
-
-      outcome-is : r .outcome ≡ reduceStage file level signer room
-      outcome-is = ap (λ (x : Reduced). x .outcome) a ∙ answer-of (both t level signer actionRoom factRoom reducedRoom originRoom) t level signer ∙ stage-both
-
-      pub alone-reduced : (new old : List ℕ) → new ≡ after (r .outcome) (reducedFile t level signer) old → new ≡ reducedBuffer file level signer room old
-      unfolding reducedBuffer
-      alone-reduced new old q = q ∙ ap₂ (λ (o : Outcome) (x : Task). after o (reducedFile x level signer) old) outcome-is is
-
-      pub alone-origin : (new old : List ℕ) → new ≡ after (r .outcome) (originsFile t level signer) old → new ≡ originBuffer file level signer room old
-      unfolding originBuffer
-      alone-origin new old q = q ∙ ap₂ (λ (o : Outcome) (x : Task). after o (originsFile x level signer) old) outcome-is is
-
-  -- the answer and the buffers after a refusal before any stage writes
-  module _ (o : Outcome) (early : Early o) (r : Reduced) (q : r ≡ noFiles o) where
-    early-stage : o ≡ reduceStage file level signer room
-    unfolding reduceStage
-    early-stage = stops (markStage file level signer room) _ o (early .marks) (early .refused)
-
-    pub early-answer : r ≡ reduce file level signer room
-    unfolding reduce reduceAnswer
-    early-answer = rw (← early-stage, is-refused o (early .refused)) q
-
-    pub early-actions : (old : List ℕ) → old ≡ reducedActionMarks file level signer room old
-    unfolding reducedActionMarks
-    early-actions old = sym (ap (λ (x : Outcome). after x (actionMarksOf (taskOf file) level) old) (sym (early .marks)) ∙ after-refused o (actionMarksOf (taskOf file) level) old (early .refused))
-
-    pub early-facts : (old : List ℕ) → old ≡ reducedFactMarks file level signer room old
-    unfolding reducedFactMarks
-    early-facts old = sym (ap (λ (x : Outcome). after x (factMarksOf (taskOf file) level) old) (sym (early .marks)) ∙ after-refused o (factMarksOf (taskOf file) level) old (early .refused))
-
-    pub early-reduced : (old : List ℕ) → old ≡ reducedBuffer file level signer room old
-    unfolding reducedBuffer
-    early-reduced old = sym (ap (λ (x : Outcome). after x (reducedFile (taskOf file) level signer) old) (sym early-stage) ∙ after-refused o (reducedFile (taskOf file) level signer) old (early .refused))
-
-    pub early-origin : (old : List ℕ) → old ≡ originBuffer file level signer room old
-    unfolding originBuffer
-    early-origin old = sym (ap (λ (x : Outcome). after x (originsFile (taskOf file) level signer) old) (sym early-stage) ∙ after-refused o (originsFile (taskOf file) level signer) old (early .refused))
+      -- else they are those of the task that the arrays hold
+      pub of-task : validLevel level ≡ true → 1 ≤ signer → (b : Buffers) (t : Task) → t ≡ taskOf file → (r : Reduced) (now : Buffers) → ReducesTask done t level signer b r now → Reduces file level signer b r now
+      of-task v h b t is r now k =
+          subst (λ (o : Outcome). ReducesTask o (taskOf file) level signer b r now) (input-done v h)
+          (subst (λ (x : Task). ReducesTask done x level signer b r now) is k)

@@ -7,16 +7,12 @@ use lib.Dec.{ltb}
 use lib.ListN.{length}
 use Rattle.files.specs.declared.Outcome.{Outcome}
 use Rattle.files.specs.Listed.{Refusal, refusedAt, short, fileRefusals}
-use Rattle.files.specs.Outcome.{done, guard, inSecond, overwrite}
+use Rattle.files.specs.Outcome.{done, guard, inSecond}
 use Rattle.files.specs.Stages.{Stage, stage, Answers}
-use Rattle.files.specs.Task.{Pair, Task, actionCount, factCount, actionOf}
+use Rattle.files.specs.Task.{Pair, actionCount, factCount, actionOf}
 use Rattle.files.specs.TaskFile.{checkTask, taskOf, pairBytes}
-use Rattle.marking.specs.Rounds.{marking}
-use Rattle.marking.specs.Mark.{actionMarksOf, factMarksOf}
-use Rattle.reduction.specs.Reduce.{Buffers, roomsOf, reducedFile, originsFile, filesFit, markStage, noFiles, reduce, reduceAfter}
-use Rattle.reduction.specs.Task.{reducedTask, originsAt}
+use Rattle.reduction.specs.Reduce.{Buffers, reducedFile, originsFile, fileStages, reduceWhole, noFiles, reduce, reduceAfter}
 use Rattle.reduction.specs.Stretch.{sideOf, stretchOutcome, stretch}
-use Rattle.reduction.specs.declared.Reduced.{Reduced}
 
 abbrev pub reduceRefusals : List ℕ → ℕ → ℕ → List Refusal
 reduceRefusals task level signer =
@@ -29,48 +25,10 @@ reduceRefusals task level signer =
     ∷ short (length (originsFile (taskOf task) level signer))
     ∷ [])
 
--- buffers with the marks at their fronts, and with both files too
-abbrev pub withMarks : Task → ℕ → Buffers → Buffers
-withMarks t level b =
-    record {
-      actions = overwrite (b .actions) (actionMarksOf t level);
-      facts = overwrite (b .facts) (factMarksOf t level);
-      reduced = b .reduced;
-      origin = b .origin;
-    }
-
-abbrev pub withFiles : Task → ℕ → ℕ → Buffers → Buffers
-withFiles t level signer b =
-    record {
-      actions = overwrite (b .actions) (actionMarksOf t level);
-      facts = overwrite (b .facts) (factMarksOf t level);
-      reduced = overwrite (b .reduced) (reducedFile t level signer);
-      origin = overwrite (b .origin) (originsFile t level signer);
-    }
-
--- the file, the level, the signer and the room for both marks; then the marks. The room for both files; then the files
-abbrev pub reduceStages : List ℕ → ℕ → ℕ → Buffers → List (Stage Buffers)
-reduceStages task level signer b =
-    stage (markStage task level signer (roomsOf b)) (withMarks (taskOf task) level b)
-    ∷ stage (filesFit (reducedTask (taskOf task) level) (originsAt (taskOf task) level) signer (length (b .reduced)) (length (b .origin))) (withFiles (taskOf task) level signer b)
-    ∷ []
-
--- the four lengths and the round count
-abbrev pub reduceWhole : Task → ℕ → ℕ → Reduced
-reduceWhole t level signer =
-    record {
-      outcome = done;
-      «action_marks» = actionCount t;
-      «fact_marks» = factCount t;
-      reduced = length (reducedFile t level signer);
-      origin = length (originsFile t level signer);
-      rounds = marking t level .rounds;
-    }
-
 abbrev pub ReduceAnswers : List ℕ → ℕ → ℕ → Buffers → Type 0
 ReduceAnswers task level signer b =
-    Answers (reduceRefusals task level signer) (reduceStages task level signer b) (reduceWhole (taskOf task) level signer) noFiles
-    b (reduce task level signer (roomsOf b)) (reduceAfter task level signer b)
+    Answers (reduceRefusals task level signer) (fileStages task level signer b) (reduceWhole (taskOf task) level signer) noFiles
+    b (reduce task level signer b) (reduceAfter task level signer b)
 
 -- buffers that are long enough for reduction (01)
 pub record LongEnough (task : List ℕ) (level signer : ℕ) (b : Buffers) : Type 0 where

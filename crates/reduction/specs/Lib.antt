@@ -7,3 +7,4 @@ pub mod Preserved
 pub mod Stretch
 pub mod Answers
 pub mod Dense
+pub mod Filled

@@ -1,11 +1,11 @@
 -- Reduction called alone: the row of check, marking and reduction, with what each lent buffer holds after every outcome.
 use Prim.Native.Nat.{ℕ}
-use mathlib.Core.Bool.{cond}
-use mathlib.Core.List.{List}
+use mathlib.Core.List.{List, [], _∷_}
 use lib.Dec.{leb}
 use lib.ListN.{length}
 use Rattle.files.specs.declared.Outcome.{Outcome}
-use Rattle.files.specs.Outcome.{done, isDone, guard, andThen, fits, after}
+use Rattle.files.specs.Outcome.{done, guard, andThen, fits, overwrite}
+use Rattle.files.specs.Stages.{Stage, stage, leftBy, answerBy, ByStages}
 use Rattle.files.specs.Task.{Task, actionCount, factCount}
 use Rattle.files.specs.TaskFile.{checkTask, taskOf, taskFile}
 use Rattle.files.specs.OriginFile.{Origin, originFile}
@@ -28,16 +28,6 @@ filesFit t origins signer reducedRoom originRoom =
     (fits (length (originFile origins signer)) originRoom
     done)
 
--- the lengths of the four lent buffers
-pub record Rooms : Type 0 where
-  pub actions : ℕ
-  pub facts : ℕ
-  pub reduced : ℕ
-  pub origin : ℕ
-
-abbrev pub rooms : ℕ → ℕ → ℕ → ℕ → Rooms
-rooms actions facts reduced origin = record { actions = actions; facts = facts; reduced = reduced; origin = origin }
-
 -- the four lent buffers
 pub record Buffers : Type 0 where
   pub actions : List ℕ
@@ -45,64 +35,70 @@ pub record Buffers : Type 0 where
   pub reduced : List ℕ
   pub origin : List ℕ
 
-abbrev pub roomsOf : Buffers → Rooms
-roomsOf b = rooms (length (b .actions)) (length (b .facts)) (length (b .reduced)) (length (b .origin))
+abbrev pub buffers : List ℕ → List ℕ → List ℕ → List ℕ → Buffers
+buffers actions facts reduced origin = record { actions = actions; facts = facts; reduced = reduced; origin = origin }
 
--- the stages check and marking: the file, the level, the signer, the room for the marks
-unfoldable pub markStage : List ℕ → ℕ → ℕ → Rooms → Outcome
-markStage task level signer room =
+-- buffers with the marks at their fronts, and with both files too
+abbrev pub withMarks : Task → ℕ → Buffers → Buffers
+withMarks t level b =
+    buffers
+    (overwrite (b .actions) (actionMarksOf t level))
+    (overwrite (b .facts) (factMarksOf t level))
+    (b .reduced)
+    (b .origin)
+
+abbrev pub withFiles : Task → ℕ → ℕ → Buffers → Buffers
+withFiles t level signer b =
+    buffers
+    (overwrite (b .actions) (actionMarksOf t level))
+    (overwrite (b .facts) (factMarksOf t level))
+    (overwrite (b .reduced) (reducedFile t level signer))
+    (overwrite (b .origin) (originsFile t level signer))
+
+-- the file, the level and the signer that are given
+unfoldable pub reduceInput : List ℕ → ℕ → ℕ → Outcome
+reduceInput task level signer =
     andThen (checkTask task)
     (guard (validLevel level) 8 0
     (guard (leb 1 signer) 7 0
-    (marksFit (taskOf task) (room .actions) (room .facts))))
+    done))
 
--- the stage reduction: the room for both files, before either is written
-unfoldable pub reduceStage : List ℕ → ℕ → ℕ → Rooms → Outcome
-reduceStage task level signer room =
-    andThen (markStage task level signer room)
-    (filesFit (reducedTask (taskOf task) level) (originsAt (taskOf task) level) signer (room .reduced) (room .origin))
+-- the stages, after what is given: the room for both marks, then the marks; the room for both files, then the files
+unfoldable pub reduceStages : Outcome → Task → ℕ → ℕ → Buffers → List (Stage Buffers)
+reduceStages input t level signer b =
+    stage (andThen input (marksFit t (length (b .actions)) (length (b .facts)))) (withMarks t level b)
+    ∷ stage (filesFit (reducedTask t level) (originsAt t level) signer (length (b .reduced)) (length (b .origin))) (withFiles t level signer b)
+    ∷ []
 
--- beside a refusal there are no lengths and no rounds
-abbrev pub noFiles : Outcome → Reduced
-noFiles o = record { outcome = o; «action_marks» = 0; «fact_marks» = 0; reduced = 0; origin = 0; rounds = 0 }
-
--- an outcome with lengths and rounds
-unfoldable pub reduceAnswer : Outcome → Task → ℕ → ℕ → Reduced
-reduceAnswer o t level signer =
-    let answer : Reduced =
+-- the four lengths and the round count
+abbrev pub reduceWhole : Task → ℕ → ℕ → Reduced
+reduceWhole t level signer =
     record {
-      outcome = o;
+      outcome = done;
       «action_marks» = actionCount t;
       «fact_marks» = factCount t;
       reduced = length (reducedFile t level signer);
       origin = length (originsFile t level signer);
       rounds = marking t level .rounds;
     }
-    in
-    cond (isDone o) answer (noFiles o)
 
-unfoldable pub reduce : List ℕ → ℕ → ℕ → Rooms → Reduced
-reduce task level signer room = reduceAnswer (reduceStage task level signer room) (taskOf task) level signer
+-- beside a refusal there are no lengths and no rounds
+abbrev pub noFiles : Outcome → Reduced
+noFiles o = record { outcome = o; «action_marks» = 0; «fact_marks» = 0; reduced = 0; origin = 0; rounds = 0 }
 
--- each buffer after the call: a finished stage's holds its result, a later one is untouched
-unfoldable pub reducedActionMarks : List ℕ → ℕ → ℕ → Rooms → List ℕ → List ℕ
-reducedActionMarks task level signer room old = after (markStage task level signer room) (actionMarksOf (taskOf task) level) old
+-- reduction of a task, after what is given: what it answers, and what the buffers hold now
+abbrev pub ReducesTask : Outcome → Task → ℕ → ℕ → Buffers → Reduced → Buffers → Type 0
+ReducesTask input t level signer b answer now = ByStages (reduceStages input t level signer b) (reduceWhole t level signer) noFiles b answer now
 
-unfoldable pub reducedFactMarks : List ℕ → ℕ → ℕ → Rooms → List ℕ → List ℕ
-reducedFactMarks task level signer room old = after (markStage task level signer room) (factMarksOf (taskOf task) level) old
+-- reduction called alone
+abbrev pub Reduces : List ℕ → ℕ → ℕ → Buffers → Reduced → Buffers → Type 0
+Reduces task level signer b answer now = ReducesTask (reduceInput task level signer) (taskOf task) level signer b answer now
 
-unfoldable pub reducedBuffer : List ℕ → ℕ → ℕ → Rooms → List ℕ → List ℕ
-reducedBuffer task level signer room old = after (reduceStage task level signer room) (reducedFile (taskOf task) level signer) old
+abbrev pub fileStages : List ℕ → ℕ → ℕ → Buffers → List (Stage Buffers)
+fileStages task level signer b = reduceStages (reduceInput task level signer) (taskOf task) level signer b
 
-unfoldable pub originBuffer : List ℕ → ℕ → ℕ → Rooms → List ℕ → List ℕ
-originBuffer task level signer room old = after (reduceStage task level signer room) (originsFile (taskOf task) level signer) old
+abbrev pub reduce : List ℕ → ℕ → ℕ → Buffers → Reduced
+reduce task level signer b = answerBy (fileStages task level signer b) (reduceWhole (taskOf task) level signer) noFiles
 
--- the four buffers after the call
 abbrev pub reduceAfter : List ℕ → ℕ → ℕ → Buffers → Buffers
-reduceAfter task level signer b =
-    record {
-      actions = reducedActionMarks task level signer (roomsOf b) (b .actions);
-      facts = reducedFactMarks task level signer (roomsOf b) (b .facts);
-      reduced = reducedBuffer task level signer (roomsOf b) (b .reduced);
-      origin = originBuffer task level signer (roomsOf b) (b .origin);
-    }
+reduceAfter task level signer b = leftBy (fileStages task level signer b) b

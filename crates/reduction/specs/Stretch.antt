@@ -1,5 +1,6 @@
 -- The stretch of condition pairs of an action, in the full or the reduced file.
 use Prim.Native.Nat.{ℕ, _+_, _*_}
+use mathlib.Core.Path.{_≡_}
 use mathlib.Core.Bool.{cond}
 use mathlib.Core.List.{List, []}
 use lib.Dec.{eqb, ltb}
@@ -28,3 +29,12 @@ conditionBytes s a = take (4 * conditionsIn s (actionPlace s a)) (drop (actionPl
 unfoldable pub stretch : List ℕ → List ℕ → ℕ → ℕ → List ℕ
 stretch full reduced side a =
     cond (isDone (stretchOutcome full reduced side a)) (conditionBytes (sideOf side full reduced) a) []
+
+-- the three numbers that the call is lent for its outcome
+abbrev pub lentOutcome : ℕ → ℕ → ℕ → Outcome
+lentOutcome number file place = record { number = number; file = file; place = place }
+
+-- the call: the part that it hands back, and its outcome
+pub record Stretches (full reduced : List ℕ) (side a : ℕ) (part : List ℕ) (given : Outcome) : Type 0 where
+  pub stretch : part ≡ stretch full reduced side a
+  pub outcome : given ≡ stretchOutcome full reduced side a

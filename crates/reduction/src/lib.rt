@@ -6,10 +6,8 @@ mod renumber;
 mod stages;
 mod stretch;
 
-ghost use mathlib.Core.Path.{_≡_};
-ghost use lib.ListN.{length};
-ghost use Rattle.reduction.specs.Reduce.{rooms, reduce, reducedActionMarks, reducedFactMarks, reducedBuffer, originBuffer};
-ghost use Rattle.reduction.specs.Stretch.{stretchOutcome, stretch};
+ghost use Rattle.reduction.specs.Reduce.{buffers, Reduces};
+ghost use Rattle.reduction.specs.Stretch.{lentOutcome, Stretches};
 use files::outcomes;
 
 // What reduction answers: the four lengths written and the round count, 0 beside a refusal.
@@ -33,11 +31,7 @@ pub fn reduce(
     reduced: &mut [u8],
     origin: &mut [u8],
 ) -> Reduced
-    ensures answer { λ r. ⌜ r ≡ reduce (now (task .entry)) level signer (rooms (length (now (actions .entry))) (length (now (facts .entry))) (length (now (reduced .entry))) (length (now (origin .entry)))) ⌝ }
-    ensures actions { λ r. ⌜ now (actions .exit) ≡ reducedActionMarks (now (task .entry)) level signer (rooms (length (now (actions .entry))) (length (now (facts .entry))) (length (now (reduced .entry))) (length (now (origin .entry)))) (now (actions .entry)) ⌝ }
-    ensures facts { λ r. ⌜ now (facts .exit) ≡ reducedFactMarks (now (task .entry)) level signer (rooms (length (now (actions .entry))) (length (now (facts .entry))) (length (now (reduced .entry))) (length (now (origin .entry)))) (now (facts .entry)) ⌝ }
-    ensures reduced { λ r. ⌜ now (reduced .exit) ≡ reducedBuffer (now (task .entry)) level signer (rooms (length (now (actions .entry))) (length (now (facts .entry))) (length (now (reduced .entry))) (length (now (origin .entry)))) (now (reduced .entry)) ⌝ }
-    ensures origin { λ r. ⌜ now (origin .exit) ≡ originBuffer (now (task .entry)) level signer (rooms (length (now (actions .entry))) (length (now (facts .entry))) (length (now (reduced .entry))) (length (now (origin .entry)))) (now (origin .entry)) ⌝ }
+    ensures { λ r. ⌜ Reduces (now (task .entry)) level signer (buffers (now (actions .entry)) (now (facts .entry)) (now (reduced .entry)) (now (origin .entry))) r (buffers (now (actions .exit)) (now (facts .exit)) (now (reduced .exit)) (now (origin .exit))) ⌝ }
 {
     let mut sizes = [0u8; 64];
     let mut starts = [0u8; 64];
@@ -95,7 +89,7 @@ pub fn conditions<'a>(
     file: &mut u32,
     place: &mut usize,
 ) -> &'a [u8]
-    ensures { λ r. ⌜ (now r ≡ stretch (now (full .entry)) (now (reduced .entry)) side action) × (now (number .exit) ≡ stretchOutcome (now (full .entry)) (now (reduced .entry)) side action .number) × (now (file .exit) ≡ stretchOutcome (now (full .entry)) (now (reduced .entry)) side action .file) × (now (place .exit) ≡ stretchOutcome (now (full .entry)) (now (reduced .entry)) side action .place) ⌝ }
+    ensures { λ r. ⌜ Stretches (now (full .entry)) (now (reduced .entry)) side action (now r) (lentOutcome (now (number .exit)) (now (file .exit)) (now (place .exit))) ⌝ }
 {
     let outcome = stretch::outcome(full, reduced, side, action);
     *number = outcome.number;

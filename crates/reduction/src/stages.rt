@@ -1,16 +1,14 @@
-// The stages marking and reduction, on the arrays of a task.
+// The stages of reduction, on the arrays of a task.
 ghost use mathlib.Core.Path.{_≡_};
 ghost use mathlib.Core.Bool.{true};
-ghost use lib.ListN.{length};
 ghost use Rattle.files.specs.Accepted.{acceptedTask};
 ghost use Rattle.files.specs.Dense.{held, arrays};
-ghost use Rattle.files.specs.Outcome.{andThen, after};
-ghost use Rattle.marking.specs.Mark.{marksFit, actionMarksOf, factMarksOf};
-ghost use Rattle.reduction.specs.Reduce.{filesFit, reducedFile, originsFile, reduceAnswer, noFiles};
-ghost use Rattle.reduction.specs.Task.{reducedTask, originsAt};
+ghost use Rattle.files.specs.Outcome.{done};
+ghost use Rattle.reduction.specs.Reduce.{buffers, noFiles, ReducesTask};
 use crate::Reduced;
 use crate::arrays;
 use crate::named;
+use files::outcomes;
 use marking::rounds::Scope;
 
 // Beside a refusal there are no lengths and no rounds.
@@ -43,11 +41,7 @@ pub fn reduce_task(
     origin: &mut [u8],
 ) -> Reduced
     requires { ⌜ acceptedTask (held (arrays (scope .variables) (scope .actions) (now sizes) (now starts) (now goal) (now costs) (now conditions) (now effects))) ≡ true ⌝ }
-    ensures answer { λ r. ⌜ r ≡ reduceAnswer (andThen (marksFit (held (arrays (scope .variables) (scope .actions) (now (sizes .entry)) (now (starts .entry)) (now (goal .entry)) (now (costs .entry)) (now (conditions .entry)) (now (effects .entry)))) (length (now (actions .entry))) (length (now (facts .entry)))) (filesFit (reducedTask (held (arrays (scope .variables) (scope .actions) (now (sizes .entry)) (now (starts .entry)) (now (goal .entry)) (now (costs .entry)) (now (conditions .entry)) (now (effects .entry)))) (scope .level)) (originsAt (held (arrays (scope .variables) (scope .actions) (now (sizes .entry)) (now (starts .entry)) (now (goal .entry)) (now (costs .entry)) (now (conditions .entry)) (now (effects .entry)))) (scope .level)) signer (length (now (reduced .entry))) (length (now (origin .entry))))) (held (arrays (scope .variables) (scope .actions) (now (sizes .entry)) (now (starts .entry)) (now (goal .entry)) (now (costs .entry)) (now (conditions .entry)) (now (effects .entry)))) (scope .level) signer ⌝ }
-    ensures actions { λ r. ⌜ now (actions .exit) ≡ after (marksFit (held (arrays (scope .variables) (scope .actions) (now (sizes .entry)) (now (starts .entry)) (now (goal .entry)) (now (costs .entry)) (now (conditions .entry)) (now (effects .entry)))) (length (now (actions .entry))) (length (now (facts .entry)))) (actionMarksOf (held (arrays (scope .variables) (scope .actions) (now (sizes .entry)) (now (starts .entry)) (now (goal .entry)) (now (costs .entry)) (now (conditions .entry)) (now (effects .entry)))) (scope .level)) (now (actions .entry)) ⌝ }
-    ensures facts { λ r. ⌜ now (facts .exit) ≡ after (marksFit (held (arrays (scope .variables) (scope .actions) (now (sizes .entry)) (now (starts .entry)) (now (goal .entry)) (now (costs .entry)) (now (conditions .entry)) (now (effects .entry)))) (length (now (actions .entry))) (length (now (facts .entry)))) (factMarksOf (held (arrays (scope .variables) (scope .actions) (now (sizes .entry)) (now (starts .entry)) (now (goal .entry)) (now (costs .entry)) (now (conditions .entry)) (now (effects .entry)))) (scope .level)) (now (facts .entry)) ⌝ }
-    ensures reduced { λ r. ⌜ now (reduced .exit) ≡ after (r .outcome) (reducedFile (held (arrays (scope .variables) (scope .actions) (now (sizes .entry)) (now (starts .entry)) (now (goal .entry)) (now (costs .entry)) (now (conditions .entry)) (now (effects .entry)))) (scope .level) signer) (now (reduced .entry)) ⌝ }
-    ensures origin { λ r. ⌜ now (origin .exit) ≡ after (r .outcome) (originsFile (held (arrays (scope .variables) (scope .actions) (now (sizes .entry)) (now (starts .entry)) (now (goal .entry)) (now (costs .entry)) (now (conditions .entry)) (now (effects .entry)))) (scope .level) signer) (now (origin .entry)) ⌝ }
+    ensures { λ r. ⌜ ReducesTask done (held (arrays (scope .variables) (scope .actions) (now (sizes .entry)) (now (starts .entry)) (now (goal .entry)) (now (costs .entry)) (now (conditions .entry)) (now (effects .entry)))) (scope .level) signer (buffers (now (actions .entry)) (now (facts .entry)) (now (reduced .entry)) (now (origin .entry))) r (buffers (now (actions .exit)) (now (facts .exit)) (now (reduced .exit)) (now (origin .exit))) ⌝ }
 {
     let marked = marking::rounds::mark_task(
         scope,
@@ -83,7 +77,7 @@ pub fn reduce_task(
         return refused(second);
     }
     Reduced {
-        outcome: second,
+        outcome: outcomes::done(),
         action_marks: marked.action_marks,
         fact_marks: marked.fact_marks,
         reduced: written.reduced,

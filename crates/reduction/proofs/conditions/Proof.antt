@@ -1,7 +1,7 @@
 -- The outcome is stored field by field; where it is not done the empty part of the full file is the stretch.
 use mathlib.Core.Path.{sym, _∙_}
 use borrow.Author.Needs.{needs}
-use Rattle.reduction.proofs.StretchLaws.{stretch-passed, stretch-done, stretch-refused, number, file, place}
+use Rattle.reduction.proofs.StretchLaws.{stretch-passed, stretch-done, stretch-refused, number}
 use Rattle.reduction.proofs.conditions.Statement.{statement}
 use Rattle.reduction.proofs.conditions.Tie as tie
 
@@ -20,7 +20,7 @@ part-result-end c = search needs
 returns : tie.Need-returns
 returns c =
     let e = c .before .before .before .outcome .ensures in
-    (sym (stretch-refused _ _ _ _ (λ z. c .before .if1 .taken (number e ∙ z))), number e, file e, place e)
+    record { stretch = sym (stretch-refused _ _ _ _ (λ z. c .before .if1 .taken (number e ∙ z))); outcome = e }
 
 side-of-requires : tie.Need-side-of-requires
 side-of-requires c κs = search needs
@@ -35,7 +35,7 @@ returns-2 : tie.Need-returns-2
 returns-2 c =
     let e = c .before .before .before .before .outcome .ensures in
     let cut = stretch-done _ _ _ _ _ _ (sym (number e) ∙ c .before .before .if1 .left) (c .pairs-of .ensures) (c .before .side-of .ensures) in
-    (cut, number e, file e, place e)
+    record { stretch = cut; outcome = e }
 
 pub conditions-spec : {M : Type 1} → statement M
 conditions-spec =

@@ -9,7 +9,7 @@ use Rattle.files.specs.Bytes.{Octets}
 use Rattle.files.specs.TaskFile.{checkTask}
 use Rattle.files.proofs.TaskChecked.{task-accepted}
 use Rattle.marking.proofs.MarkLaws.{refusal-number, held-by}
-use Rattle.reduction.proofs.ReduceStages.{early-file, early-level, early-signer, early-answer, early-actions, early-facts, early-reduced, early-origin, alone-answer, alone-actions, alone-facts, alone-reduced, alone-origin}
+use Rattle.reduction.proofs.ReduceStages.{input-refused, refused-file, refused-level, refused-signer, of-task}
 use borrow.Author.Needs.{needs}
 use Rattle.reduction.proofs.reduce.Statement.{statement}
 use Rattle.reduction.proofs.reduce.Tie as tie
@@ -32,18 +32,9 @@ refused-requires c κs = search needs
 
 returns : tie.Need-returns
 returns c =
-    let d = c .before .before .before in
-    let read = d .read-task .ensures .0 in
-    let early = early-file _ _ _ _ _ _ _ _ read (c .before .if1 .taken) in (
-      early-answer _ _ _ _ _ _ _ _ read _ early _ (c .refused .ensures),
-      (
-        early-actions _ _ _ _ _ _ _ _ read _ early _ (c .refused .ensures) _,
-        (
-          early-facts _ _ _ _ _ _ _ _ read _ early _ (c .refused .ensures) _,
-          (early-reduced _ _ _ _ _ _ _ _ read _ early _ (c .refused .ensures) _, early-origin _ _ _ _ _ _ _ _ read _ early _ (c .refused .ensures) _),
-        ),
-      ),
-    )
+    let read = c .before .before .before .read-task .ensures .0 in
+    let d = c .before .if1 .taken in
+    input-refused _ _ _ _ _ (refused-file _ _ _ _ read d) d _ (c .refused .ensures)
 
 valid-level-requires : tie.Need-valid-level-requires
 valid-level-requires c κs = search needs
@@ -57,19 +48,10 @@ refused-requires-2 c κs = search needs
 returns-2 : tie.Need-returns-2
 returns-2 c =
     let v = c .before .before .before in
-    let d = to-read v in
-    let read = d .read-task .ensures .0 in
-    let refused = refusal-number _ 8 _ (omega arith) (c .before .refuse .ensures) in
-    let early = early-level _ _ _ _ _ _ _ _ read (v .before .if1 .left) _ refused (sym (v .valid-level .ensures) ∙ not-true _ (c .before .before .if2 .taken)) (c .before .refuse .ensures) in (
-      early-answer _ _ _ _ _ _ _ _ read _ early _ (c .refused2 .ensures),
-      (
-        early-actions _ _ _ _ _ _ _ _ read _ early _ (c .refused2 .ensures) _,
-        (
-          early-facts _ _ _ _ _ _ _ _ read _ early _ (c .refused2 .ensures) _,
-          (early-reduced _ _ _ _ _ _ _ _ read _ early _ (c .refused2 .ensures) _, early-origin _ _ _ _ _ _ _ _ read _ early _ (c .refused2 .ensures) _),
-        ),
-      ),
-    )
+    let read = to-read v .read-task .ensures .0 in
+    let invalid = sym (v .valid-level .ensures) ∙ not-true _ (c .before .before .if2 .taken) in
+    let is = refused-level _ _ _ _ read (v .before .if1 .left) _ invalid (c .before .refuse .ensures) in
+    input-refused _ _ _ _ _ is (refusal-number _ 8 _ (omega arith) (c .before .refuse .ensures)) _ (c .refused2 .ensures)
 
 refuse-requires-2 : tie.Need-refuse-requires-2
 refuse-requires-2 c κs = search needs
@@ -80,19 +62,10 @@ refused-requires-3 c κs = search needs
 returns-3 : tie.Need-returns-3
 returns-3 c =
     let v = c .before .before .before .before in
-    let d = to-read v in
-    let read = d .read-task .ensures .0 in
-    let refused = refusal-number _ 7 _ (omega arith) (c .before .refuse2 .ensures) in
-    let early = early-signer _ _ _ _ _ _ _ _ read (v .before .if1 .left) _ refused (sym (v .valid-level .ensures) ∙ not-false _ (c .before .before .before .if2 .left)) (c .before .before .if3 .taken) (c .before .refuse2 .ensures) in (
-      early-answer _ _ _ _ _ _ _ _ read _ early _ (c .refused3 .ensures),
-      (
-        early-actions _ _ _ _ _ _ _ _ read _ early _ (c .refused3 .ensures) _,
-        (
-          early-facts _ _ _ _ _ _ _ _ read _ early _ (c .refused3 .ensures) _,
-          (early-reduced _ _ _ _ _ _ _ _ read _ early _ (c .refused3 .ensures) _, early-origin _ _ _ _ _ _ _ _ read _ early _ (c .refused3 .ensures) _),
-        ),
-      ),
-    )
+    let read = to-read v .read-task .ensures .0 in
+    let level = sym (v .valid-level .ensures) ∙ not-false _ (c .before .before .before .if2 .left) in
+    let is = refused-signer _ _ _ _ read (v .before .if1 .left) _ level (c .before .before .if3 .taken) (c .before .refuse2 .ensures) in
+    input-refused _ _ _ _ _ is (refusal-number _ 7 _ (omega arith) (c .before .refuse2 .ensures)) _ (c .refused3 .ensures)
 
 variables-in-requires : tie.Need-variables-in-requires
 variables-in-requires c κs = search needs
@@ -129,23 +102,10 @@ returns-4 c =
     let a = k .before .before .before .before .before .before .before .before .before .before .before in
     let v = to-level a in
     let d = to-read v in
-    let read = d .read-task .ensures .0 in
     let passes = v .before .if1 .left in
     let level = sym (v .valid-level .ensures) ∙ not-false _ (a .before .before .before .if2 .left) in
-    let signed = a .before .before .if3 .left in
-    let is = held-by _ _ _ _ _ _ _ _ _ _ _ (a .before .variables-in .ensures .0) (a .actions-in .ensures .0) (d .read-task .ensures .1 .0 passes) in (
-      alone-answer _ _ _ _ _ _ _ _ read passes level signed _ is _ (k .reduce-task .ensures .0),
-      (
-        alone-actions _ _ _ _ _ _ _ _ read passes level signed _ is _ (k .reduce-task .ensures .0) _ _ (k .reduce-task .ensures .1 .0),
-        (
-          alone-facts _ _ _ _ _ _ _ _ read passes level signed _ is _ (k .reduce-task .ensures .0) _ _ (k .reduce-task .ensures .1 .1 .0),
-          (
-            alone-reduced _ _ _ _ _ _ _ _ read passes level signed _ is _ (k .reduce-task .ensures .0) _ _ (k .reduce-task .ensures .1 .1 .1 .0),
-            alone-origin _ _ _ _ _ _ _ _ read passes level signed _ is _ (k .reduce-task .ensures .0) _ _ (k .reduce-task .ensures .1 .1 .1 .1),
-          ),
-        ),
-      ),
-    )
+    let is = held-by _ _ _ _ _ _ _ _ _ _ _ (a .before .variables-in .ensures .0) (a .actions-in .ensures .0) (d .read-task .ensures .1 .0 passes) in
+    of-task _ _ _ _ (d .read-task .ensures .0) passes level (a .before .before .if3 .left) _ _ is _ _ (k .reduce-task .ensures)
 
 pub reduce-spec : {M : Type 1} → statement M
 reduce-spec =

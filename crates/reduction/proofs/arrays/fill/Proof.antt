@@ -5,7 +5,7 @@ use denote.Ref.{now}
 use Rattle.files.specs.Dense.{Arrays, held, arrays}
 use Rattle.files.proofs.Valid.{Valid, task-valid}
 use Rattle.marking.proofs.HeldTask.{variables-held, actions-held}
-use Rattle.reduction.proofs.Filled.{number-below, ranges-small, task-filled, origin-filled}
+use Rattle.reduction.proofs.FilledArrays.{number-below, ranges-small, task-filled, origin-filled}
 use Rattle.reduction.proofs.arrays.fill.Statement.{statement}
 use Rattle.reduction.proofs.arrays.fill.Tie as tie
 
@@ -154,23 +154,27 @@ returns c =
     let v = to-new-values k in
     let h = to-changed v in
     let f = to-named-facts h in
-    let s = to-start f in (
-      (variables-kept k, actions-kept n, ranges-small (task s) (valid s) _ _ _ (v .new-values .result) _ _ _ _ (f .named-facts .ensures) (h .changed .ensures) (v .new-values .ensures) (k .kept-variables .ensures .0) (n .originals .ensures .0) _ (z .map-sizes .ensures)),
-      (
-        λ A bits.
-            task-filled (task s) (valid s) _ _ _ (v .new-values .result) _ _ _ _ (f .named-facts .ensures) (h .changed .ensures) (v .new-values .ensures) (k .kept-variables .ensures .0) (n .originals .ensures .0) A bits _ _ _ _ _ _
-            (w .new-sizes .ensures)
-            (t .map-row .ensures .1)
-            (g .map-row2 .ensures .1)
-            (o .map-costs .ensures)
-            (q .map-rows .ensures)
-            (e .map-rows2 .ensures),
-        λ A bits.
-            origin-filled (task s) (valid s) _ _ _ (v .new-values .result) _ _ _ _ (f .named-facts .ensures) (h .changed .ensures) (v .new-values .ensures) (k .kept-variables .ensures .0) (n .originals .ensures .0) A bits _ _
-            (z .map-sizes .ensures)
-            (c .value-rows .ensures),
-      ),
-    )
+    let s = to-start f in
+    record {
+      writable =
+          record {
+            variables-few = variables-kept k;
+            actions-few = actions-kept n;
+            sizes-small = ranges-small (task s) (valid s) _ _ _ (v .new-values .result) _ _ _ _ (f .named-facts .ensures) (h .changed .ensures) (v .new-values .ensures) (k .kept-variables .ensures .0) (n .originals .ensures .0) _ (z .map-sizes .ensures);
+          };
+      task = λ A bits.
+          task-filled (task s) (valid s) _ _ _ (v .new-values .result) _ _ _ _ (f .named-facts .ensures) (h .changed .ensures) (v .new-values .ensures) (k .kept-variables .ensures .0) (n .originals .ensures .0) A bits _ _ _ _ _ _
+          (w .new-sizes .ensures)
+          (t .map-row .ensures .1)
+          (g .map-row2 .ensures .1)
+          (o .map-costs .ensures)
+          (q .map-rows .ensures)
+          (e .map-rows2 .ensures);
+      origins = λ A bits.
+          origin-filled (task s) (valid s) _ _ _ (v .new-values .result) _ _ _ _ (f .named-facts .ensures) (h .changed .ensures) (v .new-values .ensures) (k .kept-variables .ensures .0) (n .originals .ensures .0) A bits _ _
+          (z .map-sizes .ensures)
+          (c .value-rows .ensures);
+    }
 
 pub fill-spec : {M : Type 1} → statement M
 fill-spec =

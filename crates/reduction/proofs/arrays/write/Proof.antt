@@ -22,7 +22,7 @@ abbrev task : tie.Start → Arrays
 task s = arrays (s .args .counts .variables) (s .args .counts .actions) (now (s .args .sizes)) (now (s .args .starts)) (now (s .args .goal)) (now (s .args .costs)) (now (s .args .conditions)) (now (s .args .effects))
 
 abbrev origins : tie.Start → OriginArrays
-origins s = originArrays (s .args .counts .variables) (s .args .counts .actions) (now (s .args .numbers)) (now (s .args .ranges)) (now (s .args .rows)) (now (s .args .originals))
+origins s = originArrays (s .args .counts .variables) (s .args .counts .actions) (now (s .args .numbers)) (now (s .args .old-sizes)) (now (s .args .new-values)) (now (s .args .originals))
 
 task-length : (c : tie.After-origin-needed) → c .before .task-needed .result ≡ length (taskFile (held (task (to-start c))) (to-start c .args .signer))
 task-length c = c .before .task-needed .ensures .0 ∙ sym (task-file-length (task (to-start c)) (to-start c .args .signer))
@@ -43,10 +43,14 @@ returns : tie.Need-returns
 unfolding filesFit
 returns c =
     let n = c .before .before in
-    let refused = refusal-number _ 21 _ (omega arith) (c .refuse .ensures) in (
-      first-short _ _ _ _ _ _ (task-length n) (origin-length n) _ (c .before .if1 .taken) (c .refuse .ensures),
-      ((task-length n, origin-length n), (sym (after-refused _ _ _ refused), sym (after-refused _ _ _ refused))),
-    )
+    let refused = refusal-number _ 21 _ (omega arith) (c .refuse .ensures) in
+    record {
+      outcome = first-short _ _ _ _ _ _ (task-length n) (origin-length n) _ (c .before .if1 .taken) (c .refuse .ensures);
+      reduced-length = task-length n;
+      origin-length = origin-length n;
+      reduced = sym (after-refused _ _ _ refused);
+      origin = sym (after-refused _ _ _ refused);
+    }
 
 refuse-requires-2 : tie.Need-refuse-requires-2
 refuse-requires-2 c κs = search needs
@@ -55,10 +59,14 @@ returns-2 : tie.Need-returns-2
 unfolding filesFit
 returns-2 c =
     let n = c .before .before .before in
-    let refused = refusal-number _ 21 _ (omega arith) (c .refuse2 .ensures) in (
-      second-short _ _ _ _ _ _ (task-length n) (origin-length n) _ (c .before .before .if1 .left) (c .before .if2 .taken) (c .refuse2 .ensures),
-      ((task-length n, origin-length n), (sym (after-refused _ _ _ refused), sym (after-refused _ _ _ refused))),
-    )
+    let refused = refusal-number _ 21 _ (omega arith) (c .refuse2 .ensures) in
+    record {
+      outcome = second-short _ _ _ _ _ _ (task-length n) (origin-length n) _ (c .before .before .if1 .left) (c .before .if2 .taken) (c .refuse2 .ensures);
+      reduced-length = task-length n;
+      origin-length = origin-length n;
+      reduced = sym (after-refused _ _ _ refused);
+      origin = sym (after-refused _ _ _ refused);
+    }
 
 write-task-requires : tie.Need-write-task-requires
 write-task-requires c κs = search needs
@@ -81,13 +89,14 @@ returns-3 c =
     let w = c .before .before .before in
     let k = w .before .before .before .before in
     let n = k .before .before .before .before in
-    let zero : c .done .result .number ≡ 0 = ap (λ (o : Outcome). o .number) (c .done .ensures) in (
-      both-fit _ _ _ _ _ _ (task-length n) (origin-length n) _ (k .before .before .before .if1 .left) (k .before .before .if2 .left) (c .done .ensures),
-      (
-        (task-length n, origin-length n),
-        (k .write-task .ensures ∙ sym (after-done _ _ _ zero), w .write-origin .ensures ∙ sym (after-done _ _ _ zero)),
-      ),
-    )
+    let zero : c .done .result .number ≡ 0 = ap (λ (o : Outcome). o .number) (c .done .ensures) in
+    record {
+      outcome = both-fit _ _ _ _ _ _ (task-length n) (origin-length n) _ (k .before .before .before .if1 .left) (k .before .before .if2 .left) (c .done .ensures);
+      reduced-length = task-length n;
+      origin-length = origin-length n;
+      reduced = k .write-task .ensures ∙ sym (after-done _ _ _ zero);
+      origin = w .write-origin .ensures ∙ sym (after-done _ _ _ zero);
+    }
 
 pub write-spec : {M : Type 1} → statement M
 write-spec =

@@ -8,9 +8,8 @@ use Rattle.files.specs.Below.{bit}
 use Rattle.files.specs.Dense.{Arrays, held, arrays}
 use Rattle.files.proofs.Valid.{Valid, task-valid}
 use Rattle.marking.proofs.HeldTask.{actions-held}
-use Rattle.reduction.specs.Reduce.{reducedFile, originsFile}
-use Rattle.reduction.specs.Task.{keptAt, reducedTask, originsAt}
-use Rattle.reduction.proofs.ReduceStages.{kept-bits, marks-room, after-outcome, marks-after, row-first, row-second, row-done, buffer-untouched}
+use Rattle.reduction.specs.Task.{keptAt}
+use Rattle.reduction.proofs.ReduceStages.{kept-bits, marks-room, marks-refused, files-refused, files-written}
 use borrow.Author.Needs.{needs}
 use Rattle.reduction.proofs.stages.reduce_task.Statement.{statement}
 use Rattle.reduction.proofs.stages.reduce_task.Tie as tie
@@ -59,18 +58,7 @@ returns : tie.Need-returns
 returns c =
     let m = c .before .before .before .before .before .before .before .before in
     let s = to-start m in
-    let t = held (task s) in
-    let level = s .args .scope .level in
-    let refused = c .before .if1 .taken in (
-      row-first t level _ _ _ _ _ _ (m .mark-task .ensures .0) _ refused (c .refused .ensures),
-      (
-        marks-after t level 0 _ _ 0 0 _ (m .mark-task .ensures .0) _ _ _ (m .mark-task .ensures .1 .0),
-        (
-          marks-after t level 0 _ _ 0 0 _ (m .mark-task .ensures .0) _ _ _ (m .mark-task .ensures .1 .1),
-          (buffer-untouched t level 0 0 0 0 0 _ _ _ _ (c .refused .ensures) refused, buffer-untouched t level 0 0 0 0 0 _ _ _ _ (c .refused .ensures) refused),
-        ),
-      ),
-    )
+    marks-refused (held (task s)) _ _ _ _ (m .mark-task .ensures .0) _ _ (m .mark-task .ensures .1 .0) (m .mark-task .ensures .1 .1) (c .before .if1 .taken) _ (c .refused .ensures)
 
 kept-actions-requires : tie.Need-kept-actions-requires
 kept-actions-requires c κs =
@@ -97,35 +85,22 @@ same-length-6 : tie.Need-same-length-6
 same-length-6 c = search needs
 
 returns-2 : tie.Need-returns-2
-unfolding reducedFile originsFile reducedTask originsAt
 returns-2 c =
     let w = c .before .before .before .before .before .before .before .before in
     let k = to-kept w in
     let m = to-mark k in
     let s = to-start m in
-    let t = held (task s) in
-    let level = s .args .scope .level in
     let passes = k .before .before .if1 .left in
-    let refused = c .before .if2 .taken in
-    let done = w .write-reduced .ensures (keptAt t level) (kept-marks k passes) in (
-      row-second t level _ _ _ _ _ _ (m .mark-task .ensures .0) passes _ (done .0) _ refused (c .refused2 .ensures),
-      (
-        marks-after t level 0 _ _ 0 0 _ (m .mark-task .ensures .0) _ _ _ (m .mark-task .ensures .1 .0),
-        (
-          marks-after t level 0 _ _ 0 0 _ (m .mark-task .ensures .0) _ _ _ (m .mark-task .ensures .1 .1),
-          (
-            after-outcome _ _ _ _ _ (c .refused2 .ensures) (done .3),
-            after-outcome _ _ _ _ _ (c .refused2 .ensures) (done .4),
-          ),
-        ),
-      ),
-    )
+    files-refused (held (task s)) _ _ _ _ (m .mark-task .ensures .0) _ _ (m .mark-task .ensures .1 .0) (m .mark-task .ensures .1 .1) passes _ _ _ (w .write-reduced .ensures _ (kept-marks k passes)) (c .before .if2 .taken) _ (c .refused2 .ensures)
+
+done-requires : tie.Need-done-requires
+done-requires c κs = search needs
 
 same-length-7 : tie.Need-same-length-7
-same-length-7 c = search (needs, to-mark (to-kept (c .before .before .before .before .before .before .before)) .mark-task)
+same-length-7 c = search (needs, to-mark (to-kept (c .before .before .before .before .before .before .before .before)) .mark-task)
 
 same-length-8 : tie.Need-same-length-8
-same-length-8 c = search (needs, to-mark (to-kept (c .before .before .before .before .before .before .before)) .mark-task)
+same-length-8 c = search (needs, to-mark (to-kept (c .before .before .before .before .before .before .before .before)) .mark-task)
 
 same-length-9 : tie.Need-same-length-9
 same-length-9 c = search needs
@@ -134,25 +109,13 @@ same-length-10 : tie.Need-same-length-10
 same-length-10 c = search needs
 
 returns-3 : tie.Need-returns-3
-unfolding reducedFile originsFile reducedTask originsAt
 returns-3 c =
-    let w = c .before .before .before .before .before .before .before in
+    let w = c .before .before .before .before .before .before .before .before in
     let k = to-kept w in
     let m = to-mark k in
     let s = to-start m in
-    let t = held (task s) in
-    let level = s .args .scope .level in
     let passes = k .before .before .if1 .left in
-    let done = w .write-reduced .ensures (keptAt t level) (kept-marks k passes) in (
-      row-done t level _ _ _ _ _ _ (m .mark-task .ensures .0) passes _ (done .0) _ _ (c .if2 .left) (done .1) (done .2),
-      (
-        marks-after t level 0 _ _ 0 0 _ (m .mark-task .ensures .0) _ _ _ (m .mark-task .ensures .1 .0),
-        (
-          marks-after t level 0 _ _ 0 0 _ (m .mark-task .ensures .0) _ _ _ (m .mark-task .ensures .1 .1),
-          (done .3, done .4),
-        ),
-      ),
-    )
+    files-written (held (task s)) _ _ _ _ (m .mark-task .ensures .0) _ _ (m .mark-task .ensures .1 .0) (m .mark-task .ensures .1 .1) passes _ _ _ (w .write-reduced .ensures _ (kept-marks k passes)) (c .before .if2 .left) _ (c .done .ensures)
 
 pub reduce-task-spec : {M : Type 1} → statement M
 reduce-task-spec =
@@ -171,6 +134,7 @@ reduce-task-spec =
     same-length-5
     same-length-6
     returns-2
+    done-requires
     same-length-7
     same-length-8
     same-length-9
