@@ -40,6 +40,11 @@ pub record WithinLimits (variables actions : ℕ) : Type 0 where
   pub fewVariables : variables ≤ 64
   pub fewActions : actions ≤ 512
 
+-- an action's number, and how many variables its rows have
+pub record ActionWithin (action variables : ℕ) : Type 0 where
+  pub known : action < 512
+  pub fewVariables : variables ≤ 64
+
 -- the first `count` cells of the row at `base`
 pub record RowWithin (rows : List ℕ) (base count : ℕ) : Type 0 where
   pub within : base + count ≤ length rows

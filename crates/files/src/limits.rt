@@ -5,6 +5,8 @@ pub const MOST_VARIABLES: usize = 64;
 
 pub const MOST_VALUES: usize = 32;
 
+pub const MOST_FACTS: usize = 2048;
+
 pub const MOST_ACTIONS: usize = 512;
 
 pub const MOST_PAIRS: usize = 64;

@@ -26,11 +26,6 @@ pub record StepFits (tally : Tally) (action : Row) : Type 0 where
   pub minutesFit : tally .minutes .0 + action .cost .0 < 18446744073709551616
   pub stepsFit : tally .steps .0 < 65535
 
--- an action's number, and how many variables its rows have
-pub record ActionWithin (action variables : ℕ) : Type 0 where
-  pub known : action < 512
-  pub fewVariables : variables ≤ 64
-
 -- the row of an action, whose cost has 4 bytes
 pub record RowIs (r : Row) (action : Action) : Type 0 where
   pub is : rowOf r ≡ action
