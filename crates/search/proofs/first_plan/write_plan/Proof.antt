@@ -119,7 +119,7 @@ cast-fewest c = omega (arith, c .shared-slice-known4 .given (c .before .start-nu
 put-head-requires : tie.Need-put-head-requires Inv-loop μ-loop
 put-head-requires c κs =
     let n = c .before .before in
-    (omega (arith, c .before .shared-slice-known4 .given (n .start-number .result)), omega (arith, start-room n))
+    record { source = omega (arith, c .before .shared-slice-known4 .given (n .start-number .result)); room = omega (arith, start-room n) }
 
 values-of-requires : tie.Need-values-of-requires Inv-loop μ-loop
 values-of-requires c κs =
@@ -158,7 +158,7 @@ original-requires : tie.Need-original-requires Inv-loop μ-loop
 original-requires c κs =
     let s = turn-start (c .before) in
     let place = to-number (to-loop (to-test (c .before) .before) .before) .before .actions-place .ensures in
-    (ap (λ (n : ℕ). n + 4) (place .0), omega (arith, place .1), omega (arith, action-known (c .before), s .pre .7))
+    (ap (λ (n : ℕ). n + 4) (place .is), omega (arith, place .below), omega (arith, action-known (c .before), s .pre .7))
 
 put-action-requires : tie.Need-put-action-requires Inv-loop μ-loop
 put-action-requires c κs =
