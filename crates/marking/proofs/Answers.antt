@@ -50,6 +50,6 @@ module _ (task : List ℕ) (level : ℕ) (b : MarkBuffers) (e : checkTask task �
   unfolding markStages andThen isDone
   mark-fits = rw (input-passes, fit) refl
 
-  pub buffers-fit : markAfter task level b ≡ markedBuffers (taskOf task) level b
+  pub marked-fits : markAfter task level b ≡ markedBuffers (taskOf task) level b
   unfolding markStages andThen isDone
-  buffers-fit = rw (input-passes, fit) refl
+  marked-fits = rw (input-passes, fit) refl
