@@ -7,7 +7,7 @@ ghost use lib.ListN.{length};
 ghost use Rattle.files.specs.OriginFile.{checkOrigin};
 ghost use Rattle.files.specs.TaskFile.{checkTask};
 ghost use Rattle.plans.specs.Check.{checkPlan};
-ghost use Rattle.marking.specs.Mark.{mark, markedActions, markedFacts};
+ghost use Rattle.marking.specs.Mark.{markBuffers, mark, markAfter};
 ghost use Rattle.reduction.specs.Reduce.{rooms, reduce, reducedActionMarks, reducedFactMarks, reducedBuffer, originBuffer};
 ghost use Rattle.search.specs.Planner.{planRooms, planAnswer, plannedActionMarks, plannedFactMarks, plannedReduced, plannedOrigin, plannedTable, plannedPlan};
 ghost use Rattle.capi.specs.Numbers.{outcomeNumbers, checkedNumbers, markedNumbers, reducedNumbers, plannedNumbers};
@@ -45,9 +45,8 @@ pub extern "C" fn shortest_mark(
     facts: &mut [u8],
     out: &mut [u64; 12],
 )
-    ensures answer { λ r. ⌜ now (out .exit) ≡ markedNumbers (mark (now (task .entry)) level (length (now (actions .entry))) (length (now (facts .entry)))) ⌝ }
-    ensures actions { λ r. ⌜ now (actions .exit) ≡ markedActions (now (task .entry)) level (now (actions .entry)) (now (facts .entry)) ⌝ }
-    ensures facts { λ r. ⌜ now (facts .exit) ≡ markedFacts (now (task .entry)) level (now (actions .entry)) (now (facts .entry)) ⌝ }
+    ensures answer { λ r. ⌜ now (out .exit) ≡ markedNumbers (mark (now (task .entry)) level (markBuffers (now (actions .entry)) (now (facts .entry)))) ⌝ }
+    ensures buffers { λ r. ⌜ markBuffers (now (actions .exit)) (now (facts .exit)) ≡ markAfter (now (task .entry)) level (markBuffers (now (actions .entry)) (now (facts .entry))) ⌝ }
 {
     numbers::write_marked(marking::mark(task, level, actions, facts), out);
 }

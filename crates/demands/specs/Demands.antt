@@ -4,7 +4,6 @@ use Prim.Native.Nat.{ℕ, _+_, _≤_}
 use mathlib.Core.Path.{_≡_}
 use mathlib.Core.Bool.{true}
 use mathlib.Core.List.{List}
-use lib.ListN.{length}
 use Rattle.files.specs.Accepted.{validSigner, acceptedTask, acceptedOrigin, acceptedPlan}
 use Rattle.files.specs.Bytes.{Octets}
 use Rattle.files.specs.Kinds.{KindRight}
@@ -16,8 +15,8 @@ use Rattle.files.specs.Task.{Task, actionCount, factCount}
 use Rattle.files.specs.TaskFile.{checkTask, taskOf, taskFile}
 use Rattle.plans.specs.Plan.{IsPlan, Best}
 use Rattle.plans.specs.Checker.{CheckAnswers, CheckerRight, ListRight}
-use Rattle.marking.specs.Answers.{MarkBuffers, MarkAnswers, markedBuffers, markWhole, markAfter}
-use Rattle.marking.specs.Mark.{validLevel, mark}
+use Rattle.marking.specs.Answers.{MarkAnswers}
+use Rattle.marking.specs.Mark.{validLevel, MarkBuffers, markedBuffers, markWhole, mark, markAfter}
 use Rattle.marking.specs.Rounds.{nextMarks, marking}
 use Rattle.reduction.specs.Answers.{ReduceAnswers, LongEnough, withFiles, reduceWhole, StretchAnswers, StretchLength}
 use Rattle.reduction.specs.Preserved.{ReductionPreserves, ReductionOfFiles}
@@ -42,7 +41,7 @@ pub record Demand1 : Type 0 where
 
 -- where nothing is refused, the answers and the buffers are what 01's steps define
 pub record StepsRight (task : List ℕ) (level signer : ℕ) (b : Buffers) : Type 0 where
-  pub marks : mark task level (length (b .actions)) (length (b .facts)) ≡ markWhole (taskOf task) level
+  pub marks : mark task level (record { actions = b .actions; facts = b .facts }) ≡ markWhole (taskOf task) level
   pub marked : markAfter task level (record { actions = b .actions; facts = b .facts }) ≡ markedBuffers (taskOf task) level (record { actions = b .actions; facts = b .facts })
   pub reduced : reduce task level signer (roomsOf b) ≡ reduceWhole (taskOf task) level signer
   pub buffers : reduceAfter task level signer b ≡ withFiles (taskOf task) level signer b

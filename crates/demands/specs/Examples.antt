@@ -9,7 +9,7 @@ use Rattle.files.specs.TaskFile.{checkTask}
 use Rattle.files.specs.PlanFile.{planFile}
 use Rattle.plans.specs.declared.Checked.{Checked}
 use Rattle.plans.specs.Check.{checkPlan}
-use Rattle.marking.specs.Mark.{mark, markedActions}
+use Rattle.marking.specs.Mark.{markBuffers, mark, markAfter}
 use Rattle.reduction.specs.Reduce.{reducedBuffer}
 use Rattle.search.specs.Planner.{planAnswer, plannedPlan}
 use Rattle.search.specs.PlannerRight.{ample}
@@ -48,8 +48,9 @@ used n = replicate n 9
 -- the outcome, the rounds and the action marks of a file of 7 actions and 8 facts
 abbrev pub keptNumbers : List ℕ → ℕ → List ℕ
 keptNumbers file level =
-    let m = mark file level 7 8 in
-    outcomeParts (m .outcome) ++ (m .rounds ∷ []) ++ markedActions file level (used 7) (used 8)
+    let b = markBuffers (used 7) (used 8) in
+    let m = mark file level b in
+    outcomeParts (m .outcome) ++ (m .rounds ∷ []) ++ markAfter file level b .actions
 
 unfoldable pub cases : List Case
 cases =

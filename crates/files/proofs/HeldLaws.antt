@@ -6,12 +6,14 @@ use mathlib.Core.List.{List, [], _∷_, map}
 use native.Mathlib.Omega.{arith}
 use lib.ListN.{length, getD, length-map, List·getD-map}
 use Rattle.files.specs.Below.{tabulate}
+use Rattle.files.specs.declared.Outcome.{Outcome}
 use Rattle.files.specs.Bytes.{Octets, placed}
+use Rattle.files.specs.Contracts.{TaskRead}
 use Rattle.files.specs.Task.{Pair, Variable, Action, Task, variable, action, variableCount, actionCount, variableOf, actionOf, sizeOf}
 use Rattle.files.specs.Records.{bodyLength}
 use Rattle.files.specs.TaskFile.{variablesIn, actionsIn, goalPlace, actionsPlace, checkTask, pairsFrom, variablesFrom, actionsFrom, taskOf}
 use Rattle.files.specs.Accepted.{validPairs}
-use Rattle.files.specs.Dense.{rowPairs, rowVariable, rowAction, held, arrays}
+use Rattle.files.specs.Dense.{Arrays, rowPairs, rowVariable, rowAction, held, arrays}
 use Rattle.files.specs.Rows.{cleared, filled, filledRows, storedSizes, storedStarts, storedCosts, conditionLists, effectLists}
 use Rattle.files.proofs.Done.{facts}
 use Rattle.files.proofs.Valid.{Valid, task-valid}
@@ -142,3 +144,10 @@ module _ (f : List ℕ) (octets : Octets f) (passes : checkTask f .number ≡ 0)
       let few : actionCount t ≤ 512 = valid .actions-few in
       (λ i. held (arrays (vc i) (ac i) (size i) (start i) (aim i) (cost i) (asked i) (set i)))
       ∙ held-task t valid sizes₀ starts₀ goal₀ costs₀ conditions₀ effects₀ ls lt lg (omega arith) (omega arith) (omega arith)
+
+-- a file that is accepted has been read; a refused one leaves the arrays as they were
+pub task-read : (f : List ℕ) (before after : Arrays) (r : Outcome) → r ≡ checkTask f → r .number ≡ 0 → held after ≡ taskOf f → TaskRead f before after r
+task-read f before after r e z h = record { outcome = e; task = λ _. h; untouched = λ refused. absurd (refused z) }
+
+pub task-unread : (f : List ℕ) (before : Arrays) (r : Outcome) → r ≡ checkTask f → (r .number ≡ 0 → ⊥) → TaskRead f before before r
+task-unread f before r e refused = record { outcome = e; task = λ z. absurd (refused z); untouched = λ _. refl }

@@ -15,4 +15,5 @@ pub mod Kinds
 pub mod Dense
 pub mod Rows
 pub mod Lengths
+pub mod Contracts
 pub mod Examples

@@ -1,12 +1,13 @@
 // Little-endian numbers in a slice of bytes.
 ghost use mathlib.Core.Path.{_≡_};
-ghost use Prim.Native.Nat.{_+_, _<_, _≤_};
+ghost use Prim.Native.Nat.{_+_, _≤_};
 ghost use lib.ListN.{length, getD};
 ghost use Rattle.files.specs.Bytes.{u16At, u32At, u16Bytes, u32Bytes, placed};
+ghost use Rattle.files.specs.Contracts.{IsBelow};
 
 // The byte at a place, 0 past the end.
 pub fn byte_at(s: &[u8], at: usize) -> usize
-    ensures { λ r. ⌜ (r ≡ getD (now (s .entry)) at 0) × (r < 256) ⌝ }
+    ensures { λ r. ⌜ IsBelow r (getD (now (s .entry)) at 0) 256 ⌝ }
 {
     if at < s.len() { s[at] as usize } else { 0 }
 }
@@ -14,7 +15,7 @@ pub fn byte_at(s: &[u8], at: usize) -> usize
 // The numbers of 2 and of 4 bytes at a place, 0 for each byte past the end. The place is tested first:
 // within the slice no sum wraps.
 pub fn u16_at(s: &[u8], at: usize) -> usize
-    ensures { λ r. ⌜ (r ≡ u16At (now (s .entry)) at) × (r < 65536) ⌝ }
+    ensures { λ r. ⌜ IsBelow r (u16At (now (s .entry)) at) 65536 ⌝ }
 {
     if s.len() <= at {
         return 0;
@@ -25,7 +26,7 @@ pub fn u16_at(s: &[u8], at: usize) -> usize
 }
 
 pub fn u32_at(s: &[u8], at: usize) -> usize
-    ensures { λ r. ⌜ (r ≡ u32At (now (s .entry)) at) × (r < 4294967296) ⌝ }
+    ensures { λ r. ⌜ IsBelow r (u32At (now (s .entry)) at) 4294967296 ⌝ }
 {
     if s.len() <= at {
         return 0;

@@ -1,15 +1,16 @@
 // An accepted task file into dense arrays: a cell per variable and action, and for each action
 // a row of 64 cells, one per variable, in which 255 stands for no pair.
 ghost use mathlib.Core.Path.{_≡_};
-ghost use Prim.Native.Nat.{_+_, _*_, _^_, _<_, _≤_};
+ghost use Prim.Native.Nat.{_+_, _*_, _^_, _≤_};
 ghost use lib.ListN.{length};
 ghost use Rattle.files.specs.Bytes.{placed};
-ghost use Rattle.files.specs.Dense.{held, arrays};
+ghost use Rattle.files.specs.Contracts.{Readable, VariableRoom, VariablesRead, fileArrays, TaskRead};
 ghost use Rattle.files.specs.Records.{offsetLimit};
-ghost use Rattle.files.specs.Rows.{cleared, stored, filled, filledRows, storedSizes, storedStarts, storedCosts, conditionLists, effectLists};
-ghost use Rattle.files.specs.TaskFile.{pairsFrom, variablesFrom, actionsFrom, checkTask, taskOf, variablesIn, actionsIn};
+ghost use Rattle.files.specs.Rows.{cleared, stored, filled, filledRows, storedCosts, conditionLists, effectLists};
+ghost use Rattle.files.specs.TaskFile.{pairsFrom, variablesFrom, actionsFrom};
 use crate::Outcome;
 use crate::bytes;
+use crate::limits;
 use crate::reader;
 use crate::records;
 use crate::task;
@@ -20,9 +21,9 @@ fn clear_row(row: &mut [u8], base: usize)
     ensures { λ r. ⌜ now (row .exit) ≡ cleared (now (row .entry)) base 64 ⌝ }
 {
     let mut at = base;
-    let mut left: usize = 64;
+    let mut left: usize = limits::ROW;
     while 0 < left {
-        row[at] = 255;
+        row[at] = limits::NO_PAIR;
         at += 1;
         left -= 1;
     }
@@ -33,14 +34,14 @@ fn store(row: &mut [u8], base: usize, variable: usize, value: usize)
     requires { ⌜ base + 64 ≤ length (now row) ⌝ }
     ensures { λ r. ⌜ now (row .exit) ≡ stored (now (row .entry)) base variable value ⌝ }
 {
-    if variable < 64 {
+    if variable < limits::ROW {
         row[base + variable] = (value % 256) as u8;
     }
 }
 
 // Stores the `count` pairs that stand at `at`.
 fn fill_row(row: &mut [u8], base: usize, s: &[u8], at: usize, count: usize)
-    requires { ⌜ (base + 64 ≤ length (now row)) × (at + 4 * count < 2 ^ 64) ⌝ }
+    requires { ⌜ Readable (base + 64) (now row) (at + 4 * count) (2 ^ 64) ⌝ }
     ensures { λ r. ⌜ now (row .exit) ≡ filled (now (row .entry)) base (pairsFrom (now (s .entry)) at count) ⌝ }
 {
     let mut place = at;
@@ -56,8 +57,8 @@ fn fill_row(row: &mut [u8], base: usize, s: &[u8], at: usize, count: usize)
 
 // The domain sizes and start values of `count` variables.
 fn read_variables(sizes: &mut [u8], starts: &mut [u8], s: &[u8], count: usize)
-    requires { ⌜ (count ≤ 64) × (64 ≤ length (now sizes)) × (64 ≤ length (now starts)) ⌝ }
-    ensures { λ r. ⌜ (now (sizes .exit) ≡ placed (now (sizes .entry)) 0 (storedSizes (variablesFrom (now (s .entry)) 8 count))) × (now (starts .exit) ≡ placed (now (starts .entry)) 0 (storedStarts (variablesFrom (now (s .entry)) 8 count))) ⌝ }
+    requires { ⌜ VariableRoom count (now sizes) (now starts) ⌝ }
+    ensures { λ r. ⌜ VariablesRead (variablesFrom (now (s .entry)) 8 count) (now (sizes .entry)) (now (starts .entry)) (now (sizes .exit)) (now (starts .exit)) ⌝ }
 {
     let mut i: usize = 0;
     let mut place: usize = 8;
@@ -73,7 +74,7 @@ fn read_variables(sizes: &mut [u8], starts: &mut [u8], s: &[u8], count: usize)
 
 // The costs of `count` actions from `at` on.
 fn read_costs(costs: &mut [u32], s: &[u8], at: usize, count: usize)
-    requires { ⌜ (count ≤ length (now costs)) × (at + 65540 * count < offsetLimit) ⌝ }
+    requires { ⌜ Readable count (now costs) (at + 65540 * count) offsetLimit ⌝ }
     ensures { λ r. ⌜ now (costs .exit) ≡ placed (now (costs .entry)) 0 (storedCosts (actionsFrom (now (s .entry)) at count)) ⌝ }
 {
     let mut i: usize = 0;
@@ -89,7 +90,7 @@ fn read_costs(costs: &mut [u32], s: &[u8], at: usize, count: usize)
 
 // The conditions of `count` actions from `at` on, a row each.
 fn read_conditions(rows: &mut [u8], s: &[u8], at: usize, count: usize)
-    requires { ⌜ (64 * count ≤ length (now rows)) × (at + 65540 * count < offsetLimit) ⌝ }
+    requires { ⌜ Readable (64 * count) (now rows) (at + 65540 * count) offsetLimit ⌝ }
     ensures { λ r. ⌜ now (rows .exit) ≡ filledRows (now (rows .entry)) 0 (conditionLists (actionsFrom (now (s .entry)) at count)) ⌝ }
 {
     let mut base: usize = 0;
@@ -99,7 +100,7 @@ fn read_conditions(rows: &mut [u8], s: &[u8], at: usize, count: usize)
         let pairs = task::conditions_in(s, place);
         clear_row(rows, base);
         fill_row(rows, base, s, place + 12, pairs);
-        base += 64;
+        base += limits::ROW;
         place = reader::record_after(s, place);
         left -= 1;
     }
@@ -107,7 +108,7 @@ fn read_conditions(rows: &mut [u8], s: &[u8], at: usize, count: usize)
 
 // The effects of `count` actions from `at` on, a row each.
 fn read_effects(rows: &mut [u8], s: &[u8], at: usize, count: usize)
-    requires { ⌜ (64 * count ≤ length (now rows)) × (at + 65540 * count < offsetLimit) ⌝ }
+    requires { ⌜ Readable (64 * count) (now rows) (at + 65540 * count) offsetLimit ⌝ }
     ensures { λ r. ⌜ now (rows .exit) ≡ filledRows (now (rows .entry)) 0 (effectLists (actionsFrom (now (s .entry)) at count)) ⌝ }
 {
     let mut base: usize = 0;
@@ -118,7 +119,7 @@ fn read_effects(rows: &mut [u8], s: &[u8], at: usize, count: usize)
         let from = task::effects_place(s, place);
         clear_row(rows, base);
         fill_row(rows, base, s, from, pairs);
-        base += 64;
+        base += limits::ROW;
         place = reader::record_after(s, place);
         left -= 1;
     }
@@ -135,9 +136,7 @@ pub fn read_task(
     conditions: &mut [u8; 32768],
     effects: &mut [u8; 32768],
 ) -> Outcome
-    ensures outcome { λ r. ⌜ r ≡ checkTask (now (file .entry)) ⌝ }
-    ensures task { λ r. ⌜ (r .number ≡ 0 → held (arrays (variablesIn (now (file .entry))) (actionsIn (now (file .entry))) (now (sizes .exit)) (now (starts .exit)) (now (goal .exit)) (now (costs .exit)) (now (conditions .exit)) (now (effects .exit))) ≡ taskOf (now (file .entry))) ⌝ }
-    ensures untouched { λ r. ⌜ ((r .number ≡ 0 → ⊥) → (now (sizes .exit) ≡ now (sizes .entry)) × (now (starts .exit) ≡ now (starts .entry)) × (now (goal .exit) ≡ now (goal .entry)) × (now (costs .exit) ≡ now (costs .entry)) × (now (conditions .exit) ≡ now (conditions .entry)) × (now (effects .exit) ≡ now (effects .entry))) ⌝ }
+    ensures { λ r. ⌜ TaskRead (now (file .entry)) (fileArrays (now (file .entry)) (now (sizes .entry)) (now (starts .entry)) (now (goal .entry)) (now (costs .entry)) (now (conditions .entry)) (now (effects .entry))) (fileArrays (now (file .entry)) (now (sizes .exit)) (now (starts .exit)) (now (goal .exit)) (now (costs .exit)) (now (conditions .exit)) (now (effects .exit))) r ⌝ }
 {
     let checked = crate::check_task(file);
     if checked.number != 0 {

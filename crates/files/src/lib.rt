@@ -2,6 +2,7 @@
 // The calls open to callers are check_task and check_origin; the public modules serve the layers above.
 pub mod bytes;
 pub mod decode;
+pub mod limits;
 pub mod origin;
 pub mod outcomes;
 pub mod plan;
@@ -27,8 +28,8 @@ pub struct Outcome {
 pub fn check_task(file: &[u8]) -> Outcome
     ensures { λ r. ⌜ r ≡ checkTask (now (file .entry)) ⌝ }
 {
-    if 65536 < file.len() {
-        return outcomes::refuse(4, 0);
+    if limits::MOST_BYTES < file.len() {
+        return outcomes::refuse(outcomes::OUTSIDE_LIMITS, 0);
     }
     let header = task::check_header(file);
     if header.number != 0 {
@@ -49,15 +50,15 @@ pub fn check_task(file: &[u8]) -> Outcome
 pub fn check_origin(file: &[u8]) -> Outcome
     ensures { λ r. ⌜ r ≡ checkOrigin (now (file .entry)) ⌝ }
 {
-    if 65536 < file.len() {
-        return outcomes::refuse(4, 0);
+    if limits::MOST_BYTES < file.len() {
+        return outcomes::refuse(outcomes::OUTSIDE_LIMITS, 0);
     }
     let variables = origin::check_variables(file, origin::variables_in(file));
     if variables.number != 0 {
         return variables;
     }
     let at = origin::actions_place(file);
-    let head = records::check_head(file, at, 7);
+    let head = records::check_head(file, at, records::ACTION_ORIGIN);
     if head.number != 0 {
         return head;
     }

@@ -1,17 +1,22 @@
 // Origin files: the check of each record in the order of refusals.
 ghost use mathlib.Core.Path.{_≡_};
-ghost use Prim.Native.Nat.{_+_, _*_, _^_, _<_, _≤_};
+ghost use Prim.Native.Nat.{_+_, _*_, _^_, _<_};
+ghost use Rattle.files.specs.Contracts.{IsBelow, IsAtMost};
 ghost use Rattle.files.specs.OriginFile.{valuesIn, variableOriginAt, variableOriginsAt, actionOriginsAt, originVariablesIn, originActionsPlace};
 ghost use Rattle.files.specs.Records.{offsetLimit};
 use crate::Outcome;
 use crate::bytes;
+use crate::limits;
 use crate::outcomes;
 use crate::reader;
 use crate::records;
 
+// Up to how many variable origins are counted: one more than can pass.
+const COUNTED: usize = limits::MOST_VARIABLES + 1;
+
 // How many values the variable origin at `at` gives.
 fn values_in(s: &[u8], at: usize) -> usize
-    ensures { λ r. ⌜ (r ≡ valuesIn (now (s .entry)) at) × (r < 65536) ⌝ }
+    ensures { λ r. ⌜ IsBelow r (valuesIn (now (s .entry)) at) 65536 ⌝ }
 {
     let body = records::body_length(s, at);
     if body < 2 {
@@ -25,18 +30,18 @@ fn check_variable(s: &[u8], at_least: usize, at: usize) -> Outcome
     requires { ⌜ at < offsetLimit ⌝ }
     ensures { λ r. ⌜ r ≡ variableOriginAt (now (s .entry)) «at_least» at ⌝ }
 {
-    let head = records::check_head(s, at, 6);
+    let head = records::check_head(s, at, records::VARIABLE_ORIGIN);
     if head.number != 0 {
         return head;
     }
     let variable = bytes::u16_at(s, at + 4);
     if variable < at_least {
-        return outcomes::refuse(6, at + 4);
+        return outcomes::refuse(outcomes::NOT_RISING, at + 4);
     }
-    if 64 <= variable {
-        return outcomes::refuse(5, at + 4);
+    if limits::MOST_VARIABLES <= variable {
+        return outcomes::refuse(outcomes::OUT_OF_RANGE, at + 4);
     }
-    records::check_numbers(32, s, at + 6, values_in(s, at))
+    records::check_numbers(limits::MOST_VALUES, s, at + 6, values_in(s, at))
 }
 
 // `count` variable origins from the file's start on.
@@ -70,10 +75,10 @@ pub(crate) fn check_actions(s: &[u8], at: usize, count: usize) -> Outcome
     while 0 < left {
         let action = bytes::u16_at(s, place);
         if action < at_least {
-            return outcomes::refuse(6, place);
+            return outcomes::refuse(outcomes::NOT_RISING, place);
         }
-        if 512 <= action {
-            return outcomes::refuse(5, place);
+        if limits::MOST_ACTIONS <= action {
+            return outcomes::refuse(outcomes::OUT_OF_RANGE, place);
         }
         at_least = action + 1;
         place += 2;
@@ -82,16 +87,16 @@ pub(crate) fn check_actions(s: &[u8], at: usize, count: usize) -> Outcome
     outcomes::done()
 }
 
-// How many records of kind 6 stand in a row at the file's start, counted up to 65.
+// How many records of kind 6 stand in a row at the file's start, counted up to `COUNTED`.
 pub(crate) fn variables_in(s: &[u8]) -> usize
-    ensures { λ r. ⌜ (r ≡ originVariablesIn (now (s .entry))) × (r ≤ 65) ⌝ }
+    ensures { λ r. ⌜ IsAtMost r (originVariablesIn (now (s .entry))) 65 ⌝ }
 {
     let mut found: usize = 0;
     let mut place: usize = 0;
-    let mut left: usize = 65;
+    let mut left = COUNTED;
     while 0 < left {
         let kind = records::kind_at(s, place);
-        if kind != 6 {
+        if kind != records::VARIABLE_ORIGIN {
             return found;
         }
         found += 1;
@@ -103,7 +108,7 @@ pub(crate) fn variables_in(s: &[u8]) -> usize
 
 // Where the record of kind 7 stands.
 pub fn actions_place(s: &[u8]) -> usize
-    ensures { λ r. ⌜ (r ≡ originActionsPlace (now (s .entry))) × (r < 8589934592) ⌝ }
+    ensures { λ r. ⌜ IsBelow r (originActionsPlace (now (s .entry))) 8589934592 ⌝ }
 {
     reader::records_after(s, 0, variables_in(s))
 }

@@ -1,6 +1,6 @@
 // A reader of records, and the walk from record to record.
-ghost use mathlib.Core.Path.{_≡_};
-ghost use Prim.Native.Nat.{_+_, _*_, _<_, _≤_};
+ghost use Prim.Native.Nat.{_+_, _*_, _<_};
+ghost use Rattle.files.specs.Contracts.{IsBelow, IsAtMost, Moved};
 ghost use Rattle.files.specs.Records.{offsetLimit, recordEnd, recordsEnd};
 use crate::records;
 
@@ -13,7 +13,7 @@ pub(crate) struct Reader<'a> {
 // The reader behind the record at its offset.
 pub(crate) fn past<'a>(reader: Reader<'a>) -> Reader<'a>
     requires { ⌜ reader .at < offsetLimit ⌝ }
-    ensures { λ r. ⌜ (r .file ≡ reader .entry .file) × (r .at ≡ recordEnd (now (reader .entry .file)) (reader .entry .at)) × (r .at < reader .entry .at + 65540) ⌝ }
+    ensures { λ r. ⌜ Moved (reader .entry .file) (reader .entry .at) r ⌝ }
 {
     Reader {
         file: reader.file,
@@ -24,7 +24,7 @@ pub(crate) fn past<'a>(reader: Reader<'a>) -> Reader<'a>
 // Where the record after the one at `at` stands.
 pub fn record_after(file: &[u8], at: usize) -> usize
     requires { ⌜ at < offsetLimit ⌝ }
-    ensures { λ r. ⌜ (r ≡ recordEnd (now (file .entry)) at) × (r < at + 65540) ⌝ }
+    ensures { λ r. ⌜ IsBelow r (recordEnd (now (file .entry)) at) (at + 65540) ⌝ }
 {
     past(Reader { file, at }).at
 }
@@ -32,7 +32,7 @@ pub fn record_after(file: &[u8], at: usize) -> usize
 // Where the record after `count` records from `at` on stands.
 pub fn records_after(file: &[u8], at: usize, count: usize) -> usize
     requires { ⌜ at + 65540 * count < offsetLimit ⌝ }
-    ensures { λ r. ⌜ (r ≡ recordsEnd (now (file .entry)) at count) × (r ≤ at + 65540 * count) ⌝ }
+    ensures { λ r. ⌜ IsAtMost r (recordsEnd (now (file .entry)) at count) (at + 65540 * count) ⌝ }
 {
     let mut reader = Reader { file, at };
     let mut left = count;

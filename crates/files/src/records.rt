@@ -4,10 +4,28 @@ ghost use mathlib.Core.List.{_++_};
 ghost use Prim.Native.Nat.{_+_, _*_, _^_, _<_, _≤_};
 ghost use lib.ListN.{length};
 ghost use Rattle.files.specs.Bytes.{u16Bytes, u32Bytes, placed};
-ghost use Rattle.files.specs.Records.{offsetLimit, rule, bodyLength, kindAt, recordEnd, bodyRule, bodyFits, headAt, numbersAt, signOffAt, signerOf, recordBytes};
+ghost use Rattle.files.specs.Contracts.{IsBelow, IsRule};
+ghost use Rattle.files.specs.Records.{offsetLimit, rule, bodyLength, kindAt, recordEnd, bodyFits, headAt, numbersAt, signOffAt, signerOf, recordBytes};
 use crate::Outcome;
 use crate::bytes;
 use crate::outcomes;
+
+// The kinds of records.
+pub(crate) const HEADER: usize = 1;
+
+pub(crate) const VARIABLE: usize = 2;
+
+pub(crate) const GOAL: usize = 3;
+
+pub(crate) const ACTION: usize = 4;
+
+pub(crate) const SIGN_OFF: usize = 5;
+
+pub(crate) const VARIABLE_ORIGIN: usize = 6;
+
+pub(crate) const ACTION_ORIGIN: usize = 7;
+
+pub(crate) const PLAN: usize = 8;
 
 // The body length rule of a kind: at least `least`, in steps of `step`, at most `limit`.
 struct Rule {
@@ -28,23 +46,23 @@ fn lengths(least: usize, step: usize, limit: usize) -> Rule
 
 // The body length rule of each kind; no body fits an unknown one.
 fn body_rule(kind: usize) -> Rule
-    ensures { λ r. ⌜ (r ≡ bodyRule kind) × (0 < r .step) ⌝ }
+    ensures { λ r. ⌜ IsRule r kind ⌝ }
 {
     match kind {
-        1 => lengths(4, 65536, 4),
-        2 => lengths(4, 65536, 4),
-        3 => lengths(0, 4, 256),
-        4 => lengths(8, 1, 65535),
-        5 => lengths(8, 65536, 8),
-        6 => lengths(4, 2, 66),
-        7 => lengths(0, 2, 1024),
-        8 => lengths(0, 2, 8192),
+        HEADER => lengths(4, 65536, 4),
+        VARIABLE => lengths(4, 65536, 4),
+        GOAL => lengths(0, 4, 256),
+        ACTION => lengths(8, 1, 65535),
+        SIGN_OFF => lengths(8, 65536, 8),
+        VARIABLE_ORIGIN => lengths(4, 2, 66),
+        ACTION_ORIGIN => lengths(0, 2, 1024),
+        PLAN => lengths(0, 2, 8192),
         0 | 9.. => lengths(65536, 1, 0),
     }
 }
 
 pub(crate) fn body_length(s: &[u8], at: usize) -> usize
-    ensures { λ r. ⌜ (r ≡ bodyLength (now (s .entry)) at) × (r < 65536) ⌝ }
+    ensures { λ r. ⌜ IsBelow r (bodyLength (now (s .entry)) at) 65536 ⌝ }
 {
     bytes::u16_at(s, at)
 }
@@ -59,7 +77,7 @@ pub(crate) fn kind_at(s: &[u8], at: usize) -> usize
 // Where the record at `at` ends.
 pub(crate) fn record_end(s: &[u8], at: usize) -> usize
     requires { ⌜ at < offsetLimit ⌝ }
-    ensures { λ r. ⌜ (r ≡ recordEnd (now (s .entry)) at) × (r < at + 65540) ⌝ }
+    ensures { λ r. ⌜ IsBelow r (recordEnd (now (s .entry)) at) (at + 65540) ⌝ }
 {
     at + 4 + body_length(s, at)
 }
@@ -70,14 +88,14 @@ fn check_body(allowed: Rule, body: usize, at: usize) -> Outcome
     ensures { λ r. ⌜ r ≡ bodyFits allowed body at ⌝ }
 {
     if body < allowed.least {
-        return outcomes::refuse(3, at);
+        return outcomes::refuse(outcomes::WRONG_LENGTH, at);
     }
     let broken = (body - allowed.least) % allowed.step;
     if broken != 0 {
-        return outcomes::refuse(3, at);
+        return outcomes::refuse(outcomes::WRONG_LENGTH, at);
     }
     if allowed.limit < body {
-        return outcomes::refuse(4, at);
+        return outcomes::refuse(outcomes::OUTSIDE_LIMITS, at);
     }
     outcomes::done()
 }
@@ -88,15 +106,15 @@ pub(crate) fn check_head(s: &[u8], at: usize, kind: usize) -> Outcome
     ensures { λ r. ⌜ r ≡ headAt (now (s .entry)) at kind ⌝ }
 {
     if s.len() < at + 4 {
-        return outcomes::refuse(1, at);
+        return outcomes::refuse(outcomes::CUT_SHORT, at);
     }
     let end = record_end(s, at);
     if s.len() < end {
-        return outcomes::refuse(1, at);
+        return outcomes::refuse(outcomes::CUT_SHORT, at);
     }
     let found = kind_at(s, at);
     if found != kind {
-        return outcomes::refuse(2, at);
+        return outcomes::refuse(outcomes::NOT_DUE, at);
     }
     check_body(body_rule(kind), body_length(s, at), at)
 }
@@ -111,7 +129,7 @@ pub(crate) fn check_numbers(limit: usize, s: &[u8], at: usize, count: usize) -> 
     while 0 < left {
         let n = bytes::u16_at(s, place);
         if limit <= n {
-            return outcomes::refuse(5, place);
+            return outcomes::refuse(outcomes::OUT_OF_RANGE, place);
         }
         place += 2;
         left -= 1;
@@ -124,27 +142,27 @@ pub(crate) fn check_sign_off(s: &[u8], at: usize) -> Outcome
     requires { ⌜ at < offsetLimit ⌝ }
     ensures { λ r. ⌜ r ≡ signOffAt (now (s .entry)) at ⌝ }
 {
-    let head = check_head(s, at, 5);
+    let head = check_head(s, at, SIGN_OFF);
     if head.number != 0 {
         return head;
     }
     let signer = bytes::u32_at(s, at + 4);
     if signer < 1 {
-        return outcomes::refuse(7, at + 4);
+        return outcomes::refuse(outcomes::WRONG_SIGN_OFF, at + 4);
     }
     let before = bytes::u32_at(s, at + 8);
     if before != at {
-        return outcomes::refuse(7, at + 8);
+        return outcomes::refuse(outcomes::WRONG_SIGN_OFF, at + 8);
     }
     if s.len() != at + 12 {
-        return outcomes::refuse(2, at + 12);
+        return outcomes::refuse(outcomes::NOT_DUE, at + 12);
     }
     outcomes::done()
 }
 
 // The signer of an accepted file.
 pub fn signer(s: &[u8]) -> usize
-    ensures { λ r. ⌜ (r ≡ signerOf (now (s .entry))) × (r < 4294967296) ⌝ }
+    ensures { λ r. ⌜ IsBelow r (signerOf (now (s .entry))) 4294967296 ⌝ }
 {
     if s.len() < 8 {
         return bytes::u32_at(s, 0);
@@ -166,7 +184,7 @@ pub fn put_sign_off(buffer: &mut [u8], at: usize, signer: usize)
     requires { ⌜ at + 12 ≤ length (now buffer) ⌝ }
     ensures { λ r. ⌜ now (buffer .exit) ≡ placed (now (buffer .entry)) at (recordBytes 5 (u32Bytes signer ++ u32Bytes at)) ⌝ }
 {
-    put_head(buffer, at, 5, 8);
+    put_head(buffer, at, SIGN_OFF, 8);
     bytes::put_u32(buffer, at + 4, signer);
     bytes::put_u32(buffer, at + 8, at);
 }

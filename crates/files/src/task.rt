@@ -1,24 +1,26 @@
 // Task files: the check of each record in the order of refusals.
 ghost use mathlib.Core.Path.{_≡_};
-ghost use Prim.Native.Nat.{_+_, _*_, _^_, _<_, _≤_};
+ghost use Prim.Native.Nat.{_+_, _*_, _^_, _<_};
 ghost use Rattle.files.specs.Bytes.{u16At};
+ghost use Rattle.files.specs.Contracts.{IsBelow, IsAtMost};
 ghost use Rattle.files.specs.Records.{offsetLimit};
 ghost use Rattle.files.specs.TaskFile.{headerAt, variablesIn, actionsIn, variableAt, variablesAt, sizeAt, pairAt, pairsAt, goalAt, conditionsIn, effectsIn, actionLength, effectsPlace, actionFormAt, actionAt, actionsAt, goalPlace, actionsPlace, actionPlace};
 use crate::Outcome;
 use crate::bytes;
+use crate::limits;
 use crate::outcomes;
 use crate::reader;
 use crate::records;
 
 // The counts that a header states.
 pub fn variables_in(s: &[u8]) -> usize
-    ensures { λ r. ⌜ (r ≡ variablesIn (now (s .entry))) × (r < 65536) ⌝ }
+    ensures { λ r. ⌜ IsBelow r (variablesIn (now (s .entry))) 65536 ⌝ }
 {
     bytes::u16_at(s, 4)
 }
 
 pub fn actions_in(s: &[u8]) -> usize
-    ensures { λ r. ⌜ (r ≡ actionsIn (now (s .entry))) × (r < 65536) ⌝ }
+    ensures { λ r. ⌜ IsBelow r (actionsIn (now (s .entry))) 65536 ⌝ }
 {
     bytes::u16_at(s, 6)
 }
@@ -26,17 +28,17 @@ pub fn actions_in(s: &[u8]) -> usize
 pub(crate) fn check_header(s: &[u8]) -> Outcome
     ensures { λ r. ⌜ r ≡ headerAt (now (s .entry)) ⌝ }
 {
-    let head = records::check_head(s, 0, 1);
+    let head = records::check_head(s, 0, records::HEADER);
     if head.number != 0 {
         return head;
     }
     let variables = bytes::u16_at(s, 4);
-    if 64 < variables {
-        return outcomes::refuse(4, 4);
+    if limits::MOST_VARIABLES < variables {
+        return outcomes::refuse(outcomes::OUTSIDE_LIMITS, 4);
     }
     let actions = bytes::u16_at(s, 6);
-    if 512 < actions {
-        return outcomes::refuse(4, 6);
+    if limits::MOST_ACTIONS < actions {
+        return outcomes::refuse(outcomes::OUTSIDE_LIMITS, 6);
     }
     outcomes::done()
 }
@@ -45,20 +47,20 @@ fn check_variable(s: &[u8], at: usize) -> Outcome
     requires { ⌜ at < offsetLimit ⌝ }
     ensures { λ r. ⌜ r ≡ variableAt (now (s .entry)) at ⌝ }
 {
-    let head = records::check_head(s, at, 2);
+    let head = records::check_head(s, at, records::VARIABLE);
     if head.number != 0 {
         return head;
     }
     let size = bytes::u16_at(s, at + 4);
     if size < 1 {
-        return outcomes::refuse(4, at + 4);
+        return outcomes::refuse(outcomes::OUTSIDE_LIMITS, at + 4);
     }
-    if 32 < size {
-        return outcomes::refuse(4, at + 4);
+    if limits::MOST_VALUES < size {
+        return outcomes::refuse(outcomes::OUTSIDE_LIMITS, at + 4);
     }
     let start = bytes::u16_at(s, at + 6);
     if size <= start {
-        return outcomes::refuse(5, at + 6);
+        return outcomes::refuse(outcomes::OUT_OF_RANGE, at + 6);
     }
     outcomes::done()
 }
@@ -95,16 +97,16 @@ fn check_pair(s: &[u8], at_least: usize, at: usize) -> Outcome
 {
     let variable = bytes::u16_at(s, at);
     if variable < at_least {
-        return outcomes::refuse(6, at);
+        return outcomes::refuse(outcomes::NOT_RISING, at);
     }
     let variables = variables_in(s);
     if variables <= variable {
-        return outcomes::refuse(5, at);
+        return outcomes::refuse(outcomes::OUT_OF_RANGE, at);
     }
     let value = bytes::u16_at(s, at + 2);
     let size = size_at(s, at);
     if size <= value {
-        return outcomes::refuse(5, at + 2);
+        return outcomes::refuse(outcomes::OUT_OF_RANGE, at + 2);
     }
     outcomes::done()
 }
@@ -133,7 +135,7 @@ pub(crate) fn check_goal(s: &[u8], at: usize) -> Outcome
     requires { ⌜ at < offsetLimit ⌝ }
     ensures { λ r. ⌜ r ≡ goalAt (now (s .entry)) at ⌝ }
 {
-    let head = records::check_head(s, at, 3);
+    let head = records::check_head(s, at, records::GOAL);
     if head.number != 0 {
         return head;
     }
@@ -143,14 +145,14 @@ pub(crate) fn check_goal(s: &[u8], at: usize) -> Outcome
 // The counts of an action record.
 pub fn conditions_in(s: &[u8], at: usize) -> usize
     requires { ⌜ at < offsetLimit ⌝ }
-    ensures { λ r. ⌜ (r ≡ conditionsIn (now (s .entry)) at) × (r < 65536) ⌝ }
+    ensures { λ r. ⌜ IsBelow r (conditionsIn (now (s .entry)) at) 65536 ⌝ }
 {
     bytes::u16_at(s, at + 8)
 }
 
 pub(crate) fn effects_in(s: &[u8], at: usize) -> usize
     requires { ⌜ at < offsetLimit ⌝ }
-    ensures { λ r. ⌜ (r ≡ effectsIn (now (s .entry)) at) × (r < 65536) ⌝ }
+    ensures { λ r. ⌜ IsBelow r (effectsIn (now (s .entry)) at) 65536 ⌝ }
 {
     bytes::u16_at(s, at + 10)
 }
@@ -158,7 +160,7 @@ pub(crate) fn effects_in(s: &[u8], at: usize) -> usize
 // Where the effects of the action record at `at` stand.
 pub(crate) fn effects_place(s: &[u8], at: usize) -> usize
     requires { ⌜ at < offsetLimit ⌝ }
-    ensures { λ r. ⌜ (r ≡ effectsPlace (now (s .entry)) at) × (r ≤ at + 262152) ⌝ }
+    ensures { λ r. ⌜ IsAtMost r (effectsPlace (now (s .entry)) at) (at + 262152) ⌝ }
 {
     at + 12 + 4 * conditions_in(s, at)
 }
@@ -177,21 +179,21 @@ fn check_action_form(s: &[u8], at: usize) -> Outcome
     ensures { λ r. ⌜ r ≡ actionFormAt (now (s .entry)) at ⌝ }
 {
     let cost = bytes::u32_at(s, at + 4);
-    if 1000000 < cost {
-        return outcomes::refuse(4, at + 4);
+    if limits::MOST_COST < cost {
+        return outcomes::refuse(outcomes::OUTSIDE_LIMITS, at + 4);
     }
     let conditions = conditions_in(s, at);
-    if 64 < conditions {
-        return outcomes::refuse(4, at + 8);
+    if limits::MOST_PAIRS < conditions {
+        return outcomes::refuse(outcomes::OUTSIDE_LIMITS, at + 8);
     }
     let effects = effects_in(s, at);
-    if 64 < effects {
-        return outcomes::refuse(4, at + 10);
+    if limits::MOST_PAIRS < effects {
+        return outcomes::refuse(outcomes::OUTSIDE_LIMITS, at + 10);
     }
     let body = records::body_length(s, at);
     let due = action_length(s, at);
     if body != due {
-        return outcomes::refuse(3, at);
+        return outcomes::refuse(outcomes::WRONG_LENGTH, at);
     }
     outcomes::done()
 }
@@ -200,7 +202,7 @@ fn check_action(s: &[u8], at: usize) -> Outcome
     requires { ⌜ at < offsetLimit ⌝ }
     ensures { λ r. ⌜ r ≡ actionAt (now (s .entry)) at ⌝ }
 {
-    let head = records::check_head(s, at, 4);
+    let head = records::check_head(s, at, records::ACTION);
     if head.number != 0 {
         return head;
     }
@@ -235,20 +237,20 @@ pub(crate) fn check_actions(s: &[u8], at: usize, count: usize) -> Outcome
 
 // Where the goal, the first action and action `a` stand.
 pub(crate) fn goal_place(s: &[u8]) -> usize
-    ensures { λ r. ⌜ (r ≡ goalPlace (now (s .entry))) × (r < 600000) ⌝ }
+    ensures { λ r. ⌜ IsBelow r (goalPlace (now (s .entry))) 600000 ⌝ }
 {
     8 * variables_in(s) + 8
 }
 
 pub(crate) fn actions_place(s: &[u8]) -> usize
-    ensures { λ r. ⌜ (r ≡ actionsPlace (now (s .entry))) × (r < 700000) ⌝ }
+    ensures { λ r. ⌜ IsBelow r (actionsPlace (now (s .entry))) 700000 ⌝ }
 {
     reader::record_after(s, goal_place(s))
 }
 
 pub fn action_place(s: &[u8], a: usize) -> usize
     requires { ⌜ a < 65536 ⌝ }
-    ensures { λ r. ⌜ (r ≡ actionPlace (now (s .entry)) a) × (r < 8589934592) ⌝ }
+    ensures { λ r. ⌜ IsBelow r (actionPlace (now (s .entry)) a) 8589934592 ⌝ }
 {
     reader::records_after(s, actions_place(s), a)
 }

@@ -31,4 +31,5 @@ pub mod RoundProgress
 pub mod RoundCount
 pub mod Rounding
 pub mod MarkLaws
+pub mod MarkRow
 pub mod Answers

@@ -9,6 +9,7 @@ use Rattle.files.specs.Below.{tabulate, anyBelow, bit, countBelow, sumBelow}
 use Rattle.files.specs.Dense.{rowPairs}
 use Rattle.files.specs.Task.{Action, Task, action, variableCount, actionCount, sizeOf}
 use Rattle.marking.specs.Marks.{kept}
+use Rattle.marking.specs.Covering.{couldCover}
 use Rattle.marking.specs.Rounds.{marking}
 use Rattle.marking.specs.Mark.{factMark}
 
@@ -64,6 +65,10 @@ missing conditions base other count = countBelow count (λ v. otherThan (getD co
 -- what covering asks of an action in every round: its cost and its conditions
 abbrev pub askedBy : List ℕ → List ℕ → ℕ → ℕ → Action
 askedBy costs conditions variables a = action (getD costs a 0) (rowPairs conditions (64 * a) 0 variables) []
+
+-- b could cover a, by cost and conditions
+abbrev pub couldCoverAt : List ℕ → List ℕ → ℕ → ℕ → ℕ → Bool
+couldCoverAt costs conditions variables b a = couldCover (askedBy costs conditions variables b) (askedBy costs conditions variables a)
 
 -- on how many tracked variables the effects at `base` and at `other` are unlike
 unfoldable pub unlike : List ℕ → List ℕ → ℕ → ℕ → ℕ → ℕ

@@ -1,12 +1,13 @@
 -- The result of marking as bytes, and the answer of the call with what its buffers hold.
 use Prim.Native.Nat.{ℕ, _+_}
-use mathlib.Core.Bool.{Bool, cond, _&&_}
-use mathlib.Core.List.{List, map}
+use mathlib.Core.Bool.{Bool, _&&_}
+use mathlib.Core.List.{List, [], _∷_, map}
 use lib.Dec.{leb}
 use lib.ListN.{length}
 use Rattle.files.specs.declared.Outcome.{Outcome}
 use Rattle.files.specs.Below.{tabulate, bit, joinBelow}
-use Rattle.files.specs.Outcome.{done, isDone, guard, andThen, fits, after}
+use Rattle.files.specs.Outcome.{done, guard, andThen, fits, overwrite}
+use Rattle.files.specs.Stages.{Stage, stage, leftBy, answerBy, ByStages}
 use Rattle.files.specs.Task.{Task, variableCount, actionCount, factCount, sizeOf}
 use Rattle.files.specs.TaskFile.{checkTask, taskOf}
 use Rattle.marking.specs.Marks.{Marks, kept, relevant}
@@ -35,30 +36,50 @@ validLevel level = leb 1 level && leb level 4
 unfoldable pub marksFit : Task → ℕ → ℕ → Outcome
 marksFit t actionRoom factRoom = fits (actionCount t) actionRoom (fits (factCount t) factRoom done)
 
-unfoldable pub markOutcome : List ℕ → ℕ → ℕ → ℕ → Outcome
-markOutcome task level actionRoom factRoom =
+-- the lent buffers
+pub record MarkBuffers : Type 0 where
+  pub actions : List ℕ
+  pub facts : List ℕ
+
+abbrev pub markBuffers : List ℕ → List ℕ → MarkBuffers
+markBuffers actions facts = record { actions = actions; facts = facts }
+
+-- both buffers with the marks at their fronts
+abbrev pub markedBuffers : Task → ℕ → MarkBuffers → MarkBuffers
+markedBuffers t level b = markBuffers (overwrite (b .actions) (actionMarksOf t level)) (overwrite (b .facts) (factMarksOf t level))
+
+-- the file and the level that are given
+unfoldable pub markInput : List ℕ → ℕ → Outcome
+markInput task level =
     andThen (checkTask task)
     (guard (validLevel level) 8 0
-    (marksFit (taskOf task) actionRoom factRoom))
+    done)
+
+-- one stage, after what is given: the room for both marks, then both are written
+unfoldable pub markStages : Outcome → Task → ℕ → MarkBuffers → List (Stage MarkBuffers)
+markStages input t level b = stage (andThen input (marksFit t (length (b .actions)) (length (b .facts)))) (markedBuffers t level b) ∷ []
+
+-- both lengths and the round count
+abbrev pub markWhole : Task → ℕ → Marked
+markWhole t level = record { outcome = done; «action_marks» = actionCount t; «fact_marks» = factCount t; rounds = marking t level .rounds }
 
 -- beside a refusal there are no lengths and no rounds
 abbrev pub noMarks : Outcome → Marked
 noMarks o = record { outcome = o; «action_marks» = 0; «fact_marks» = 0; rounds = 0 }
 
--- an outcome with lengths and rounds
-unfoldable pub markAnswer : Outcome → Task → ℕ → Marked
-markAnswer o t level =
-    let answer : Marked = record { outcome = o; «action_marks» = actionCount t; «fact_marks» = factCount t; rounds = marking t level .rounds } in
-    cond (isDone o) answer (noMarks o)
+-- marking of a task, after what is given: what it answers, and what the buffers hold now
+abbrev pub MarksTask : Outcome → Task → ℕ → MarkBuffers → Marked → MarkBuffers → Type 0
+MarksTask input t level b answer now = ByStages (markStages input t level b) (markWhole t level) noMarks b answer now
 
-unfoldable pub mark : List ℕ → ℕ → ℕ → ℕ → Marked
-mark task level actionRoom factRoom = markAnswer (markOutcome task level actionRoom factRoom) (taskOf task) level
+-- marking called alone
+abbrev pub MarksFile : List ℕ → ℕ → MarkBuffers → Marked → MarkBuffers → Type 0
+MarksFile task level b answer now = MarksTask (markInput task level) (taskOf task) level b answer now
 
--- both buffers after the call
-unfoldable pub markedActions : List ℕ → ℕ → List ℕ → List ℕ → List ℕ
-markedActions task level actions facts =
-    after (markOutcome task level (length actions) (length facts)) (actionMarksOf (taskOf task) level) actions
+abbrev pub fileStages : List ℕ → ℕ → MarkBuffers → List (Stage MarkBuffers)
+fileStages task level b = markStages (markInput task level) (taskOf task) level b
 
-unfoldable pub markedFacts : List ℕ → ℕ → List ℕ → List ℕ → List ℕ
-markedFacts task level actions facts =
-    after (markOutcome task level (length actions) (length facts)) (factMarksOf (taskOf task) level) facts
+abbrev pub mark : List ℕ → ℕ → MarkBuffers → Marked
+mark task level b = answerBy (fileStages task level b) (markWhole (taskOf task) level) noMarks
+
+abbrev pub markAfter : List ℕ → ℕ → MarkBuffers → MarkBuffers
+markAfter task level b = leftBy (fileStages task level b) b

@@ -3,6 +3,7 @@ ghost use mathlib.Core.Path.{_≡_};
 ghost use mathlib.Core.Bool.{cond};
 ghost use Rattle.files.specs.Below.{bit};
 ghost use Rattle.marking.specs.Dense.{otherThan};
+use files::limits;
 
 pub fn bit_of(test: bool) -> u8
     ensures { λ r. ⌜ r ≡ bit test ⌝ }
@@ -21,7 +22,7 @@ pub fn raised(mark: u8, test: bool) -> u8
 pub fn other_than(cell: u8, value: u8) -> bool
     ensures { λ r. ⌜ r ≡ otherThan cell value ⌝ }
 {
-    if cell == 255 {
+    if cell == limits::NO_PAIR {
         return false;
     }
     cell != value

@@ -1,19 +1,21 @@
 // Covered actions. What could cover what, by cost and conditions, is worked out once, in a table
 // with a row of 512 cells for each action.
 ghost use mathlib.Core.Path.{_≡_};
-ghost use Prim.Native.Nat.{ℕ, _+_, _*_, _≤_, _<_};
+ghost use Prim.Native.Nat.{ℕ, _+_, _*_, _<_};
 ghost use mathlib.Core.Bool.{_&&_, not};
-ghost use lib.Dec.{eqb, ltb};
-ghost use lib.ListN.{length, getD};
+ghost use lib.Dec.{eqb};
+ghost use lib.ListN.{getD};
 ghost use Rattle.files.specs.Below.{bit};
-ghost use Rattle.marking.specs.Covering.{couldCover};
-ghost use Rattle.marking.specs.Dense.{missing, askedBy, unlike, coversAt, coveredAt, countedAt};
+ghost use Rattle.files.specs.Contracts.{WithinLimits, Writable};
+ghost use Rattle.marking.specs.Contracts.{ActionAmong, TwoActions, TwoRows, RowFilled, CovererIs};
+ghost use Rattle.marking.specs.Dense.{missing, couldCoverAt, unlike, coversAt, coveredAt, countedAt};
 use crate::cells;
 use crate::rounds::Scope;
+use files::limits;
 
 // How many conditions of the row at `base` do not stand in the row at `other`.
 fn missing(conditions: &[u8; 32768], base: usize, other: usize, variables: usize) -> u8
-    requires { ⌜ (variables ≤ 64) × (base + 64 ≤ 32768) × (other + 64 ≤ 32768) ⌝ }
+    requires { ⌜ TwoRows base other variables ⌝ }
     ensures { λ r. ⌜ r ≡ missing (now (conditions .entry)) base other variables ⌝ }
 {
     let mut count: u8 = 0;
@@ -34,16 +36,16 @@ fn pair_could_cover(
     b: usize,
     a: usize,
 ) -> bool
-    requires { ⌜ (variables ≤ 64) × (b < 512) × (a < 512) ⌝ }
-    ensures { λ r. ⌜ r ≡ couldCover (askedBy (now (costs .entry)) (now (conditions .entry)) variables b) (askedBy (now (costs .entry)) (now (conditions .entry)) variables a) ⌝ }
+    requires { ⌜ TwoActions variables b a ⌝ }
+    ensures { λ r. ⌜ r ≡ couldCoverAt (now (costs .entry)) (now (conditions .entry)) variables b a ⌝ }
 {
     if costs[b] != costs[a] {
         return false;
     }
-    if missing(conditions, 64 * b, 64 * a, variables) != 0 {
+    if missing(conditions, limits::ROW * b, limits::ROW * a, variables) != 0 {
         return false;
     }
-    missing(conditions, 64 * a, 64 * b, variables) != 0
+    missing(conditions, limits::ROW * a, limits::ROW * b, variables) != 0
 }
 
 // The row of one action in the table.
@@ -55,13 +57,13 @@ fn fill_row(
     actions: usize,
     a: usize,
 )
-    requires { ⌜ (variables ≤ 64) × (actions ≤ 512) × (a < 512) × (262144 ≤ length (now «could_cover»)) ⌝ }
-    ensures { λ r. ⌜ (length (now («could_cover» .exit)) ≡ length (now («could_cover» .entry))) × ((b : ℕ) → b < actions → getD (now («could_cover» .exit)) (512 * a + b) 0 ≡ bit (couldCover (askedBy (now (costs .entry)) (now (conditions .entry)) variables b) (askedBy (now (costs .entry)) (now (conditions .entry)) variables a))) × ((i : ℕ) → i < 512 * a → getD (now («could_cover» .exit)) i 0 ≡ getD (now («could_cover» .entry)) i 0) ⌝ }
+    requires { ⌜ Writable (ActionAmong variables actions a) 262144 (now «could_cover») ⌝ }
+    ensures { λ r. ⌜ RowFilled (now (costs .entry)) (now (conditions .entry)) variables actions a (now («could_cover» .entry)) (now («could_cover» .exit)) ⌝ }
 {
     let mut b: usize = 0;
     while b < actions {
         let test = pair_could_cover(costs, conditions, variables, b, a);
-        could_cover[512 * a + b] = cells::bit_of(test);
+        could_cover[limits::MOST_ACTIONS * a + b] = cells::bit_of(test);
         b += 1;
     }
 }
@@ -73,8 +75,8 @@ pub fn fill_could_cover(
     costs: &[u32; 512],
     conditions: &[u8; 32768],
 )
-    requires { ⌜ (scope .variables ≤ 64) × (scope .actions ≤ 512) × (262144 ≤ length (now «could_cover»)) ⌝ }
-    ensures { λ r. ⌜ (scope .level ≡ 4 → (a b : ℕ) → a < scope .actions → b < scope .actions → getD (now («could_cover» .exit)) (512 * a + b) 0 ≡ bit (couldCover (askedBy (now (costs .entry)) (now (conditions .entry)) (scope .variables) b) (askedBy (now (costs .entry)) (now (conditions .entry)) (scope .variables) a))) ⌝ }
+    requires { ⌜ Writable (WithinLimits (scope .variables) (scope .actions)) 262144 (now «could_cover») ⌝ }
+    ensures { λ r. ⌜ (scope .level ≡ 4 → (a b : ℕ) → a < scope .actions → b < scope .actions → getD (now («could_cover» .exit)) (512 * a + b) 0 ≡ bit (couldCoverAt (now (costs .entry)) (now (conditions .entry)) (scope .variables) b a)) ⌝ }
 {
     let variables = scope.variables;
     let actions = scope.actions;
@@ -106,7 +108,7 @@ fn unlike(
     other: usize,
     variables: usize,
 ) -> u8
-    requires { ⌜ (variables ≤ 64) × (base + 64 ≤ 32768) × (other + 64 ≤ 32768) ⌝ }
+    requires { ⌜ TwoRows base other variables ⌝ }
     ensures { λ r. ⌜ r ≡ unlike (now (effects .entry)) (now (tracked .entry)) base other variables ⌝ }
 {
     let mut count: u8 = 0;
@@ -129,16 +131,23 @@ fn covers(
     b: usize,
     a: usize,
 ) -> bool
-    requires { ⌜ (variables ≤ 64) × (b < 512) × (a < 512) ⌝ }
+    requires { ⌜ TwoActions variables b a ⌝ }
     ensures { λ r. ⌜ r ≡ coversAt (now (kept .entry)) (now («could_cover» .entry)) (now (effects .entry)) (now (tracked .entry)) variables b a ⌝ }
 {
     if kept[b] != 1 {
         return false;
     }
-    if could_cover[512 * a + b] != 1 {
+    if could_cover[limits::MOST_ACTIONS * a + b] != 1 {
         return false;
     }
-    unlike(effects, tracked, 64 * b, 64 * a, variables) == 0
+    unlike(
+        effects,
+        tracked,
+        limits::ROW * b,
+        limits::ROW * a,
+        variables,
+    )
+        == 0
 }
 
 // The first action that covers a, or `actions`.
@@ -150,8 +159,8 @@ fn find_coverer(
     tracked: &[u8; 64],
     a: usize,
 ) -> usize
-    requires { ⌜ (scope .variables ≤ 64) × (scope .actions ≤ 512) × (a < 512) ⌝ }
-    ensures { λ r. ⌜ (ltb r (scope .actions) ≡ coveredAt (now (kept .entry)) (now («could_cover» .entry)) (now (effects .entry)) (now (tracked .entry)) (scope .variables) (scope .actions) a) × (r ≤ 512) ⌝ }
+    requires { ⌜ ActionAmong (scope .variables) (scope .actions) a ⌝ }
+    ensures { λ r. ⌜ CovererIs r (scope .actions) (coveredAt (now (kept .entry)) (now («could_cover» .entry)) (now (effects .entry)) (now (tracked .entry)) (scope .variables) (scope .actions) a) ⌝ }
 {
     let variables = scope.variables;
     let actions = scope.actions;
@@ -175,8 +184,8 @@ fn coverer(
     a: usize,
     before: u16,
 ) -> usize
-    requires { ⌜ (scope .variables ≤ 64) × (scope .actions ≤ 512) × (a < 512) ⌝ }
-    ensures { λ r. ⌜ (ltb r (scope .actions) ≡ coveredAt (now (kept .entry)) (now («could_cover» .entry)) (now (effects .entry)) (now (tracked .entry)) (scope .variables) (scope .actions) a) × (r ≤ 512) ⌝ }
+    requires { ⌜ ActionAmong (scope .variables) (scope .actions) a ⌝ }
+    ensures { λ r. ⌜ CovererIs r (scope .actions) (coveredAt (now (kept .entry)) (now («could_cover» .entry)) (now (effects .entry)) (now (tracked .entry)) (scope .variables) (scope .actions) a) ⌝ }
 {
     let variables = scope.variables;
     let first = before as usize;
@@ -199,7 +208,7 @@ fn is_counted(
     coverers: &mut [u16; 512],
     a: usize,
 ) -> bool
-    requires { ⌜ (scope .variables ≤ 64) × (scope .actions ≤ 512) × (a < 512) ⌝ }
+    requires { ⌜ ActionAmong (scope .variables) (scope .actions) a ⌝ }
     ensures { λ r. ⌜ r ≡ countedAt (scope .level) (now (kept .entry)) (now («counted_before» .entry)) (coveredAt (now (kept .entry)) (now («could_cover» .entry)) (now (effects .entry)) (now (tracked .entry)) (scope .variables) (scope .actions) a) a ⌝ }
 {
     if counted_before[a] == 1 {
@@ -226,7 +235,7 @@ pub fn counted(
     tracked: &[u8; 64],
     coverers: &mut [u16; 512],
 ) -> [u8; 512]
-    requires { ⌜ (scope .variables ≤ 64) × (scope .actions ≤ 512) ⌝ }
+    requires { ⌜ WithinLimits (scope .variables) (scope .actions) ⌝ }
     ensures { λ r. ⌜ ((a : ℕ) → a < scope .actions → getD r a 0 ≡ bit (countedAt (scope .level) (now (kept .entry)) (now («counted_before» .entry)) (coveredAt (now (kept .entry)) (now («could_cover» .entry)) (now (effects .entry)) (now (tracked .entry)) (scope .variables) (scope .actions) a) a)) ⌝ }
 {
     let mut marks = [0u8; 512];

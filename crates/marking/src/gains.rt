@@ -1,20 +1,26 @@
 // The actions and the facts that a round gains.
 ghost use mathlib.Core.Bool.{_&&_, not};
-ghost use Prim.Native.Nat.{_+_, _*_, _/_, _%_, _≤_, _<_};
+ghost use Prim.Native.Nat.{_*_, _/_, _%_, _<_};
 ghost use lib.Dec.{eqb, ltb};
 ghost use lib.ListN.{length};
+ghost use Rattle.files.specs.Contracts.{WithinLimits, ActionWithin, Writable};
+ghost use Rattle.marking.specs.Contracts.{Among, WholeRow};
 ghost use Rattle.marking.specs.Dense.{SetWhere, sets, achieves, namesAt, rowNames, namesAnew};
 use crate::cells;
 use crate::rounds::Scope;
+use files::limits;
+
+// How many places a variable has, as a byte.
+const VALUES: u8 = limits::MOST_VALUES as u8;
 
 // Keeps the actions that set a variable to a value.
 fn keep_setters(kept: &mut [u8], effects: &[u8; 32768], v: usize, value: u8, actions: usize)
-    requires { ⌜ (v < 64) × (actions ≤ 512) × (512 ≤ length (now kept)) ⌝ }
+    requires { ⌜ Writable (Among v 64 actions) 512 (now kept) ⌝ }
     ensures { λ r. ⌜ SetWhere (sets (now (effects .entry)) v value actions) (now (kept .entry)) (now (kept .exit)) ⌝ }
 {
     let mut a: usize = 0;
     while a < actions {
-        kept[a] = cells::raised(kept[a], effects[64 * a + v] == value);
+        kept[a] = cells::raised(kept[a], effects[limits::ROW * a + v] == value);
         a += 1;
     }
 }
@@ -28,11 +34,17 @@ fn keep_anew(
     unlinked: u8,
     unlinked_before: u8,
 )
-    requires { ⌜ (place < 2048) × (actions ≤ 512) × (512 ≤ length (now kept)) ⌝ }
+    requires { ⌜ Writable (Among place 2048 actions) 512 (now kept) ⌝ }
     ensures { λ r. ⌜ SetWhere (λ a. not (eqb unlinked «unlinked_before») && sets (now (effects .entry)) (place / 32) (place % 32) actions a) (now (kept .entry)) (now (kept .exit)) ⌝ }
 {
     if unlinked != unlinked_before {
-        keep_setters(kept, effects, place / 32, (place % 32) as u8, actions);
+        keep_setters(
+            kept,
+            effects,
+            place / limits::MOST_VALUES,
+            (place % limits::MOST_VALUES) as u8,
+            actions,
+        );
     }
 }
 
@@ -45,11 +57,11 @@ pub(crate) fn gain_actions(
     unlinked_before: &[u8; 2048],
     unlinked: &[u8; 2048],
 )
-    requires { ⌜ (scope .variables ≤ 64) × (scope .actions ≤ 512) × (512 ≤ length (now kept)) ⌝ }
+    requires { ⌜ Writable (WithinLimits (scope .variables) (scope .actions)) 512 (now kept) ⌝ }
     ensures { λ r. ⌜ SetWhere (achieves (now (effects .entry)) (scope .actions) (now («unlinked_before» .entry)) (now (unlinked .entry)) (32 * scope .variables)) (now (kept .entry)) (now (kept .exit)) ⌝ }
 {
     let actions = scope.actions;
-    let places = 32 * scope.variables;
+    let places = limits::MOST_VALUES * scope.variables;
     let mut i: usize = 0;
     while i < places {
         keep_anew(kept, effects, i, actions, unlinked[i], unlinked_before[i]);
@@ -59,29 +71,32 @@ pub(crate) fn gain_actions(
 
 // Marks the first `size` values of a variable.
 fn name_values(facts: &mut [u8], v: usize, size: usize)
-    requires { ⌜ (v < 64) × (2048 ≤ length (now facts)) ⌝ }
+    requires { ⌜ Writable (v < 64) 2048 (now facts) ⌝ }
     ensures { λ r. ⌜ SetWhere (λ i. eqb (i / 32) v && ltb (i % 32) size) (now (facts .entry)) (now (facts .exit)) ⌝ }
 {
     let mut d: usize = 0;
-    while d < 32 {
-        facts[32 * v + d] = cells::raised(facts[32 * v + d], d < size);
+    while d < limits::MOST_VALUES {
+        facts[limits::MOST_VALUES * v + d] = cells::raised(
+            facts[limits::MOST_VALUES * v + d],
+            d < size,
+        );
         d += 1;
     }
 }
 
 // Marks the facts that a cell of a row names: all of its variable's where that counts `whole`.
 fn name_cell(facts: &mut [u8], whole: bool, v: usize, cell: u8, size: u8)
-    requires { ⌜ (v < 64) × (2048 ≤ length (now facts)) ⌝ }
+    requires { ⌜ Writable (v < 64) 2048 (now facts) ⌝ }
     ensures { λ r. ⌜ SetWhere (namesAt whole v cell size) (now (facts .entry)) (now (facts .exit)) ⌝ }
 {
-    if cell == 255 {
+    if cell == limits::NO_PAIR {
         return;
     }
     if whole {
         name_values(facts, v, size as usize);
         return;
     }
-    facts[32 * v + (cell % 32) as usize] = 1;
+    facts[limits::MOST_VALUES * v + (cell % VALUES) as usize] = 1;
 }
 
 // Marks the facts that the row at `base` names.
@@ -93,7 +108,7 @@ pub fn name_row(
     base: usize,
     sizes: &[u8; 64],
 )
-    requires { ⌜ (scope .variables ≤ 64) × (base + 64 ≤ length (now row)) × (2048 ≤ length (now facts)) ⌝ }
+    requires { ⌜ Writable (WholeRow (length (now row)) base (scope .variables)) 2048 (now facts) ⌝ }
     ensures { λ r. ⌜ SetWhere (rowNames whole (now (row .entry)) base (now (sizes .entry)) (scope .variables)) (now (facts .entry)) (now (facts .exit)) ⌝ }
 {
     let mut v: usize = 0;
@@ -114,11 +129,11 @@ fn name_anew(
     counted: u8,
     counted_before: u8,
 )
-    requires { ⌜ (scope .variables ≤ 64) × (action < 512) × (2048 ≤ length (now facts)) ⌝ }
+    requires { ⌜ Writable (ActionWithin action (scope .variables)) 2048 (now facts) ⌝ }
     ensures { λ r. ⌜ SetWhere (λ i. not (eqb counted «counted_before») && rowNames whole (now (conditions .entry)) (64 * action) (now (sizes .entry)) (scope .variables) i) (now (facts .entry)) (now (facts .exit)) ⌝ }
 {
     if counted != counted_before {
-        name_row(facts, scope, whole, conditions, 64 * action, sizes);
+        name_row(facts, scope, whole, conditions, limits::ROW * action, sizes);
     }
 }
 
@@ -133,7 +148,7 @@ pub fn gain_facts(
     counted: &[u8; 512],
     counted_before: &[u8; 512],
 )
-    requires { ⌜ (scope .variables ≤ 64) × (scope .actions ≤ 512) × (2048 ≤ length (now facts)) ⌝ }
+    requires { ⌜ Writable (WithinLimits (scope .variables) (scope .actions)) 2048 (now facts) ⌝ }
     ensures { λ r. ⌜ SetWhere (namesAnew whole (now (conditions .entry)) (now (sizes .entry)) (scope .variables) (now (counted .entry)) (now («counted_before» .entry)) (scope .actions)) (now (facts .entry)) (now (facts .exit)) ⌝ }
 {
     let mut a: usize = 0;

@@ -7,9 +7,7 @@ pub mod links;
 mod results;
 pub mod rounds;
 
-ghost use mathlib.Core.Path.{_≡_};
-ghost use lib.ListN.{length};
-ghost use Rattle.marking.specs.Mark.{mark, markedActions, markedFacts};
+ghost use Rattle.marking.specs.Mark.{MarksFile, markBuffers};
 use files::outcomes;
 
 // What marking answers: both lengths written and the round count, 0 beside a refusal.
@@ -22,9 +20,7 @@ pub struct Marked {
 
 // Marks the kept actions and the relevant facts of a task file's task at a level, a byte each.
 pub fn mark(task: &[u8], level: u32, actions: &mut [u8], facts: &mut [u8]) -> Marked
-    ensures answer { λ r. ⌜ r ≡ mark (now (task .entry)) level (length (now (actions .entry))) (length (now (facts .entry))) ⌝ }
-    ensures actions { λ r. ⌜ now (actions .exit) ≡ markedActions (now (task .entry)) level (now (actions .entry)) (now (facts .entry)) ⌝ }
-    ensures facts { λ r. ⌜ now (facts .exit) ≡ markedFacts (now (task .entry)) level (now (actions .entry)) (now (facts .entry)) ⌝ }
+    ensures { λ r. ⌜ MarksFile (now (task .entry)) level (markBuffers (now (actions .entry)) (now (facts .entry))) r (markBuffers (now (actions .exit)) (now (facts .exit))) ⌝ }
 {
     let mut sizes = [0u8; 64];
     let mut starts = [0u8; 64];
@@ -45,7 +41,7 @@ pub fn mark(task: &[u8], level: u32, actions: &mut [u8], facts: &mut [u8]) -> Ma
         return rounds::refused(read);
     }
     if !rounds::valid_level(level) {
-        return rounds::refused(outcomes::refuse(8, 0));
+        return rounds::refused(outcomes::refuse(outcomes::UNKNOWN_LEVEL, 0));
     }
     let scope = rounds::Scope {
         level: level,

@@ -1,13 +1,16 @@
 // Threatened variables, linked facts and tracked variables.
 ghost use mathlib.Core.Path.{_≡_};
 ghost use mathlib.Core.Bool.{_&&_, not};
-ghost use Prim.Native.Nat.{ℕ, _+_, _*_, _≤_, _<_};
+ghost use Prim.Native.Nat.{ℕ, _*_, _≤_, _<_};
 ghost use lib.Dec.{eqb};
-ghost use lib.ListN.{length, getD};
+ghost use lib.ListN.{getD};
 ghost use Rattle.files.specs.Below.{bit};
+ghost use Rattle.files.specs.Contracts.{WithinLimits, ActionWithin, Writable};
+ghost use Rattle.marking.specs.Contracts.{WholeRow, UnlinkedAre};
 ghost use Rattle.marking.specs.Dense.{SetWhere, threatens, threatensAnew, linkedCell, unlinkedAt, trackedAt};
 use crate::cells;
 use crate::rounds::Scope;
+use files::limits;
 
 // Marks the variables that the effects at `base` set to other values than their start values.
 fn threaten(
@@ -17,7 +20,7 @@ fn threaten(
     starts: &[u8; 64],
     variables: usize,
 )
-    requires { ⌜ (variables ≤ 64) × (base + 64 ≤ 32768) × (64 ≤ length (now threats)) ⌝ }
+    requires { ⌜ Writable (WholeRow 32768 base variables) 64 (now threats) ⌝ }
     ensures { λ r. ⌜ SetWhere (threatens (now (effects .entry)) base (now (starts .entry)) variables) (now (threats .entry)) (now (threats .exit)) ⌝ }
 {
     let mut v: usize = 0;
@@ -38,11 +41,11 @@ fn threaten_anew(
     kept: u8,
     kept_before: u8,
 )
-    requires { ⌜ (variables ≤ 64) × (action < 512) × (64 ≤ length (now threats)) ⌝ }
+    requires { ⌜ Writable (ActionWithin action variables) 64 (now threats) ⌝ }
     ensures { λ r. ⌜ SetWhere (λ v. not (eqb kept «kept_before») && threatens (now (effects .entry)) (64 * action) (now (starts .entry)) variables v) (now (threats .entry)) (now (threats .exit)) ⌝ }
 {
     if kept != kept_before {
-        threaten(threats, effects, 64 * action, starts, variables);
+        threaten(threats, effects, limits::ROW * action, starts, variables);
     }
 }
 
@@ -55,7 +58,7 @@ pub fn threatened(
     effects: &[u8; 32768],
     starts: &[u8; 64],
 )
-    requires { ⌜ (scope .variables ≤ 64) × (scope .actions ≤ 512) × (64 ≤ length (now threats)) ⌝ }
+    requires { ⌜ Writable (WithinLimits (scope .variables) (scope .actions)) 64 (now threats) ⌝ }
     ensures { λ r. ⌜ SetWhere (threatensAnew (now (effects .entry)) (now (starts .entry)) (scope .variables) (now (kept .entry)) (now («kept_before» .entry)) (scope .actions)) (now (threats .entry)) (now (threats .exit)) ⌝ }
 {
     let variables = scope.variables;
@@ -101,8 +104,8 @@ fn is_unlinked(
     if facts[place] != 1 {
         return false;
     }
-    let v = place / 32;
-    !linked(level, place % 32, starts[v], threats[v])
+    let v = place / limits::MOST_VALUES;
+    !linked(level, place % limits::MOST_VALUES, starts[v], threats[v])
 }
 
 // The facts that are relevant and not linked.
@@ -113,10 +116,10 @@ pub(crate) fn unlinked(
     threats: &[u8; 64],
 ) -> [u8; 2048]
     requires { ⌜ scope .variables ≤ 64 ⌝ }
-    ensures { λ r. ⌜ ((i : ℕ) → i < 32 * scope .variables → getD r i 0 ≡ bit (unlinkedAt (scope .level) (now (facts .entry)) (now (starts .entry)) (now (threats .entry)) i)) × ((i : ℕ) → 32 * scope .variables ≤ i → getD r i 0 ≡ 0) ⌝ }
+    ensures { λ r. ⌜ UnlinkedAre r (scope .level) (now (facts .entry)) (now (starts .entry)) (now (threats .entry)) (scope .variables) ⌝ }
 {
     let level = scope.level;
-    let places = 32 * scope.variables;
+    let places = limits::MOST_VALUES * scope.variables;
     let mut marks = [0u8; 2048];
     let mut i: usize = 0;
     while i < places {
@@ -132,8 +135,8 @@ fn has_unlinked(unlinked: &[u8; 2048], v: usize) -> bool
     ensures { λ r. ⌜ r ≡ trackedAt (now (unlinked .entry)) v ⌝ }
 {
     let mut d: usize = 0;
-    while d < 32 {
-        if unlinked[32 * v + d] == 1 {
+    while d < limits::MOST_VALUES {
+        if unlinked[limits::MOST_VALUES * v + d] == 1 {
             return true;
         }
         d += 1;

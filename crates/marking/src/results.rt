@@ -1,15 +1,18 @@
 // The number of marks, and the marks as they are handed back.
 ghost use mathlib.Core.Path.{_≡_};
-ghost use Prim.Native.Nat.{ℕ, _+_, _*_, _≤_, _<_};
-ghost use lib.ListN.{length, getD};
+ghost use Prim.Native.Nat.{_+_, _*_, _≤_};
+ghost use lib.ListN.{getD};
 ghost use Rattle.files.specs.Below.{tabulate, joinBelow};
 ghost use Rattle.files.specs.Bytes.{placed};
+ghost use Rattle.files.specs.Contracts.{IsAtMost, Writable};
+ghost use Rattle.marking.specs.Contracts.{Summable, ValuesWithin, SizesWithin};
 ghost use Rattle.marking.specs.Dense.{sumOf, factByte, factBytes};
+use files::limits;
 
 // The sum of the first `count` bytes.
 pub fn sum(bytes: &[u8], count: usize) -> usize
-    requires { ⌜ (count ≤ length (now bytes)) × (count ≤ 4096) ⌝ }
-    ensures { λ r. ⌜ (r ≡ sumOf (now (bytes .entry)) count) × (r ≤ 255 * count) ⌝ }
+    requires { ⌜ Summable (now bytes) count ⌝ }
+    ensures { λ r. ⌜ IsAtMost r (sumOf (now (bytes .entry)) count) (255 * count) ⌝ }
 {
     let mut total: usize = 0;
     let mut i: usize = 0;
@@ -22,7 +25,7 @@ pub fn sum(bytes: &[u8], count: usize) -> usize
 
 // A byte per action.
 pub fn write_actions(marks: &mut [u8], kept: &[u8; 512], actions: usize)
-    requires { ⌜ (actions ≤ 512) × (actions ≤ length (now marks)) ⌝ }
+    requires { ⌜ Writable (actions ≤ 512) actions (now marks) ⌝ }
     ensures { λ r. ⌜ now (marks .exit) ≡ placed (now (marks .entry)) 0 (tabulate actions (λ a. getD (now (kept .entry)) a 0)) ⌝ }
 {
     let mut a: usize = 0;
@@ -53,14 +56,17 @@ fn write_values(
     v: usize,
     size: usize,
 )
-    requires { ⌜ (at + size ≤ length (now marks)) × (v < 64) × (size ≤ 32) ⌝ }
+    requires { ⌜ Writable (ValuesWithin v size) (at + size) (now marks) ⌝ }
     ensures { λ r. ⌜ now (marks .exit) ≡ placed (now (marks .entry)) at (factBytes (now (facts .entry)) (now (unlinked .entry)) v size) ⌝ }
 {
     let mut d: usize = 0;
     let mut place = at;
     let mut left = size;
     while 0 < left {
-        marks[place] = fact_mark(facts[32 * v + d], unlinked[32 * v + d]);
+        marks[place] = fact_mark(
+            facts[limits::MOST_VALUES * v + d],
+            unlinked[limits::MOST_VALUES * v + d],
+        );
         d += 1;
         place += 1;
         left -= 1;
@@ -75,7 +81,7 @@ pub fn write_facts(
     sizes: &[u8; 64],
     variables: usize,
 )
-    requires { ⌜ (variables ≤ 64) × (sumOf (now sizes) variables ≤ length (now marks)) × ((v : ℕ) → v < variables → getD (now sizes) v 0 ≤ 32) ⌝ }
+    requires { ⌜ Writable (SizesWithin (now sizes) variables) (sumOf (now sizes) variables) (now marks) ⌝ }
     ensures { λ r. ⌜ now (marks .exit) ≡ placed (now (marks .entry)) 0 (joinBelow variables (λ v. factBytes (now (facts .entry)) (now (unlinked .entry)) v (getD (now (sizes .entry)) v 0))) ⌝ }
 {
     let mut v: usize = 0;

@@ -1,17 +1,17 @@
 // The rounds of marking, on the arrays of a task.
 ghost use mathlib.Core.Path.{_≡_};
 ghost use mathlib.Core.Bool.{true};
-ghost use lib.ListN.{length};
 ghost use Rattle.files.specs.Accepted.{acceptedTask};
 ghost use Rattle.files.specs.Dense.{held, arrays};
-ghost use Rattle.files.specs.Outcome.{after};
+ghost use Rattle.files.specs.Outcome.{done};
 ghost use Rattle.marking.specs.Dense.{Final};
-ghost use Rattle.marking.specs.Mark.{actionMarksOf, factMarksOf, validLevel, marksFit, markAnswer, noMarks};
+ghost use Rattle.marking.specs.Mark.{validLevel, noMarks, MarksTask, markBuffers};
 use crate::Marked;
 use crate::covering;
 use crate::gains;
 use crate::links;
 use crate::results;
+use files::limits;
 use files::outcomes;
 
 // The level, and how many variables and actions the task has.
@@ -55,7 +55,7 @@ fn run(
     let mut threats = [0u8; 64];
     let mut unlinked_before = [0u8; 2048];
     let mut rounds: usize = 0;
-    let mut count = results::sum(&facts, 2048);
+    let mut count = results::sum(&facts, limits::MOST_FACTS);
     loop {
         links::threatened(&mut threats, scope, &kept, &kept_before, effects, starts);
         kept_before = kept;
@@ -83,7 +83,7 @@ fn run(
         );
         counted_before = counted;
         rounds += 1;
-        let marks = results::sum(&kept, actions) + results::sum(&facts, 2048);
+        let marks = results::sum(&kept, actions) + results::sum(&facts, limits::MOST_FACTS);
         if marks == count {
             return Marks {
                 kept: kept,
@@ -132,18 +132,16 @@ pub fn mark_task(
     relevant: &mut [u8],
 ) -> Marked
     requires { ⌜ acceptedTask (held (arrays (scope .variables) (scope .actions) (now sizes) (now starts) (now goal) (now costs) (now conditions) (now effects))) ≡ true ⌝ }
-    ensures answer { λ r. ⌜ r ≡ markAnswer (marksFit (held (arrays (scope .variables) (scope .actions) (now (sizes .entry)) (now (starts .entry)) (now (goal .entry)) (now (costs .entry)) (now (conditions .entry)) (now (effects .entry)))) (length (now (kept .entry))) (length (now (relevant .entry)))) (held (arrays (scope .variables) (scope .actions) (now (sizes .entry)) (now (starts .entry)) (now (goal .entry)) (now (costs .entry)) (now (conditions .entry)) (now (effects .entry)))) (scope .level) ⌝ }
-    ensures actions { λ r. ⌜ now (kept .exit) ≡ after (r .outcome) (actionMarksOf (held (arrays (scope .variables) (scope .actions) (now (sizes .entry)) (now (starts .entry)) (now (goal .entry)) (now (costs .entry)) (now (conditions .entry)) (now (effects .entry)))) (scope .level)) (now (kept .entry)) ⌝ }
-    ensures facts { λ r. ⌜ now (relevant .exit) ≡ after (r .outcome) (factMarksOf (held (arrays (scope .variables) (scope .actions) (now (sizes .entry)) (now (starts .entry)) (now (goal .entry)) (now (costs .entry)) (now (conditions .entry)) (now (effects .entry)))) (scope .level)) (now (relevant .entry)) ⌝ }
+    ensures { λ r. ⌜ MarksTask done (held (arrays (scope .variables) (scope .actions) (now (sizes .entry)) (now (starts .entry)) (now (goal .entry)) (now (costs .entry)) (now (conditions .entry)) (now (effects .entry)))) (scope .level) (markBuffers (now (kept .entry)) (now (relevant .entry))) r (markBuffers (now (kept .exit)) (now (relevant .exit))) ⌝ }
 {
     let variables = scope.variables;
     let actions = scope.actions;
     let facts = results::sum(sizes, variables);
     if kept.len() < actions {
-        return refused(outcomes::refuse(21, actions));
+        return refused(outcomes::refuse(outcomes::SHORT_BUFFER, actions));
     }
     if relevant.len() < facts {
-        return refused(outcomes::refuse(21, facts));
+        return refused(outcomes::refuse(outcomes::SHORT_BUFFER, facts));
     }
     let marks = run(scope, sizes, starts, goal, costs, conditions, effects);
     let final_kept = marks.kept;

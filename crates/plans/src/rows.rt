@@ -1,19 +1,22 @@
 // States and rows of values: whether a row's conditions hold, and the state after its effects.
 ghost use mathlib.Core.Path.{_≡_};
 ghost use mathlib.Core.Option.{Option·getD};
-ghost use Prim.Native.Nat.{ℕ, _+_, _<_, _≤_};
-ghost use lib.ListN.{length, getD};
+ghost use Prim.Native.Nat.{ℕ, _≤_};
+ghost use lib.ListN.{getD};
+ghost use Rattle.files.specs.Contracts.{RowWithin};
 ghost use Rattle.files.specs.Dense.{rowPairs};
 ghost use Rattle.files.specs.Task.{valueIn};
+ghost use Rattle.plans.specs.Contracts.{ValuesCopied};
 ghost use Rattle.plans.specs.State.{allHold};
 ghost use Rattle.plans.specs.Tally.{listState, meetsCell, afterCell};
+use files::limits;
 
 // The first `count` cells of the row at `base`; no pair for the other variables.
 pub(crate) fn row_at(rows: &[u8], base: usize, count: usize) -> [u8; 64]
-    requires { ⌜ (base + count ≤ length (now rows)) × (count ≤ 64) ⌝ }
+    requires { ⌜ RowWithin (now rows) base count ⌝ }
     ensures { λ r. ⌜ rowPairs r 0 0 64 ≡ rowPairs (now (rows .entry)) base 0 count ⌝ }
 {
-    let mut row = [255u8; 64];
+    let mut row = [limits::NO_PAIR; 64];
     let mut v: usize = 0;
     while v < count {
         row[v] = rows[base + v];
@@ -25,7 +28,7 @@ pub(crate) fn row_at(rows: &[u8], base: usize, count: usize) -> [u8; 64]
 // The first `count` values; 0 for the other variables.
 pub(crate) fn state_of(values: &[u8; 64], count: usize) -> [u8; 64]
     requires { ⌜ count ≤ 64 ⌝ }
-    ensures { λ r. ⌜ ((v : ℕ) → v < count → getD r v 0 ≡ getD (now (values .entry)) v 0) × ((v : ℕ) → count ≤ v → getD r v 0 ≡ 0) ⌝ }
+    ensures { λ r. ⌜ ValuesCopied r (now (values .entry)) count ⌝ }
 {
     let mut state = [0u8; 64];
     let mut v: usize = 0;
@@ -41,7 +44,7 @@ pub(crate) fn all_hold(row: [u8; 64], state: [u8; 64]) -> bool
     ensures { λ r. ⌜ r ≡ allHold (rowPairs row 0 0 64) (listState state) ⌝ }
 {
     let mut v: usize = 0;
-    let mut left: usize = 64;
+    let mut left = limits::ROW;
     while 0 < left {
         if !meets(row[v], state[v]) {
             return false;
@@ -56,7 +59,7 @@ pub(crate) fn all_hold(row: [u8; 64], state: [u8; 64]) -> bool
 pub fn meets(condition: u8, value: u8) -> bool
     ensures { λ r. ⌜ r ≡ meetsCell condition value ⌝ }
 {
-    if condition == 255 {
+    if condition == limits::NO_PAIR {
         return true;
     }
     condition == value
@@ -68,7 +71,7 @@ pub(crate) fn applied(row: [u8; 64], state: [u8; 64]) -> [u8; 64]
 {
     let mut next = state;
     let mut v: usize = 0;
-    while v < 64 {
+    while v < limits::ROW {
         next[v] = cell_after(row[v], next[v]);
         v += 1;
     }
@@ -79,5 +82,9 @@ pub(crate) fn applied(row: [u8; 64], state: [u8; 64]) -> [u8; 64]
 pub fn cell_after(effect: u8, value: u8) -> u8
     ensures { λ r. ⌜ r ≡ afterCell effect value ⌝ }
 {
-    if effect == 255 { value } else { effect }
+    if effect == limits::NO_PAIR {
+        value
+    } else {
+        effect
+    }
 }

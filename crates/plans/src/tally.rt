@@ -1,6 +1,6 @@
 // The tally of a plan.
 ghost use mathlib.Core.Path.{_≡_};
-ghost use Prim.Native.Nat.{_+_, _<_};
+ghost use Rattle.plans.specs.Contracts.{TallyIs, StepFits};
 ghost use Rattle.plans.specs.Plan.{addStep, noSteps};
 ghost use Rattle.plans.specs.State.{applicable, apply};
 ghost use Rattle.plans.specs.Tally.{listState, rowOf, stateOf, totalIn};
@@ -26,7 +26,7 @@ pub struct Tally {
 impl Tally {
     // The tally before the first step.
     pub fn start(state: [u8; 64]) -> Tally
-        ensures { λ r. ⌜ (stateOf r ≡ listState state) × (totalIn r ≡ noSteps) ⌝ }
+        ensures { λ r. ⌜ TallyIs r (listState state) noSteps ⌝ }
     {
         Tally {
             state: state,
@@ -46,8 +46,8 @@ impl Tally {
 
     // The tally after a step.
     pub fn step(self, action: Row) -> Tally
-        requires { ⌜ (self .minutes .0 + action .cost .0 < 18446744073709551616) × (self .steps .0 < 65535) ⌝ }
-        ensures { λ r. ⌜ (stateOf r ≡ apply (rowOf action) (stateOf self)) × (totalIn r ≡ addStep (rowOf action) (totalIn self)) ⌝ }
+        requires { ⌜ StepFits self action ⌝ }
+        ensures { λ r. ⌜ TallyIs r (apply (rowOf action) (stateOf self)) (addStep (rowOf action) (totalIn self)) ⌝ }
     {
         let effects = action.effects;
         let state = self.state;

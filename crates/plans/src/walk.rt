@@ -1,13 +1,15 @@
 // The plan checker's walk over the steps of a plan file.
 ghost use mathlib.Core.Path.{_≡_};
-ghost use Prim.Native.Nat.{ℕ, _<_, _≤_};
+ghost use Prim.Native.Nat.{ℕ, _<_};
 ghost use lib.ListN.{length};
 ghost use mathlib.Core.List.{List};
+ghost use Rattle.files.specs.Contracts.{IsBelow, ActionWithin};
 ghost use Rattle.files.specs.Dense.{held, arrays, rowAction, rowPairs};
 ghost use Rattle.files.specs.PlanFile.{planOf};
 ghost use Rattle.plans.specs.Check.{withTotal, walkAnswer};
+ghost use Rattle.plans.specs.Contracts.{RowIs, StepsWithin};
 ghost use Rattle.plans.specs.Plan.{noSteps, stepOf};
-ghost use Rattle.plans.specs.Tally.{rowOf, endAnswer};
+ghost use Rattle.plans.specs.Tally.{endAnswer};
 use crate::Checked;
 use crate::Minutes;
 use crate::OriginalAction;
@@ -15,6 +17,7 @@ use crate::Steps;
 use crate::rows;
 use crate::tally::Row;
 use crate::tally::Tally;
+use files::limits;
 use files::outcomes;
 
 // A refusal has no cost and no steps.
@@ -30,7 +33,7 @@ pub fn refused(outcome: files::Outcome) -> Checked
 
 // The cost of an action as minutes.
 fn minutes_of(cost: u32) -> Minutes
-    ensures { λ r. ⌜ (r .0 ≡ cost) × (r .0 < 4294967296) ⌝ }
+    ensures { λ r. ⌜ IsBelow (r .0) cost 4294967296 ⌝ }
 {
     Minutes(cost as u64)
 }
@@ -52,11 +55,11 @@ fn action_at(
     conditions: &[u8; 32768],
     effects: &[u8; 32768],
 ) -> Row
-    requires { ⌜ (action .0 < 512) × (variables ≤ 64) ⌝ }
-    ensures { λ r. ⌜ (rowOf r ≡ rowAction variables (now (costs .entry)) (now (conditions .entry)) (now (effects .entry)) (action .0)) × (r .cost .0 < 4294967296) ⌝ }
+    requires { ⌜ ActionWithin (action .0) variables ⌝ }
+    ensures { λ r. ⌜ RowIs r (rowAction variables (now (costs .entry)) (now (conditions .entry)) (now (effects .entry)) (action .0)) ⌝ }
 {
     let a = action.0 as usize;
-    let base = 64 * a;
+    let base = limits::ROW * a;
     let asked = rows::row_at(conditions, base, variables);
     let set = rows::row_at(effects, base, variables);
     let cost = minutes_of(costs[a]);
@@ -75,7 +78,7 @@ fn ended(tally: Tally, goal: [u8; 64]) -> Checked
     let minutes = tally.minutes;
     let steps = tally.steps;
     if !rows::all_hold(goal, state) {
-        return refused(outcomes::refuse(23, steps.0 as usize));
+        return refused(outcomes::refuse(outcomes::GOAL_MISSED, steps.0 as usize));
     }
     let done = outcomes::done();
     Checked {
@@ -96,7 +99,7 @@ pub fn take_steps(
     conditions: &[u8; 32768],
     effects: &[u8; 32768],
 ) -> Checked
-    requires { ⌜ (variables ≤ 64) × (actions ≤ 512) × (length (planOf (now plan)) ≤ 4096) × ((i : ℕ) → i < length (planOf (now plan)) → stepOf (planOf (now plan)) i < actions) ⌝ }
+    requires { ⌜ StepsWithin variables actions (planOf (now plan)) ⌝ }
     ensures { λ r. ⌜ ((sizes : List ℕ) → r ≡ walkAnswer (held (arrays variables actions sizes (now (starts .entry)) (now (goal .entry)) (now (costs .entry)) (now (conditions .entry)) (now (effects .entry)))) (planOf (now (plan .entry)))) ⌝ }
 {
     let count = files::plan::steps(plan);
@@ -106,7 +109,7 @@ pub fn take_steps(
     while i < count {
         let action = action_at(step_at(plan, i), variables, costs, conditions, effects);
         if !tally.meets(action) {
-            return refused(outcomes::refuse(22, i));
+            return refused(outcomes::refuse(outcomes::NOT_APPLICABLE, i));
         }
         tally = tally.step(action);
         i += 1;

@@ -11,18 +11,19 @@ use Rattle.files.specs.declared.Outcome.{Outcome}
 use Rattle.files.specs.Below.{bit}
 use Rattle.files.specs.Dense.{Arrays, held}
 use Rattle.files.specs.OriginFile.{Origin}
-use Rattle.files.specs.Outcome.{done, refusal, isDone, andThen, overwrite, after}
-use Rattle.files.specs.Task.{Task, actionCount, factCount}
+use Rattle.files.specs.Outcome.{done, refusal, isDone, andThen, overwrite}
+use Rattle.files.specs.Task.{Task, actionCount}
 use Rattle.files.specs.TaskFile.{checkTask, taskOf}
 use Rattle.files.proofs.BelowLaws.{map-entry}
 use Rattle.files.proofs.Guards.{goes-on, stops, guard-passes, guard-refuses, is-done, is-refused, after-done, after-refused}
-use Rattle.files.proofs.Stages.{is-yes, both-yes, by-end, by-stop, by-next}
+use Rattle.files.proofs.Stages.{by-end, by-stop, by-next}
 use Rattle.files.proofs.Valid.{Valid}
 use Rattle.marking.specs.declared.Marked.{Marked}
 use Rattle.marking.specs.Rounds.{marking}
-use Rattle.marking.specs.Mark.{validLevel, marksFit, markAnswer, actionMarksOf, factMarksOf}
+use Rattle.marking.specs.Mark.{validLevel, marksFit, actionMarksOf, markBuffers, markedBuffers, markWhole, MarksTask}
 use Rattle.marking.proofs.HeldTask.{actions-held}
-use Rattle.marking.proofs.MarkLaws.{answer-outcome, actions-long, action-marks-long}
+use Rattle.marking.proofs.MarkLaws.{actions-long, action-marks-long}
+use Rattle.marking.proofs.MarkRow.{marks-outcome, marks-untouched, marks-whole, marks-left}
 use Rattle.reduction.specs.declared.Reduced.{Reduced}
 use Rattle.reduction.specs.declared.arrays.Written.{Written}
 use Rattle.reduction.specs.Filled.{Writes}
@@ -36,52 +37,45 @@ writes-alike h t g o signer reduced origin w reduced′ origin′ e f k =
     subst (λ (x : Task). Writes x o signer reduced origin w reduced′ origin′) e (subst (λ (y : Origin). Writes h y signer reduced origin w reduced′ origin′) f k)
 
 -- the marks that a buffer holds
-pub kept-bits : (d : Arrays) (ok : Valid (held d)) (level : ℕ) (o : Outcome) (old marks : List ℕ) → o .number ≡ 0 → marks ≡ after o (actionMarksOf (held d) level) old
+pub kept-bits : (d : Arrays) (ok : Valid (held d)) (level : ℕ) (old marks : List ℕ) → marks ≡ overwrite old (actionMarksOf (held d) level)
     → (a : ℕ) → a < actionCount (held d) → getD marks a 0 ≡ bit (keptAt (held d) level a)
 unfolding overwrite actionMarksOf keptAt
-kept-bits d ok level o old marks z e a h =
+kept-bits d ok level old marks e a h =
     let bytes : List ℕ = map bit (marking (held d) level .marks .actions) in
-    ap (λ (l : List ℕ). getD l a 0) (e ∙ after-done o bytes old z)
+    ap (λ (l : List ℕ). getD l a 0) e
     ∙ List·getD-append bytes (drop (length bytes) old) 0 a (omega (arith, action-marks-long d ok level))
     ∙ map-entry bit (marking (held d) level .marks .actions) a 0 false (omega (arith, actions-long d ok level))
 
-pub marks-room : (d : Arrays) (ok : Valid (held d)) (level : ℕ) (o : Outcome) (old marks : List ℕ) → o .number ≡ 0 → marks ≡ after o (actionMarksOf (held d) level) old → d .actions ≤ length marks
+pub marks-room : (d : Arrays) (ok : Valid (held d)) (level : ℕ) (old marks : List ℕ) → marks ≡ overwrite old (actionMarksOf (held d) level) → d .actions ≤ length marks
 unfolding overwrite
-marks-room d ok level o old marks z e =
+marks-room d ok level old marks e =
     let bytes : List ℕ = actionMarksOf (held d) level in
     omega (
       arith,
-      ap length (e ∙ after-done o bytes old z),
+      ap length e,
       length-append bytes (drop (length bytes) old),
       action-marks-long d ok level,
       actions-held d,
     )
 
 -- the stages, from what marking and the writing of both files came to
-module _ (t : Task) (level signer : ℕ) (b : Buffers) (marked : Marked) (m : marked ≡ markAnswer (marksFit t (length (b .actions)) (length (b .facts))) t level)
-    (actions facts : List ℕ) (a : actions ≡ after (marked .outcome) (actionMarksOf t level) (b .actions)) (f : facts ≡ after (marked .outcome) (factMarksOf t level) (b .facts)) where
-  marks : Outcome
-  marks = marksFit t (length (b .actions)) (length (b .facts))
-
+module _ (t : Task) (level signer : ℕ) (b : Buffers) (marked : Marked) (actions facts : List ℕ) (m : MarksTask done t level (markBuffers (b .actions) (b .facts)) marked (markBuffers actions facts)) where
   -- the first stage's outcome is marking's
-  first-is : andThen done marks ≡ marked .outcome
-  unfolding marks
-  first-is = both-yes done marks (is-yes done refl) ∙ sym (ap (λ (x : Marked). x .outcome) m ∙ answer-outcome marks t level)
+  first-is : andThen done (marksFit t (length (b .actions)) (length (b .facts))) ≡ marked .outcome
+  first-is = marks-outcome t level (markBuffers (b .actions) (b .facts)) marked (markBuffers actions facts) m
 
   pub marks-refused : (marked .outcome .number ≡ 0 → ⊥) → (r : Reduced) → r ≡ noFiles (marked .outcome) → ReducesTask done t level signer b r (buffers actions facts (b .reduced) (b .origin))
-  unfolding reduceStages marks
+  unfolding reduceStages
   marks-refused d r q =
+      let same = marks-untouched t level (markBuffers (b .actions) (b .facts)) marked (markBuffers actions facts) m d in
       by-stop (ap isDone first-is ∙ is-refused (marked .outcome) d) (q ∙ ap noFiles (sym first-is))
-      (λ i. buffers ((a ∙ after-refused (marked .outcome) (actionMarksOf t level) (b .actions) d) i) ((f ∙ after-refused (marked .outcome) (factMarksOf t level) (b .facts) d) i) (b .reduced) (b .origin))
+      (λ i. buffers (same i .actions) (same i .facts) (b .reduced) (b .origin))
 
   module _ (z : marked .outcome .number ≡ 0) (w : Written) (reduced origin : List ℕ) (k : Writes (reducedBy t (keptAt t level)) (originBy t (keptAt t level)) signer (b .reduced) (b .origin) w reduced origin) where
-    marks-are : actions ≡ overwrite (b .actions) (actionMarksOf t level)
-    marks-are = a ∙ after-done (marked .outcome) (actionMarksOf t level) (b .actions) z
+    marks-are : markBuffers actions facts ≡ markedBuffers t level (markBuffers (b .actions) (b .facts))
+    marks-are = marks-left t level (markBuffers (b .actions) (b .facts)) marked (markBuffers actions facts) m z
 
-    facts-are : facts ≡ overwrite (b .facts) (factMarksOf t level)
-    facts-are = f ∙ after-done (marked .outcome) (factMarksOf t level) (b .facts) z
-
-    first-done : isDone (andThen done marks) ≡ true
+    first-done : isDone (andThen done (marksFit t (length (b .actions)) (length (b .facts)))) ≡ true
     first-done = ap isDone first-is ∙ is-done (marked .outcome) z
 
     second-is : filesFit (reducedTask t level) (originsAt t level) signer (length (b .reduced)) (length (b .origin)) ≡ w .outcome
@@ -89,27 +83,24 @@ module _ (t : Task) (level signer : ℕ) (b : Buffers) (marked : Marked) (m : ma
     second-is = sym (k .outcome)
 
     pub files-refused : (w .outcome .number ≡ 0 → ⊥) → (r : Reduced) → r ≡ noFiles (w .outcome) → ReducesTask done t level signer b r (buffers actions facts reduced origin)
-    unfolding reduceStages marks
+    unfolding reduceStages
     files-refused d r q =
         by-next first-done
         (by-stop (ap isDone second-is ∙ is-refused (w .outcome) d) (q ∙ ap noFiles (sym second-is))
-        (λ i. buffers (marks-are i) (facts-are i) ((k .reduced ∙ after-refused (w .outcome) _ (b .reduced) d) i) ((k .origin ∙ after-refused (w .outcome) _ (b .origin) d) i)))
+        (λ i. buffers (marks-are i .actions) (marks-are i .facts) ((k .reduced ∙ after-refused (w .outcome) _ (b .reduced) d) i) ((k .origin ∙ after-refused (w .outcome) _ (b .origin) d) i)))
 
-    lengths : marked ≡ record { outcome = marks; «action_marks» = actionCount t; «fact_marks» = factCount t; rounds = marking t level .rounds }
-    unfolding markAnswer marks
-    lengths =
-        let marked-done = sym (ap (λ (x : Marked). x .outcome .number) m ∙ ap (λ (x : Outcome). x .number) (answer-outcome marks t level)) ∙ z in
-        m ∙ rw (is-done marks marked-done) refl
+    lengths : marked ≡ markWhole t level
+    lengths = marks-whole t level (markBuffers (b .actions) (b .facts)) marked (markBuffers actions facts) m z
 
     pub files-written : w .outcome .number ≡ 0 → (o : Outcome) → o ≡ done
         → ReducesTask done t level signer b (record { outcome = o; «action_marks» = marked .«action_marks»; «fact_marks» = marked .«fact_marks»; reduced = w .reduced; origin = w .origin; rounds = marked .rounds }) (buffers actions facts reduced origin)
-    unfolding reduceStages marks reducedFile originsFile reducedTask originsAt
+    unfolding reduceStages reducedFile originsFile reducedTask originsAt
     files-written y o q =
         by-next first-done
         (by-next (ap isDone second-is ∙ is-done (w .outcome) y)
         (by-end
         (λ i. record { outcome = q i; «action_marks» = lengths i .«action_marks»; «fact_marks» = lengths i .«fact_marks»; reduced = k .reduced-length i; origin = k .origin-length i; rounds = lengths i .rounds })
-        (λ i. buffers (marks-are i) (facts-are i) ((k .reduced ∙ after-done (w .outcome) _ (b .reduced) y) i) ((k .origin ∙ after-done (w .outcome) _ (b .origin) y) i))))
+        (λ i. buffers (marks-are i .actions) (marks-are i .facts) ((k .reduced ∙ after-done (w .outcome) _ (b .reduced) y) i) ((k .origin ∙ after-done (w .outcome) _ (b .origin) y) i))))
 
 -- reduction called alone: the file, the level and the signer, then the stages
 module _ (file : List ℕ) (level signer : ℕ) where

@@ -20,7 +20,7 @@ same-length-2 c = search needs
 returns : tie.Need-returns
 returns c =
     let said = c .before .before .before .before .before .before .mark .ensures in
-    (c .write-marked .ensures ∙ ap markedNumbers (said .0), said .1)
+    (c .write-marked .ensures ∙ ap markedNumbers (said .answer), said .buffers)
 
 pub shortest-mark-spec : {M : Type 1} → statement M
 shortest-mark-spec =

@@ -21,7 +21,7 @@ check-variables-requires c κs = search needs
 
 returns-2 : tie.Need-returns-2
 unfolding checkOrigin sizeFits
-returns-2 c = rw (← c .before .before .before .variables-in .ensures .0) (search forms depth 12 fits 5000)
+returns-2 c = rw (← c .before .before .before .variables-in .ensures .is) (search forms depth 12 fits 5000)
 
 actions-place-requires : tie.Need-actions-place-requires
 actions-place-requires c κs = search needs
@@ -33,8 +33,8 @@ returns-3 : tie.Need-returns-3
 unfolding checkOrigin sizeFits
 returns-3 c =
     rw (
-      ← c .before .before .before .before .before .before .before .variables-in .ensures .0,
-      ← c .before .before .before .actions-place .ensures .0,
+      ← c .before .before .before .before .before .before .before .variables-in .ensures .is,
+      ← c .before .before .before .actions-place .ensures .is,
     )
     (search forms depth 12 fits 5000)
 
@@ -51,9 +51,9 @@ returns-4 : tie.Need-returns-4
 unfolding checkOrigin sizeFits
 returns-4 c =
     rw (
-      ← c .before .before .before .before .before .before .before .before .before .before .before .variables-in .ensures .0,
-      ← c .before .before .before .before .before .before .before .actions-place .ensures .0,
-      ← c .before .before .before .body-length .ensures .0,
+      ← c .before .before .before .before .before .before .before .before .before .before .before .variables-in .ensures .is,
+      ← c .before .before .before .before .before .before .before .actions-place .ensures .is,
+      ← c .before .before .before .body-length .ensures .is,
     )
     (search forms depth 12 fits 5000)
 
@@ -67,10 +67,10 @@ returns-5 : tie.Need-returns-5
 unfolding checkOrigin sizeFits
 returns-5 c =
     rw (
-      ← c .before .before .before .before .before .before .before .before .before .before .before .before .before .variables-in .ensures .0,
-      ← c .before .before .before .before .before .before .before .before .before .actions-place .ensures .0,
-      ← c .before .before .before .before .before .body-length .ensures .0,
-      ← c .before .record-after .ensures .0,
+      ← c .before .before .before .before .before .before .before .before .before .before .before .before .before .variables-in .ensures .is,
+      ← c .before .before .before .before .before .before .before .before .before .actions-place .ensures .is,
+      ← c .before .before .before .before .before .body-length .ensures .is,
+      ← c .before .record-after .ensures .is,
     )
     (search forms depth 12 fits 5000)
 

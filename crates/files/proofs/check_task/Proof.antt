@@ -28,7 +28,7 @@ check-variables-requires c κs = search needs
 
 returns-3 : tie.Need-returns-3
 unfolding checkTask sizeFits
-returns-3 c = rw (← c .before .before .before .variables-in .ensures .0) (search forms depth 12 fits 5000)
+returns-3 c = rw (← c .before .before .before .variables-in .ensures .is) (search forms depth 12 fits 5000)
 
 goal-place-requires : tie.Need-goal-place-requires
 goal-place-requires c κs = search needs
@@ -40,8 +40,8 @@ returns-4 : tie.Need-returns-4
 unfolding checkTask sizeFits
 returns-4 c =
     rw (
-      ← c .before .before .before .before .before .before .before .variables-in .ensures .0,
-      ← c .before .before .before .goal-place .ensures .0,
+      ← c .before .before .before .before .before .before .before .variables-in .ensures .is,
+      ← c .before .before .before .goal-place .ensures .is,
     )
     (search forms depth 12 fits 5000)
 
@@ -58,10 +58,10 @@ returns-5 : tie.Need-returns-5
 unfolding checkTask sizeFits
 returns-5 c =
     rw (
-      ← c .before .before .before .before .before .before .before .before .before .before .variables-in .ensures .0,
-      ← c .before .before .before .before .before .before .goal-place .ensures .0,
-      ← c .before .before .actions-place .ensures .0,
-      ← c .before .actions-in .ensures .0,
+      ← c .before .before .before .before .before .before .before .before .before .before .variables-in .ensures .is,
+      ← c .before .before .before .before .before .before .goal-place .ensures .is,
+      ← c .before .before .actions-place .ensures .is,
+      ← c .before .actions-in .ensures .is,
     )
     (search forms depth 12 fits 5000)
 

@@ -8,8 +8,8 @@ use Rattle.files.specs.Accepted.{acceptedTask}
 use Rattle.files.specs.Bytes.{Octets}
 use Rattle.files.specs.TaskFile.{checkTask}
 use Rattle.files.proofs.TaskChecked.{task-accepted}
-use Rattle.marking.specs.Mark.{actionMarksOf, factMarksOf, mark, markedActions, markedFacts}
-use Rattle.marking.proofs.MarkLaws.{answer-refused, refusal-number, outcome-file, outcome-level, marks-answer, marks-buffer, held-by, stage-untouched}
+use Rattle.marking.proofs.MarkLaws.{refusal-number, held-by}
+use Rattle.marking.proofs.MarkRow.{input-refused, refused-file, refused-level, of-task}
 use borrow.Author.Needs.{needs}
 use Rattle.marking.proofs.mark.Statement.{statement}
 use Rattle.marking.proofs.mark.Tie as tie
@@ -27,17 +27,10 @@ refused-requires : tie.Need-refused-requires
 refused-requires c κs = search needs
 
 returns : tie.Need-returns
-unfolding mark markedActions markedFacts
 returns c =
     let d = c .before .before .before in
     let refused = c .before .if1 .taken in
-    let read = d .read-task .ensures .0 in (
-      answer-refused _ _ refused (c .refused .ensures) _ _ _ (outcome-file _ _ _ _ _ read refused),
-      (
-        stage-untouched _ _ _ _ (outcome-file _ _ _ _ _ read refused) refused,
-        stage-untouched _ _ _ _ (outcome-file _ _ _ _ _ read refused) refused,
-      ),
-    )
+    input-refused _ _ _ _ (refused-file _ _ _ (d .read-task .ensures .outcome) refused) refused _ (c .refused .ensures)
 
 valid-level-requires : tie.Need-valid-level-requires
 valid-level-requires c κs = search needs
@@ -49,20 +42,14 @@ refused-requires-2 : tie.Need-refused-requires-2
 refused-requires-2 c κs = search needs
 
 returns-2 : tie.Need-returns-2
-unfolding mark markedActions markedFacts
 returns-2 c =
     let v = c .before .before .before in
     let d = to-read v in
-    let read = d .read-task .ensures .0 in
+    let read = d .read-task .ensures .outcome in
     let passes = v .before .if1 .left in
     let refused = refusal-number _ 8 _ (omega arith) (c .before .refuse .ensures) in
-    let invalid = sym (v .valid-level .ensures) ∙ not-true _ (c .before .before .if2 .taken) in (
-      answer-refused _ _ refused (c .refused2 .ensures) _ _ _ (outcome-level _ _ _ _ _ read passes _ invalid (c .before .refuse .ensures)),
-      (
-        stage-untouched _ _ _ _ (outcome-level _ _ _ _ _ read passes _ invalid (c .before .refuse .ensures)) refused,
-        stage-untouched _ _ _ _ (outcome-level _ _ _ _ _ read passes _ invalid (c .before .refuse .ensures)) refused,
-      ),
-    )
+    let invalid = sym (v .valid-level .ensures) ∙ not-true _ (c .before .before .if2 .taken) in
+    input-refused _ _ _ _ (refused-level _ _ _ read passes _ invalid (c .before .refuse .ensures)) refused _ (c .refused2 .ensures)
 
 variables-in-requires : tie.Need-variables-in-requires
 variables-in-requires c κs = search needs
@@ -81,8 +68,8 @@ mark-task-requires c κs =
     let file = now (s .args .task) in
     let passes = to-level a .before .if1 .left in
     let octets : Octets file = λ i. omega (arith, d .before .before .before .before .before .before .before .before .before .shared-slice-known .given i) in
-    let checked : checkTask file .number ≡ 0 = ap (λ (o : Outcome). o .number) (sym (d .read-task .ensures .0)) ∙ passes in
-    ap acceptedTask (held-by _ _ _ _ _ _ _ _ _ _ _ (a .before .variables-in .ensures .0) (a .actions-in .ensures .0) (d .read-task .ensures .1 .0 passes)) ∙ task-accepted file octets checked
+    let checked : checkTask file .number ≡ 0 = ap (λ (o : Outcome). o .number) (sym (d .read-task .ensures .outcome)) ∙ passes in
+    ap acceptedTask (held-by _ _ _ _ _ _ _ _ _ _ _ (a .before .variables-in .ensures .is) (a .actions-in .ensures .is) (d .read-task .ensures .task passes)) ∙ task-accepted file octets checked
 
 same-length : tie.Need-same-length
 same-length c = search needs
@@ -91,22 +78,16 @@ same-length-2 : tie.Need-same-length-2
 same-length-2 c = search needs
 
 returns-3 : tie.Need-returns-3
-unfolding mark markedActions markedFacts
 returns-3 c =
     let k = c .before .before .before .before in
     let a = k .before .before .before .before .before .before .before .before .before in
     let v = to-level a in
     let d = to-read v in
-    let read = d .read-task .ensures .0 in
+    let read = d .read-task .ensures .outcome in
     let passes = v .before .if1 .left in
     let level = sym (v .valid-level .ensures) ∙ not-false _ (a .before .before .if2 .left) in
-    let is = held-by _ _ _ _ _ _ _ _ _ _ _ (a .before .variables-in .ensures .0) (a .actions-in .ensures .0) (d .read-task .ensures .1 .0 passes) in (
-      marks-answer _ _ _ _ _ read passes level _ is _ (k .mark-task .ensures .0),
-      (
-        marks-buffer _ _ _ _ _ read passes level _ is _ (k .mark-task .ensures .0) actionMarksOf _ _ (k .mark-task .ensures .1 .0),
-        marks-buffer _ _ _ _ _ read passes level _ is _ (k .mark-task .ensures .0) factMarksOf _ _ (k .mark-task .ensures .1 .1),
-      ),
-    )
+    let is = held-by _ _ _ _ _ _ _ _ _ _ _ (a .before .variables-in .ensures .is) (a .actions-in .ensures .is) (d .read-task .ensures .task passes) in
+    of-task _ _ _ read passes level _ _ is _ _ (k .mark-task .ensures)
 
 pub mark-spec : {M : Type 1} → statement M
 mark-spec =

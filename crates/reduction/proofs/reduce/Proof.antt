@@ -32,7 +32,7 @@ refused-requires c κs = search needs
 
 returns : tie.Need-returns
 returns c =
-    let read = c .before .before .before .read-task .ensures .0 in
+    let read = c .before .before .before .read-task .ensures .outcome in
     let d = c .before .if1 .taken in
     input-refused _ _ _ _ _ (refused-file _ _ _ _ read d) d _ (c .refused .ensures)
 
@@ -48,7 +48,7 @@ refused-requires-2 c κs = search needs
 returns-2 : tie.Need-returns-2
 returns-2 c =
     let v = c .before .before .before in
-    let read = to-read v .read-task .ensures .0 in
+    let read = to-read v .read-task .ensures .outcome in
     let invalid = sym (v .valid-level .ensures) ∙ not-true _ (c .before .before .if2 .taken) in
     let is = refused-level _ _ _ _ read (v .before .if1 .left) _ invalid (c .before .refuse .ensures) in
     input-refused _ _ _ _ _ is (refusal-number _ 8 _ (omega arith) (c .before .refuse .ensures)) _ (c .refused2 .ensures)
@@ -62,7 +62,7 @@ refused-requires-3 c κs = search needs
 returns-3 : tie.Need-returns-3
 returns-3 c =
     let v = c .before .before .before .before in
-    let read = to-read v .read-task .ensures .0 in
+    let read = to-read v .read-task .ensures .outcome in
     let level = sym (v .valid-level .ensures) ∙ not-false _ (c .before .before .before .if2 .left) in
     let is = refused-signer _ _ _ _ read (v .before .if1 .left) _ level (c .before .before .if3 .taken) (c .before .refuse2 .ensures) in
     input-refused _ _ _ _ _ is (refusal-number _ 7 _ (omega arith) (c .before .refuse2 .ensures)) _ (c .refused3 .ensures)
@@ -81,8 +81,8 @@ reduce-task-requires c κs =
     let file = now (s .args .task) in
     let passes = to-level a .before .if1 .left in
     let octets : Octets file = λ i. omega (arith, d .before .before .before .before .before .before .before .before .before .before .before .shared-slice-known .given i) in
-    let checked : checkTask file .number ≡ 0 = ap (λ (o : Outcome). o .number) (sym (d .read-task .ensures .0)) ∙ passes in
-    ap acceptedTask (held-by _ _ _ _ _ _ _ _ _ _ _ (a .before .variables-in .ensures .0) (a .actions-in .ensures .0) (d .read-task .ensures .1 .0 passes)) ∙ task-accepted file octets checked
+    let checked : checkTask file .number ≡ 0 = ap (λ (o : Outcome). o .number) (sym (d .read-task .ensures .outcome)) ∙ passes in
+    ap acceptedTask (held-by _ _ _ _ _ _ _ _ _ _ _ (a .before .variables-in .ensures .is) (a .actions-in .ensures .is) (d .read-task .ensures .task passes)) ∙ task-accepted file octets checked
 
 same-length : tie.Need-same-length
 same-length c = search needs
@@ -104,8 +104,8 @@ returns-4 c =
     let d = to-read v in
     let passes = v .before .if1 .left in
     let level = sym (v .valid-level .ensures) ∙ not-false _ (a .before .before .before .if2 .left) in
-    let is = held-by _ _ _ _ _ _ _ _ _ _ _ (a .before .variables-in .ensures .0) (a .actions-in .ensures .0) (d .read-task .ensures .1 .0 passes) in
-    of-task _ _ _ _ (d .read-task .ensures .0) passes level (a .before .before .if3 .left) _ _ is _ _ (k .reduce-task .ensures)
+    let is = held-by _ _ _ _ _ _ _ _ _ _ _ (a .before .variables-in .ensures .is) (a .actions-in .ensures .is) (d .read-task .ensures .task passes) in
+    of-task _ _ _ _ (d .read-task .ensures .outcome) passes level (a .before .before .if3 .left) _ _ is _ _ (k .reduce-task .ensures)
 
 pub reduce-spec : {M : Type 1} → statement M
 reduce-spec =

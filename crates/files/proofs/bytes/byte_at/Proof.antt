@@ -15,10 +15,10 @@ cast-result : tie.Need-cast-result
 cast-result c = omega (arith, c .shared-slice-known .given (c .before .before .args .at))
 
 returns : tie.Need-returns
-returns c = (refl, omega (arith, c .shared-slice-known .given (c .before .before .args .at)))
+returns c = record { is = refl; below = omega (arith, c .shared-slice-known .given (c .before .before .args .at)) }
 
 returns-2 : tie.Need-returns-2
-returns-2 c = (sym (List·getD-eq-default (now (c .before .args .s)) 0 (c .if1 .left)), lit< tt)
+returns-2 c = record { is = sym (List·getD-eq-default (now (c .before .args .s)) 0 (c .if1 .left)); below = lit< tt }
 
 pub byte-at-spec : {M : Type 1} → statement M
 byte-at-spec = tie.close (tie.spec shared-slice-read-result cast-result returns returns-2)

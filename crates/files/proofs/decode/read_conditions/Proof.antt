@@ -50,7 +50,7 @@ loop-less c = search needs
 loop-again : tie.Need-loop-again Inv-loop μ-loop
 loop-again c =
     let v = c .before .before .before .before .before .before .before .before .before .before .before .loop in
-    let next = conditions-next _ _ _ _ _ _ _ _ _ _ (v .inv .0) (c .before .before .before .before .before .before .before .before .before .before .loop-test .taken) (c .before .before .before .before .before .before .before .before .before .conditions-in .ensures .0) (c .record-after .ensures .0) (c .before .before .before .before .before .before .before .clear-row .ensures) (c .before .before .before .fill-row .ensures) in
+    let next = conditions-next _ _ _ _ _ _ _ _ _ _ (v .inv .0) (c .before .before .before .before .before .before .before .before .before .before .loop-test .taken) (c .before .before .before .before .before .before .before .before .before .conditions-in .ensures .is) (c .record-after .ensures .is) (c .before .before .before .before .before .before .before .clear-row .ensures) (c .before .before .before .fill-row .ensures) in
     (next, omega arith, omega arith, omega arith)
 
 same-length : tie.Need-same-length Inv-loop μ-loop

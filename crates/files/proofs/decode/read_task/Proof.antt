@@ -1,12 +1,12 @@
 -- Each array is filled with its part of the task that an accepted file holds, so together they hold that task;
 -- nothing is written before the file is accepted.
 use Rattle.files.specs.Bytes.{Octets}
-use mathlib.Core.Path.{_≡_, refl, sym, ap, _∙_}
+use mathlib.Core.Path.{_≡_, sym, ap, _∙_}
 use native.Mathlib.Omega.{arith}
 use denote.Ref.{now}
 use Rattle.files.specs.declared.Outcome.{Outcome}
 use Rattle.files.specs.TaskFile.{checkTask}
-use Rattle.files.proofs.HeldLaws.{variables-in-few, actions-in-few, held-file}
+use Rattle.files.proofs.HeldLaws.{variables-in-few, actions-in-few, held-file, task-read, task-unread}
 use borrow.Author.Needs.{needs}
 use Rattle.files.proofs.decode.read_task.Statement.{statement}
 use Rattle.files.proofs.decode.read_task.Tie as tie
@@ -15,7 +15,7 @@ check-task-requires : tie.Need-check-task-requires
 check-task-requires c κs = search needs
 
 returns : tie.Need-returns
-returns c = (search needs, (λ z. absurd (c .if1 .taken z), λ refused. (refl, refl, refl, refl, refl, refl)))
+returns c = task-unread _ _ _ (c .before .before .check-task .ensures) (c .if1 .taken)
 
 goal-place-requires : tie.Need-goal-place-requires
 goal-place-requires c κs = search needs
@@ -34,7 +34,7 @@ read-variables-requires c κs =
     let f = now (c .before .before .before .before .before .before .before .before .before .before .args .file) in
     let octets : Octets f = λ i. omega (arith, c .before .before .before .before .before .before .before .before .before .shared-slice-known .given i) in
     let passes : checkTask f .number ≡ 0 = ap (λ (o : Outcome). o .number) (sym (c .before .before .before .before .before .before .before .before .check-task .ensures)) ∙ c .before .before .before .before .before .before .if1 .left in
-    omega (arith, variables-in-few f octets passes)
+    let few = variables-in-few f octets passes in search needs
 
 clear-row-requires : tie.Need-clear-row-requires
 clear-row-requires c κs = search needs
@@ -53,54 +53,47 @@ read-costs-requires c κs =
     let f = now (c .before .before .before .before .before .before .before .before .before .before .before .before .before .before .before .before .before .args .file) in
     let octets : Octets f = λ i. omega (arith, c .before .before .before .before .before .before .before .before .before .before .before .before .before .before .before .before .shared-slice-known .given i) in
     let passes : checkTask f .number ≡ 0 = ap (λ (o : Outcome). o .number) (sym (c .before .before .before .before .before .before .before .before .before .before .before .before .before .before .before .check-task .ensures)) ∙ c .before .before .before .before .before .before .before .before .before .before .before .before .before .if1 .left in
-    omega (arith, actions-in-few f octets passes)
+    let few = actions-in-few f octets passes in search needs
 
 read-conditions-requires : tie.Need-read-conditions-requires
 read-conditions-requires c κs =
     let f = now (c .before .before .before .before .before .before .before .before .before .before .before .before .before .before .before .before .before .before .before .args .file) in
     let octets : Octets f = λ i. omega (arith, c .before .before .before .before .before .before .before .before .before .before .before .before .before .before .before .before .before .before .shared-slice-known .given i) in
     let passes : checkTask f .number ≡ 0 = ap (λ (o : Outcome). o .number) (sym (c .before .before .before .before .before .before .before .before .before .before .before .before .before .before .before .before .before .check-task .ensures)) ∙ c .before .before .before .before .before .before .before .before .before .before .before .before .before .before .before .if1 .left in
-    omega (arith, actions-in-few f octets passes)
+    let few = actions-in-few f octets passes in search needs
 
 read-effects-requires : tie.Need-read-effects-requires
 read-effects-requires c κs =
     let f = now (c .before .before .before .before .before .before .before .before .before .before .before .before .before .before .before .before .before .before .before .before .before .args .file) in
     let octets : Octets f = λ i. omega (arith, c .before .before .before .before .before .before .before .before .before .before .before .before .before .before .before .before .before .before .before .before .shared-slice-known .given i) in
     let passes : checkTask f .number ≡ 0 = ap (λ (o : Outcome). o .number) (sym (c .before .before .before .before .before .before .before .before .before .before .before .before .before .before .before .before .before .before .before .check-task .ensures)) ∙ c .before .before .before .before .before .before .before .before .before .before .before .before .before .before .before .before .before .if1 .left in
-    omega (arith, actions-in-few f octets passes)
+    let few = actions-in-few f octets passes in search needs
 
 returns-2 : tie.Need-returns-2
 returns-2 c =
     let f = now (c .before .before .before .before .before .before .before .before .before .before .before .before .before .before .before .before .before .before .before .before .before .before .args .file) in
     let octets : Octets f = λ i. omega (arith, c .before .before .before .before .before .before .before .before .before .before .before .before .before .before .before .before .before .before .before .before .before .shared-slice-known .given i) in
-    let passes : checkTask f .number ≡ 0 = ap (λ (o : Outcome). o .number) (sym (c .before .before .before .before .before .before .before .before .before .before .before .before .before .before .before .before .before .before .before .before .check-task .ensures)) ∙ c .before .before .before .before .before .before .before .before .before .before .before .before .before .before .before .before .before .before .if1 .left in (
-      c .before .before .before .before .before .before .before .before .before .before .before .before .before .before .before .before .before .before .before .before .check-task .ensures,
-      (
-        λ z.
-            held-file f octets passes _ _ _ _ _ _ _ _ _ _ _ _ _ _ _ _ _ _
-            (c .before .before .before .before .before .before .before .before .before .before .before .before .variables-in .ensures .0)
-            (c .before .before .before .before .before .before .before .before .before .before .before .before .before .before .before .actions-in .ensures .0)
-            (c .before .before .before .before .before .before .before .before .before .before .before .before .before .before .before .before .before .goal-place .ensures .0)
-            (c .before .before .before .before .before .before .before .before .before .before .before .before .before .before .before .before .actions-place .ensures .0)
-            (c .before .before .before .before .before .before .before .body-length .ensures .0)
-            (omega arith)
-            (omega arith)
-            (omega arith)
-            (omega arith)
-            (omega arith)
-            (omega arith)
-            (c .before .before .before .before .before .before .before .before .before .before .before .read-variables .ensures .0)
-            (c .before .before .before .before .before .before .before .before .before .before .before .read-variables .ensures .1)
-            (c .before .before .before .before .before .before .before .before .before .clear-row .ensures)
-            (c .before .before .before .before .before .before .fill-row .ensures)
-            (c .before .before .before .before .read-costs .ensures)
-            (c .before .before .read-conditions .ensures)
-            (c .read-effects .ensures),
-        λ refused.
-            let never : ⊥ = refused (c .before .before .before .before .before .before .before .before .before .before .before .before .before .before .before .before .before .before .if1 .left) in
-            (absurd never, absurd never, absurd never, absurd never, absurd never, absurd never),
-      ),
-    )
+    let passes : checkTask f .number ≡ 0 = ap (λ (o : Outcome). o .number) (sym (c .before .before .before .before .before .before .before .before .before .before .before .before .before .before .before .before .before .before .before .before .check-task .ensures)) ∙ c .before .before .before .before .before .before .before .before .before .before .before .before .before .before .before .before .before .before .if1 .left in
+    task-read f _ _ _ (c .before .before .before .before .before .before .before .before .before .before .before .before .before .before .before .before .before .before .before .before .check-task .ensures) (c .before .before .before .before .before .before .before .before .before .before .before .before .before .before .before .before .before .before .if1 .left)
+    (held-file f octets passes _ _ _ _ _ _ _ _ _ _ _ _ _ _ _ _ _ _
+    (c .before .before .before .before .before .before .before .before .before .before .before .before .variables-in .ensures .is)
+    (c .before .before .before .before .before .before .before .before .before .before .before .before .before .before .before .actions-in .ensures .is)
+    (c .before .before .before .before .before .before .before .before .before .before .before .before .before .before .before .before .before .goal-place .ensures .is)
+    (c .before .before .before .before .before .before .before .before .before .before .before .before .before .before .before .before .actions-place .ensures .is)
+    (c .before .before .before .before .before .before .before .body-length .ensures .is)
+    (omega arith)
+    (omega arith)
+    (omega arith)
+    (omega arith)
+    (omega arith)
+    (omega arith)
+    (c .before .before .before .before .before .before .before .before .before .before .before .read-variables .ensures .sizesRead)
+    (c .before .before .before .before .before .before .before .before .before .before .before .read-variables .ensures .startsRead)
+    (c .before .before .before .before .before .before .before .before .before .clear-row .ensures)
+    (c .before .before .before .before .before .before .fill-row .ensures)
+    (c .before .before .before .before .read-costs .ensures)
+    (c .before .before .read-conditions .ensures)
+    (c .read-effects .ensures))
 
 pub read-task-spec : {M : Type 1} → statement M
 read-task-spec =

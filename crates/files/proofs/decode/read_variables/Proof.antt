@@ -74,7 +74,7 @@ same-length-2 : tie.Need-same-length-2 Inv-loop μ-loop
 same-length-2 c = c .before .loop .inv .4
 
 returns : tie.Need-returns Inv-loop μ-loop
-returns c = (search sizes-none, search starts-none)
+returns c = record { sizesRead = search sizes-none; startsRead = search starts-none }
 
 pub read-variables-spec : {M : Type 1} → statement M
 read-variables-spec =

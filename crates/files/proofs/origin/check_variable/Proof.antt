@@ -49,7 +49,7 @@ check-numbers-requires c κs = search needs
 
 returns-4 : tie.Need-returns-4
 unfolding variableOriginAt
-returns-4 c = rw (← c .before .values-in .ensures .0) (search forms depth 12 fits 5000)
+returns-4 c = rw (← c .before .values-in .ensures .is) (search forms depth 12 fits 5000)
 
 pub check-variable-spec : {M : Type 1} → statement M
 check-variable-spec =

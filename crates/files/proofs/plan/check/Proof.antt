@@ -28,7 +28,7 @@ check-numbers-requires c κs = search needs
 
 returns-3 : tie.Need-returns-3
 unfolding checkPlanFile sizeFits stepsIn
-returns-3 c = rw (← c .before .before .before .body-length .ensures .0) (search forms depth 12 fits 5000)
+returns-3 c = rw (← c .before .before .before .body-length .ensures .is) (search forms depth 12 fits 5000)
 
 record-after-requires : tie.Need-record-after-requires
 record-after-requires c κs = search needs
@@ -40,8 +40,8 @@ returns-4 : tie.Need-returns-4
 unfolding checkPlanFile sizeFits stepsIn
 returns-4 c =
     rw (
-      ← c .before .before .before .before .before .body-length .ensures .0,
-      ← c .before .record-after .ensures .0,
+      ← c .before .before .before .before .before .body-length .ensures .is,
+      ← c .before .record-after .ensures .is,
     )
     (search forms depth 12 fits 5000)
 

@@ -30,7 +30,7 @@ returns : tie.Need-returns
 unfolding planOf
 returns c =
     let s = now (c .before .before .args .s) in
-    (c .u16-at .ensures .0 ∙ sym (numbers-entry s 4 (stepsIn s) (c .before .before .args .i) (omega (arith, numbers-length s 4 (stepsIn s)))), c .u16-at .ensures .1)
+    record { is = c .u16-at .ensures .is ∙ sym (numbers-entry s 4 (stepsIn s) (c .before .before .args .i) (omega (arith, numbers-length s 4 (stepsIn s)))); below = c .u16-at .ensures .below }
 
 pub step-spec : {M : Type 1} → statement M
 step-spec = tie.close (tie.spec mul-u16-at add-u16-at u16-at-requires returns)

@@ -39,11 +39,12 @@ use denote.Triple.Table.{entered, cited}
 use denote.Triple.Walked.{says, needs, Stays, stay-none, stay-none-slice, walkOf, goes-none, goes-none-slice, Walks, ends-at, walked, walk-meets}
 use denote.Triple.Clauses.{ensured}
 use denote.Exit.{yes}
+use Rattle.files.specs.Contracts.{Moved}
 use Rattle.files.specs.Records.{offsetLimit, recordEnd}
 use Rattle.files.specs.declared.reader.Reader.{Reader}
 use Rattle.files.proofs.reader.Reader as T
 use Rattle.files.proofs.reader.Reader.Laws as T′
-use Rattle.files.proofs.ReaderCall.{B, readerTy, inLocal, readerAt, fileVal, Moved, Past, Own, to-past, goes-past, past-said, moved-val}
+use Rattle.files.proofs.ReaderCall.{B, readerTy, inLocal, readerAt, fileVal, Past, Own, to-past, goes-past, past-said, moved-val}
 use Rattle.files.proofs.reader.past as past
 use Rattle.files.proofs.reader.past.Symbol as past-def
 use Rattle.files.proofs.reader.past.Symbol.{name as #files·reader·past}
@@ -70,7 +71,7 @@ module _ {M : Type 1} (𝓤 : URA M) (H : Heap 𝓤) (A : Atoms 𝓤) (W : Given
   exits : next < n + 65540 → ent 𝓤 (⋆ 𝓤 H A ((‵ (flft κ q) ⊛ ‵ ftrue) ∷ ‵ (Own 𝓤 H A W mem run κ q s) ∷ [])) (Post (vint w64 next))
   exits less =
       qed W ((‵ (flft κ q) ⊛ ‵ ftrue) ∷ ‵ (Own 𝓤 H A W mem run κ q s) ∷ []) ∵
-      suffices ! _ (ends-at 𝓤 H A f.ended stayed (f.clauses 𝓤 H A mem run) W (((κ, tt), (q, tt), tt, (s, (n, tt)), at), tt) (vint w64 next) next (tt, (tt, tt)) (tt, (tt, tt))) $ says ! (refl, less) $
+      suffices ! _ (ends-at 𝓤 H A f.ended stayed (f.clauses 𝓤 H A mem run) W (((κ, tt), (q, tt), tt, (s, (n, tt)), at), tt) (vint w64 next) next (tt, (tt, tt)) (tt, (tt, tt))) $ says ! (record { is = refl; below = less }) $
       frame ! $ nothing ! $ owned ! usize (Is usize) (uint-makes 𝓤 H A W w64) n _ (refl, fits) $ fjoin ! $ move ! (1 ∷ 0 ∷ []) $ fjoin ! $ frame ! $
       owned ! usize (Is usize) (uint-makes 𝓤 H A W w64) next _ (refl, omega (arith, less, ok)) $ done !
 
@@ -93,7 +94,7 @@ module _ {M : Type 1} (𝓤 : URA M) (H : Heap 𝓤) (A : Atoms 𝓤) (W : Given
         move ! (10 ∷ 11 ∷ []) $ free1 ! $ move ! (8 ∷ 9 ∷ []) $ free1 ! $ move ! (6 ∷ 7 ∷ []) $ free1 ! $ move ! (4 ∷ 5 ∷ []) $ free1 ! $ move ! (2 ∷ 3 ∷ []) $ free1 ! $ free0 ! $ by ! (exits (less e)))))))))))
       where
         less : {r : Reader} → Moved s n r → next < n + 65540
-        less e = subst (λ (m : ℕ). m < n + 65540) (e .1) (e .2)
+        less e = subst (λ (m : ℕ). m < n + 65540) (e .is) (e .below)
 
 module _ {M : Type 1} (𝓤 : URA M) (H : Heap 𝓤) (A : Atoms 𝓤) (W : Given 𝓤 H A) (mem : Memory → SProp 𝓤) (run : Routine → Fun 𝓤) where
   walks : (C : Calls 𝓤 H) (Λ : Loops 𝓤 H) → FmC 𝓤 H (W .laws) C → Triple 𝓤 (C #files·reader·past) (Past 𝓤 H A mem run) → Walks 𝓤 H A f.ended stayed (WpFn 𝓤 H C Λ code.function) (f.clauses 𝓤 H A mem run)

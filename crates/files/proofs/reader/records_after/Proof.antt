@@ -43,12 +43,13 @@ use denote.Triple.Table.{entered, cited}
 use denote.Triple.Walked.{says, needs, Stays, stay-none, stay-none-slice, walkOf, goes-none, goes-none-slice, Walks, ends-at, walked, walk-meets}
 use denote.Triple.Clauses.{ensured}
 use denote.Exit.{yes}
+use Rattle.files.specs.Contracts.{Moved}
 use Rattle.files.specs.Records.{offsetLimit, recordEnd, recordsEnd}
 use Rattle.files.specs.declared.reader.Reader.{Reader}
 use Rattle.files.proofs.Steps.{records-none, records-next}
 use Rattle.files.proofs.reader.Reader as T
 use Rattle.files.proofs.reader.Reader.Laws as T′
-use Rattle.files.proofs.ReaderCall.{B, fileTy, readerTy, inLocal, readerAt, fileVal, readerVal, Moved, Past, Own, to-past, goes-past, past-said, moved-val}
+use Rattle.files.proofs.ReaderCall.{B, fileTy, readerTy, inLocal, readerAt, fileVal, readerVal, Past, Own, to-past, goes-past, past-said, moved-val}
 use Rattle.files.proofs.reader.past as past
 use Rattle.files.proofs.reader.past.Symbol as past-def
 use Rattle.files.proofs.reader.past.Symbol.{name as #files·reader·past}
@@ -86,7 +87,7 @@ module _ {M : Type 1} (𝓤 : URA M) (H : Heap 𝓤) (A : Atoms 𝓤) (W : Given
   exits : (p : ℕ) → p ≡ recordsEnd (now s) n c → p ≤ n + 65540 * c → ent 𝓤 (⋆ 𝓤 H A (Held [])) (Post (vint w64 p))
   exits p e le =
       qed W (Held []) ∵
-      suffices ! _ (ends-at 𝓤 H A f.ended stayed (f.clauses 𝓤 H A mem run) W (((κ, tt), (q, tt), tt, (s, (n, (c, tt))), at), tt) (vint w64 p) p (tt, (tt, (tt, tt))) (tt, (tt, (tt, tt)))) $ says ! (e, le) $
+      suffices ! _ (ends-at 𝓤 H A f.ended stayed (f.clauses 𝓤 H A mem run) W (((κ, tt), (q, tt), tt, (s, (n, (c, tt))), at), tt) (vint w64 p) p (tt, (tt, (tt, tt))) (tt, (tt, (tt, tt)))) $ says ! (record { is = e; atMost = le }) $
       move ! (1 ∷ 0 ∷ []) $ frame ! $ nothing ! $ owned ! usize (Is usize) (uint-makes 𝓤 H A W w64) c _ (refl, fits-c) $ fjoin ! $ owned ! usize (Is usize) (uint-makes 𝓤 H A W w64) n _ (refl, fits) $ fjoin ! $ move ! (1 ∷ 0 ∷ []) $ fjoin ! $ frame ! $
       owned ! usize (Is usize) (uint-makes 𝓤 H A W w64) p _ (refl, omega (arith, le, ok)) $ done !
 
@@ -130,7 +131,7 @@ module _ {M : Type 1} (𝓤 : URA M) (H : Heap 𝓤) (A : Atoms 𝓤) (W : Given
         land ! (from ! (stop !)) (store ! 8 refl (LL.lawful (T.the-type (inLocal κ)) (T′.the-laws (inLocal κ)) 𝓤 H A W .typed r _ is .0)) $ rewrite ! 8 (λ (w : Val). ‵ (fat fullShare readerTy l₄ 0 w)) (moved-val 𝓤 H A W mem run κ q s p r u e is) refl $
         assigns-last ! (bin ! (load ! (from ! (stop !)) (look ! 6 refl)) (lit ! tt) one) (from ! (stop !)) (store ! 6 refl (tt, record { fits = fits-k })) $ rewrite ! 6 (λ (m : ℕ). ‵ (fat fullShare word l₅ 0 (vint w64 m))) less-one refl $
         forget ! 4 refl $ forget ! 2 refl $ move ! (1 ∷ 0 ∷ []) $
-        again ! ≺ I t (record { place = recordEnd (now s) p; left = k; ends = next-ends; room = next-below (subst (λ (m : ℕ). m < p + 65540) (e .1) (e .2)) }) (subst (λ (m : ℕ). k < m) (sym is-left) (lt-suc-self k))))))
+        again ! ≺ I t (record { place = recordEnd (now s) p; left = k; ends = next-ends; room = next-below (subst (λ (m : ℕ). m < p + 65540) (e .is) (e .below)) }) (subst (λ (m : ℕ). k < m) (sym is-left) (lt-suc-self k))))))
       where
         ok-p : p < offsetLimit
         ok-p = omega (arith, below, ok)

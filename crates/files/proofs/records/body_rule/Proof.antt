@@ -5,6 +5,7 @@ use mathlib.Core.Logic.{⊎-elim}
 use native.Mathlib.Omega.{arith}
 use lib.Dec.{lit<}
 use lib.ListN.{List·getD-eq-default}
+use Rattle.files.specs.Contracts.{IsRule}
 use Rattle.files.specs.Records.{rule, bodyRule}
 use Rattle.files.specs.declared.records.Rule.{Rule}
 use borrow.Author.Needs.{needs}
@@ -15,12 +16,12 @@ use Rattle.files.proofs.records.body_rule.Tie as tie
 above : (n k : ℕ) → n ≤ k → (k ≡ n → ⊥) → n + 1 ≤ k
 above n k h d = omega arith
 
-rule-of : (kind k : ℕ) (r x : Rule) → r ≡ x → kind ≡ k → x ≡ bodyRule k → 0 < x .step → (r ≡ bodyRule kind) × (0 < r .step)
-rule-of kind k r x e q b h = (e ∙ b ∙ sym (ap bodyRule q), subst (λ (y : Rule). 0 < y .step) (sym e) h)
+rule-of : (kind k : ℕ) (r x : Rule) → r ≡ x → kind ≡ k → x ≡ bodyRule k → 0 < x .step → IsRule r kind
+rule-of kind k r x e q b h = record { is = e ∙ b ∙ sym (ap bodyRule q); steps = subst (λ (y : Rule). 0 < y .step) (sym e) h }
 
-rule-past : (kind : ℕ) (r : Rule) → r ≡ rule 65536 1 0 → 9 ≤ kind → (r ≡ bodyRule kind) × (0 < r .step)
+rule-past : (kind : ℕ) (r : Rule) → r ≡ rule 65536 1 0 → 9 ≤ kind → IsRule r kind
 unfolding bodyRule
-rule-past kind r e h = (e ∙ rw List·getD-eq-default, subst (λ (y : Rule). 0 < y .step) (sym e) (lit< tt))
+rule-past kind r e h = record { is = e ∙ rw List·getD-eq-default; steps = subst (λ (y : Rule). 0 < y .step) (sym e) (lit< tt) }
 
 lengths-requires : tie.Need-lengths-requires
 lengths-requires c κs = search needs

@@ -49,8 +49,8 @@ returns-4 : tie.Need-returns-4
 unfolding headAt
 returns-4 c =
     rw (
-      ← c .before .before .body-rule .ensures .0,
-      ← c .before .body-length .ensures .0,
+      ← c .before .before .body-rule .ensures .is,
+      ← c .before .body-length .ensures .is,
     )
     (search forms depth 12 fits 5000)
 

@@ -16,7 +16,7 @@ returns : tie.Need-returns
 unfolding signerOf
 returns c =
     let short : length (now (c .before .before .before .args .s)) - 8 ≡ 0 = omega arith in
-    (rw short (c .u32-at .ensures .0), c .u32-at .ensures .1)
+    record { is = rw short (c .u32-at .ensures .is); below = c .u32-at .ensures .below }
 
 sub-u32-at : tie.Need-sub-u32-at
 sub-u32-at c = search needs

@@ -13,7 +13,7 @@ records-after-requires c κs = search needs
 
 returns : tie.Need-returns
 unfolding actionPlace
-returns c = (cc, omega arith)
+returns c = record { is = cc; below = omega arith }
 
 pub action-place-spec : {M : Type 1} → statement M
 action-place-spec = tie.close (tie.spec actions-place-requires records-after-requires returns)

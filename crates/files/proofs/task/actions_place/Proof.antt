@@ -13,7 +13,7 @@ record-after-requires c κs = search needs
 
 returns : tie.Need-returns
 unfolding actionsPlace
-returns c = (cc, omega arith)
+returns c = record { is = cc; below = omega arith }
 
 pub actions-place-spec : {M : Type 1} → statement M
 actions-place-spec = tie.close (tie.spec goal-place-requires record-after-requires returns)

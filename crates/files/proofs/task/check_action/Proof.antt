@@ -30,7 +30,7 @@ check-pairs-requires c κs = search needs
 
 returns-3 : tie.Need-returns-3
 unfolding actionAt
-returns-3 c = rw (← c .before .before .before .conditions-in .ensures .0) (search forms depth 12 fits 5000)
+returns-3 c = rw (← c .before .before .before .conditions-in .ensures .is) (search forms depth 12 fits 5000)
 
 effects-place-requires : tie.Need-effects-place-requires
 effects-place-requires c κs = search needs
@@ -45,9 +45,9 @@ returns-4 : tie.Need-returns-4
 unfolding actionAt
 returns-4 c =
     rw (
-      ← c .before .before .before .before .before .before .conditions-in .ensures .0,
-      ← c .before .before .effects-place .ensures .0,
-      ← c .before .effects-in .ensures .0,
+      ← c .before .before .before .before .before .before .conditions-in .ensures .is,
+      ← c .before .before .effects-place .ensures .is,
+      ← c .before .effects-in .ensures .is,
     )
     (search forms depth 12 fits 5000)
 

@@ -23,7 +23,7 @@ check-pairs-requires c κs = search needs
 
 returns-2 : tie.Need-returns-2
 unfolding goalAt
-returns-2 c = rw (← c .before .body-length .ensures .0) (search forms depth 12 fits 5000)
+returns-2 c = rw (← c .before .body-length .ensures .is) (search forms depth 12 fits 5000)
 
 pub check-goal-spec : {M : Type 1} → statement M
 check-goal-spec =

@@ -28,7 +28,7 @@ add-result-2 c = search needs
 
 returns : tie.Need-returns
 unfolding actionNeeded
-returns c = omega arith
+returns c = record { is = omega arith; atMost = omega arith }
 
 pub action-needed-spec : {M : Type 1} → statement M
 action-needed-spec =

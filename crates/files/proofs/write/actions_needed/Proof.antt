@@ -46,7 +46,8 @@ returns : tie.Need-returns Inv-loop μ-loop
 returns c =
     let args = c .before .before .before .before .args in
     let loop = c .before .loop in
-    omega (arith, actionsNeeded-none (args .variables) (now (args .conditions)) (now (args .effects)) (loop .a) (loop .left) (c .loop-test .left))
+    let none = actionsNeeded-none (args .variables) (now (args .conditions)) (now (args .effects)) (loop .a) (loop .left) (c .loop-test .left) in
+    record { is = omega arith; atMost = omega arith }
 
 pub actions-needed-spec : {M : Type 1} → statement M
 actions-needed-spec =

@@ -47,7 +47,7 @@ loop-again c =
     let args = c .before .before .before .before .before .args in
     let loop = c .before .before .before .loop in
     let more = c .before .before .loop-test .taken in
-    let is = c .before .byte-at .ensures .0 in
+    let is = c .before .byte-at .ensures .is in
     ⊎-elim
     (λ w. omega (arith, ap length (rowPairs-next (now (args .rows)) (args .base) (loop .v) (loop .left) _ (one-more _ more) is (w .0 .taken))))
     (λ w. omega (arith, ap length (rowPairs-skip (now (args .rows)) (args .base) (loop .v) (loop .left) _ (one-more _ more) is (w .0 .left))))
@@ -57,7 +57,8 @@ returns : tie.Need-returns Inv-loop μ-loop
 returns c =
     let args = c .before .before .before .args in
     let loop = c .before .loop in
-    omega (arith, ap length (rowPairs-none (now (args .rows)) (args .base) (loop .v) (loop .left) (c .loop-test .left)))
+    let none = ap length (rowPairs-none (now (args .rows)) (args .base) (loop .v) (loop .left) (c .loop-test .left)) in
+    record { is = omega arith; atMost = omega arith }
 
 pub pairs-in-spec : {M : Type 1} → statement M
 pairs-in-spec =

@@ -54,11 +54,11 @@ add-put-pairs c = search needs
 
 put-pairs-requires : tie.Need-put-pairs-requires
 unfolding actionNeeded
-put-pairs-requires c κs = omega arith
+put-pairs-requires c κs = search needs
 
 put-pairs-requires-2 : tie.Need-put-pairs-requires-2
 unfolding actionNeeded
-put-pairs-requires-2 c κs = omega arith
+put-pairs-requires-2 c κs = search needs
 
 same-length : tie.Need-same-length
 same-length c = search needs
@@ -66,17 +66,19 @@ same-length c = search needs
 returns : tie.Need-returns
 unfolding rowAction actionNeeded
 returns c =
-    let args = c .before .before .before .before .before .before .before .before .before .before .before .before .before .before .before .before .before .before .before .before .before .before .before .args in (
-      placed-action (rowAction (args .variables) (now (args .costs)) (now (args .conditions)) (now (args .effects)) (args .a)) _ _ _ _ _ _ _ _ _
-          (c .before .before .before .before .before .before .before .before .before .before .before .before .before .before .before .before .before .before .pairs-in .ensures .0)
-          (c .before .before .before .before .before .before .before .before .before .before .before .before .before .before .before .before .before .pairs-in2 .ensures .0)
+    let args = c .before .before .before .before .before .before .before .before .before .before .before .before .before .before .before .before .before .before .before .before .before .before .before .args in
+    record {
+      written =
+          placed-action (rowAction (args .variables) (now (args .costs)) (now (args .conditions)) (now (args .effects)) (args .a)) _ _ _ _ _ _ _ _ _
+          (c .before .before .before .before .before .before .before .before .before .before .before .before .before .before .before .before .before .before .pairs-in .ensures .is)
+          (c .before .before .before .before .before .before .before .before .before .before .before .before .before .before .before .before .before .pairs-in2 .ensures .is)
           (c .before .before .before .before .before .before .before .before .before .before .before .before .before .before .put-head .ensures)
           (c .before .before .before .before .before .before .before .before .before .before .put-counts .ensures)
-          (c .before .before .before .before .before .before .put-pairs .ensures .0)
-          (c .before .before .before .before .before .before .put-pairs .ensures .1)
-          (c .before .before .put-pairs2 .ensures .0),
-      omega arith,
-    )
+          (c .before .before .before .before .before .before .put-pairs .ensures .written)
+          (c .before .before .before .before .before .before .put-pairs .ensures .ends)
+          (c .before .before .put-pairs2 .ensures .written);
+      ends = omega arith;
+    }
 
 pub put-action-spec : {M : Type 1} → statement M
 put-action-spec =

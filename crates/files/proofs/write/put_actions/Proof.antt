@@ -36,7 +36,7 @@ put-action-requires c κs =
     let args = c .before .before .before .before .before .before .before .args in
     let loop = c .before .before .loop in
     let next = actionsNeeded-next (args .variables) (now (args .conditions)) (now (args .effects)) (loop .a) (loop .left) (c .before .loop-test .taken) in
-    (omega arith, omega arith, omega arith, omega arith, omega arith, omega arith)
+    search needs
 
 add-a : tie.Need-add-a Inv-loop μ-loop
 add-a c = search needs
@@ -55,7 +55,7 @@ loop-again c =
     let next = actionsNeeded-next (args .variables) (now (args .conditions)) (now (args .effects)) (loop .a) (loop .left) (c .before .before .before .before .loop-test .taken) in
     let written = row-action-length (args .variables) (now (args .costs)) (now (args .conditions)) (now (args .effects)) (loop .a) in (
       placed-next actionBytes (rowAction (args .variables) (now (args .costs)) (now (args .conditions)) (now (args .effects))) (loop .buffer) (loop .place) (loop .a) (loop .left) (λ (action : Action). recordBytes 4 (actionBody action)) _ _ (c .before .before .before .before .loop-test .taken) refl
-          (c .before .before .put-action .ensures .0) (omega arith)
+          (c .before .before .put-action .ensures .written) (omega arith)
           ∙ loop .inv .0,
       omega arith,
       omega arith,
@@ -69,10 +69,12 @@ returns : tie.Need-returns Inv-loop μ-loop
 unfolding actionBytes
 returns c =
     let args = c .before .before .before .before .before .before .args in
-    let loop = c .before .loop in (
-      placed-none actionBytes (rowAction (args .variables) (now (args .costs)) (now (args .conditions)) (now (args .effects))) _ _ _ _ (c .loop-test .left) refl ∙ loop .inv .0,
-      omega (arith, actionsNeeded-none (args .variables) (now (args .conditions)) (now (args .effects)) (loop .a) (loop .left) (c .loop-test .left)),
-    )
+    let loop = c .before .loop in
+    record {
+      written =
+          placed-none actionBytes (rowAction (args .variables) (now (args .costs)) (now (args .conditions)) (now (args .effects))) _ _ _ _ (c .loop-test .left) refl ∙ loop .inv .0;
+      ends = omega (arith, actionsNeeded-none (args .variables) (now (args .conditions)) (now (args .effects)) (loop .a) (loop .left) (c .loop-test .left));
+    }
 
 pub put-actions-spec : {M : Type 1} → statement M
 put-actions-spec =

@@ -28,10 +28,12 @@ same-length c = search needs
 
 returns : tie.Need-returns
 returns c =
-    let args = c .before .before .before .before .before .before .before .before .before .before .before .args in (
-      placed-record _ _ _ _ _ _ _ (c .before .before .before .before .before .before .put-head .ensures) (omega (arith, pair-bytes-length (rowPairs (now (args .goal)) 0 0 (args .variables)))) (c .before .before .put-pairs .ensures .0),
-      c .before .before .put-pairs .ensures .1,
-    )
+    let args = c .before .before .before .before .before .before .before .before .before .before .before .args in
+    record {
+      written =
+          placed-record _ _ _ _ _ _ _ (c .before .before .before .before .before .before .put-head .ensures) (omega (arith, pair-bytes-length (rowPairs (now (args .goal)) 0 0 (args .variables)))) (c .before .before .put-pairs .ensures .written);
+      ends = c .before .before .put-pairs .ensures .ends;
+    }
 
 pub put-goal-spec : {M : Type 1} → statement M
 put-goal-spec =

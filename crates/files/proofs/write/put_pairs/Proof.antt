@@ -38,13 +38,13 @@ put-pair-requires : tie.Need-put-pair-requires Inv-loop μ-loop
 put-pair-requires c κs =
     let args = c .before .before .before .before .before .before .before .args in
     let loop = c .before .before .before .before .loop in
-    omega (arith, ap length (rowPairs-next (now (args .rows)) (args .base) (loop .v) (loop .left) _ (one-more _ (c .before .before .before .loop-test .taken)) (c .before .before .byte-at .ensures .0) (c .before .if1 .taken)))
+    omega (arith, ap length (rowPairs-next (now (args .rows)) (args .base) (loop .v) (loop .left) _ (one-more _ (c .before .before .before .loop-test .taken)) (c .before .before .byte-at .ensures .is) (c .before .if1 .taken)))
 
 add-place : tie.Need-add-place Inv-loop μ-loop
 add-place c =
     let args = c .before .before .before .before .before .before .before .before .before .before .args in
     let loop = c .before .before .before .before .before .before .before .loop in
-    omega (arith, ap length (rowPairs-next (now (args .rows)) (args .base) (loop .v) (loop .left) _ (one-more _ (c .before .before .before .before .before .before .loop-test .taken)) (c .before .before .before .before .before .byte-at .ensures .0) (c .before .before .before .before .if1 .taken)))
+    omega (arith, ap length (rowPairs-next (now (args .rows)) (args .base) (loop .v) (loop .left) _ (one-more _ (c .before .before .before .before .before .before .loop-test .taken)) (c .before .before .before .before .before .byte-at .ensures .is) (c .before .before .before .before .if1 .taken)))
 
 add-v : tie.Need-add-v Inv-loop μ-loop
 add-v c = search needs
@@ -60,7 +60,7 @@ loop-again c =
     let args = c .before .before .before .before .before .before .args in
     let loop = c .before .before .before .loop in
     let more = c .before .before .loop-test .taken in
-    let is = c .before .byte-at .ensures .0 in
+    let is = c .before .byte-at .ensures .is in
     ⊎-elim
     (λ w. (
       placed-pairs-next _ _ _ _ _ _ _ more is (c .if1 .buffer) (c .if1 .place) (w .5 ∙ w .2 .ensures) (w .6) (w .0 .taken) ∙ loop .inv .0,
@@ -82,10 +82,12 @@ same-length c = c .before .loop .inv .3
 returns : tie.Need-returns Inv-loop μ-loop
 returns c =
     let args = c .before .before .before .before .args in
-    let loop = c .before .loop in (
-      placed-pairs-none _ _ _ _ _ _ (c .loop-test .left) ∙ loop .inv .0,
-      omega (arith, ap length (rowPairs-none (now (args .rows)) (args .base) (loop .v) (loop .left) (c .loop-test .left))),
-    )
+    let loop = c .before .loop in
+    record {
+      written =
+          placed-pairs-none _ _ _ _ _ _ (c .loop-test .left) ∙ loop .inv .0;
+      ends = omega (arith, ap length (rowPairs-none (now (args .rows)) (args .base) (loop .v) (loop .left) (c .loop-test .left)));
+    }
 
 pub put-pairs-spec : {M : Type 1} → statement M
 put-pairs-spec =

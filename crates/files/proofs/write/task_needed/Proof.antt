@@ -28,7 +28,7 @@ add-result-3 c = search needs
 
 returns : tie.Need-returns
 unfolding taskNeeded
-returns c = omega arith
+returns c = record { is = omega arith; below = omega arith }
 
 pub task-needed-spec : {M : Type 1} → statement M
 task-needed-spec =

@@ -18,7 +18,7 @@ put-header-requires c κs = omega arith
 
 put-variables-requires : tie.Need-put-variables-requires
 unfolding taskNeeded
-put-variables-requires c κs = omega arith
+put-variables-requires c κs = search needs
 
 mul-put-goal : tie.Need-mul-put-goal
 mul-put-goal c = search needs
@@ -28,11 +28,11 @@ add-put-goal c = search needs
 
 put-goal-requires : tie.Need-put-goal-requires
 unfolding taskNeeded
-put-goal-requires c κs = omega arith
+put-goal-requires c κs = search needs
 
 put-actions-requires : tie.Need-put-actions-requires
 unfolding taskNeeded
-put-actions-requires c κs = omega arith
+put-actions-requires c κs = search needs
 
 put-sign-off-requires : tie.Need-put-sign-off-requires
 unfolding taskNeeded
@@ -48,12 +48,12 @@ returns c =
     placed-task d (args .signer) _ _ _ _ _ _ _ _
     (c .before .before .before .before .before .before .before .before .before .before .before .before .before .before .before .before .before .before .before .before .before .before .before .before .put-header .ensures)
     (c .before .before .before .before .before .before .before .before .before .before .before .before .before .before .before .before .before .before .put-variables .ensures)
-    (c .before .before .before .before .before .before .before .before .before .before .before .before .before .put-goal .ensures .0)
-    (c .before .before .before .before .before .before .before .before .before .before .before .before .before .put-goal .ensures .1)
-    (c .before .before .before .before .before .before .put-actions .ensures .0)
-    (c .before .before .before .before .before .before .put-actions .ensures .1)
+    (c .before .before .before .before .before .before .before .before .before .before .before .before .before .put-goal .ensures .written)
+    (c .before .before .before .before .before .before .before .before .before .before .before .before .before .put-goal .ensures .ends)
+    (c .before .before .before .before .before .before .put-actions .ensures .written)
+    (c .before .before .before .before .before .before .put-actions .ensures .ends)
     (c .before .before .put-sign-off .ensures)
-    ∙ placed-overwrite (now (args .buffer)) (taskFile (held d) (args .signer)) (rw (task-file-length d (args .signer)) (c .before .before .before .before .before .before .before .before .before .before .before .before .before .before .before .before .before .before .before .before .before .before .before .before .before .before .before .pre .2))
+    ∙ placed-overwrite (now (args .buffer)) (taskFile (held d) (args .signer)) (rw (task-file-length d (args .signer)) (c .before .before .before .before .before .before .before .before .before .before .before .before .before .before .before .before .before .before .before .before .before .before .before .before .before .before .before .pre .room))
 
 pub write-task-spec : {M : Type 1} → statement M
 write-task-spec =

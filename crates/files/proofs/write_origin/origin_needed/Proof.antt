@@ -19,7 +19,7 @@ add-result-2 c = search needs
 
 returns : tie.Need-returns
 unfolding originNeeded
-returns c = omega arith
+returns c = record { is = omega arith; below = omega arith }
 
 pub origin-needed-spec : {M : Type 1} → statement M
 origin-needed-spec =

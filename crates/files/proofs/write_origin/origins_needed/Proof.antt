@@ -50,7 +50,8 @@ loop-again c =
 returns : tie.Need-returns Inv-loop μ-loop
 returns c =
     let loop = c .before .loop in
-    omega (arith, originsNeeded-none (now (c .before .before .before .args .sizes)) (loop .i) (loop .left) (c .loop-test .left))
+    let none = originsNeeded-none (now (c .before .before .before .args .sizes)) (loop .i) (loop .left) (c .loop-test .left) in
+    record { is = omega arith; atMost = omega arith }
 
 pub origins-needed-spec : {M : Type 1} → statement M
 origins-needed-spec =

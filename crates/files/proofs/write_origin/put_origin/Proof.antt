@@ -50,15 +50,17 @@ same-length c = search needs
 
 returns : tie.Need-returns
 returns c =
-    let args = c .before .before .before .before .before .before .before .before .before .before .before .before .before .before .before .before .before .before .args in (
-      placed-origin (now (args .numbers)) (now (args .sizes)) (now (args .values)) (args .i) _ _ _ _ _ _ _
-          (c .before .before .before .before .before .before .before .before .before .before .before .before .before .byte-at .ensures .0)
-          (c .before .before .before .before .before .before .before .byte-at2 .ensures .0)
+    let args = c .before .before .before .before .before .before .before .before .before .before .before .before .before .before .before .before .before .before .args in
+    record {
+      written =
+          placed-origin (now (args .numbers)) (now (args .sizes)) (now (args .values)) (args .i) _ _ _ _ _ _ _
+          (c .before .before .before .before .before .before .before .before .before .before .before .before .before .byte-at .ensures .is)
+          (c .before .before .before .before .before .before .before .byte-at2 .ensures .is)
           (c .before .before .before .before .before .before .before .before .before .before .before .put-head .ensures)
           (c .before .before .before .before .before .before .put-u16 .ensures)
-          (c .before .before .put-values .ensures),
-      omega arith,
-    )
+          (c .before .before .put-values .ensures);
+      ends = omega arith;
+    }
 
 pub put-origin-spec : {M : Type 1} → statement M
 put-origin-spec =

@@ -35,8 +35,8 @@ put-origin-requires c κs =
     let args = c .before .before .before .before .before .before .before .args in
     let loop = c .before .before .loop in
     let next = originsNeeded-next (now (args .sizes)) (loop .i) (loop .left) (c .before .loop-test .taken) in
-    let size : getD (now (args .sizes)) (loop .i) 0 ≤ 32 = c .before .before .before .before .before .before .before .pre .1 (loop .i) (omega arith) in
-    (omega arith, omega arith, omega arith)
+    let size : getD (now (args .sizes)) (loop .i) 0 ≤ 32 = c .before .before .before .before .before .before .before .pre .source .fewValues (loop .i) (omega arith) in
+    search needs
 
 add-i : tie.Need-add-i Inv-loop μ-loop
 add-i c = search needs
@@ -55,7 +55,7 @@ loop-again c =
     let next = originsNeeded-next (now (args .sizes)) (loop .i) (loop .left) (c .before .before .before .before .loop-test .taken) in
     let written = row-origin-length (now (args .numbers)) (now (args .sizes)) (now (args .values)) (loop .i) in (
       placed-next variableOriginBytes (rowOrigin (now (args .numbers)) (now (args .sizes)) (now (args .values))) (loop .buffer) (loop .place) (loop .i) (loop .left) (λ (o : VariableOrigin). recordBytes 6 (originBody o)) _ _ (c .before .before .before .before .loop-test .taken) refl
-          (c .before .before .put-origin .ensures .0) (omega arith)
+          (c .before .before .put-origin .ensures .written) (omega arith)
           ∙ loop .inv .0,
       omega arith,
       omega arith,
@@ -69,10 +69,12 @@ returns : tie.Need-returns Inv-loop μ-loop
 unfolding variableOriginBytes
 returns c =
     let args = c .before .before .before .before .before .before .args in
-    let loop = c .before .loop in (
-      placed-none variableOriginBytes (rowOrigin (now (args .numbers)) (now (args .sizes)) (now (args .values))) _ _ _ _ (c .loop-test .left) refl ∙ loop .inv .0,
-      omega (arith, originsNeeded-none (now (args .sizes)) (loop .i) (loop .left) (c .loop-test .left)),
-    )
+    let loop = c .before .loop in
+    record {
+      written =
+          placed-none variableOriginBytes (rowOrigin (now (args .numbers)) (now (args .sizes)) (now (args .values))) _ _ _ _ (c .loop-test .left) refl ∙ loop .inv .0;
+      ends = omega (arith, originsNeeded-none (now (args .sizes)) (loop .i) (loop .left) (c .loop-test .left));
+    }
 
 pub put-origins-spec : {M : Type 1} → statement M
 put-origins-spec =

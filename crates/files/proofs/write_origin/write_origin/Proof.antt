@@ -14,7 +14,7 @@ use Rattle.files.proofs.write_origin.write_origin.Tie as tie
 
 put-origins-requires : tie.Need-put-origins-requires
 unfolding originNeeded
-put-origins-requires c κs = (omega arith, c .before .before .before .before .before .pre .2, omega arith, omega arith)
+put-origins-requires c κs = record { source = record { few = omega arith; fewValues = c .before .before .before .before .before .pre .source .fewValues; within = omega arith }; room = omega arith }
 
 mul-put-head : tie.Need-mul-put-head
 mul-put-head c = search needs
@@ -29,7 +29,7 @@ add-put-originals c = omega arith
 
 put-originals-requires : tie.Need-put-originals-requires
 unfolding originNeeded
-put-originals-requires c κs = omega arith
+put-originals-requires c κs = search needs
 
 add-put-sign-off : tie.Need-add-put-sign-off
 unfolding originNeeded
@@ -54,12 +54,12 @@ returns c =
     let args = c .before .before .before .before .before .before .before .before .before .before .before .before .before .before .before .before .before .before .before .before .before .args in
     let d = originArrays (args .variables) (args .actions) (now (args .numbers)) (now (args .sizes)) (now (args .values)) (now (args .originals)) in
     placed-origins d (args .signer) _ _ _ _ _ _
-    (c .before .before .before .before .before .before .before .before .before .before .before .before .before .before .before .put-origins .ensures .0)
-    (c .before .before .before .before .before .before .before .before .before .before .before .before .before .before .before .put-origins .ensures .1)
+    (c .before .before .before .before .before .before .before .before .before .before .before .before .before .before .before .put-origins .ensures .written)
+    (c .before .before .before .before .before .before .before .before .before .before .before .before .before .before .before .put-origins .ensures .ends)
     (c .before .before .before .before .before .before .before .before .before .before .before .put-head .ensures)
     (c .before .before .before .before .before .before .put-originals .ensures)
     (c .before .before .put-sign-off .ensures)
-    ∙ placed-overwrite (now (args .buffer)) (originFile (heldOrigin d) (args .signer)) (rw (origin-file-length d (args .signer)) (c .before .before .before .before .before .before .before .before .before .before .before .before .before .before .before .before .before .before .before .before .before .pre .3))
+    ∙ placed-overwrite (now (args .buffer)) (originFile (heldOrigin d) (args .signer)) (rw (origin-file-length d (args .signer)) (c .before .before .before .before .before .before .before .before .before .before .before .before .before .before .before .before .before .before .before .before .before .pre .room))
 
 pub write-origin-spec : {M : Type 1} → statement M
 write-origin-spec =

@@ -11,7 +11,7 @@ covers-requires c κs = search needs
 
 returns : tie.Need-returns
 returns c =
-    (covered-found _ _ _ _ _ _ _ _ (c .before .before .if1 .taken) (sym (c .before .covers .ensures) ∙ c .if2 .taken), omega arith)
+    record { is = covered-found _ _ _ _ _ _ _ _ (c .before .before .if1 .taken) (sym (c .before .covers .ensures) ∙ c .if2 .taken); atMost = omega arith }
 
 find-coverer-requires : tie.Need-find-coverer-requires
 find-coverer-requires c κs = search needs

@@ -39,7 +39,7 @@ loop-again : tie.Need-loop-again Inv-loop μ-loop
 loop-again c =
     let l = c .before .before .before .before .before .loop in
     let row = c .before .before .fill-row .ensures in
-    (row .0 ∙ l .inv .0, below-more _ _ (λ i h b k. row .2 (512 * i + b) (omega arith) ∙ l .inv .1 i h b k) (row .1), omega arith)
+    (row .same ∙ l .inv .0, below-more _ _ (λ i h b k. row .earlier (512 * i + b) (omega arith) ∙ l .inv .1 i h b k) (row .row), omega arith)
 
 same-length : tie.Need-same-length Inv-loop μ-loop
 same-length c = c .before .loop .inv .0

@@ -63,7 +63,7 @@ same-length c = c .before .loop .inv .0
 returns : tie.Need-returns Inv-loop μ-loop
 returns c =
     let l = c .before .loop in
-    (l .inv .0, λ b h. l .inv .1 b (omega arith), l .inv .2)
+    record { same = l .inv .0; row = λ b h. l .inv .1 b (omega arith); earlier = l .inv .2 }
 
 pub fill-row-spec : {M : Type 1} → statement M
 fill-row-spec =

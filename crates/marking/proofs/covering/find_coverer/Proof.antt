@@ -24,7 +24,7 @@ covers-requires c κs = search needs
 
 returns : tie.Need-returns Inv-loop μ-loop
 returns c =
-    (covered-found _ _ _ _ _ _ _ _ (c .before .before .loop-test .taken) (sym (c .before .covers .ensures) ∙ c .if1 .taken), omega arith)
+    record { is = covered-found _ _ _ _ _ _ _ _ (c .before .before .loop-test .taken) (sym (c .before .covers .ensures) ∙ c .if1 .taken); atMost = omega arith }
 
 add-b : tie.Need-add-b Inv-loop μ-loop
 add-b c = search needs
@@ -39,7 +39,7 @@ loop-again c =
 returns-2 : tie.Need-returns-2 Inv-loop μ-loop
 returns-2 c =
     let l = c .before .loop in
-    (covered-none _ _ _ _ _ _ _ (l .b) (l .inv .1) (c .loop-test .left) (l .inv .0), omega arith)
+    record { is = covered-none _ _ _ _ _ _ _ (l .b) (l .inv .1) (c .loop-test .left) (l .inv .0); atMost = omega arith }
 
 pub find-coverer-spec : {M : Type 1} → statement M
 find-coverer-spec =

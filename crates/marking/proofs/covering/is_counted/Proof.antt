@@ -51,7 +51,7 @@ returns-4 c =
       ne-eqb _ 1 (c .before .before .before .before .before .before .before .if1 .left),
       eq-eqb _ 1 (c .before .before .before .before .before .if2 .left),
       eq-eqb _ 4 (c .before .before .before .if3 .left),
-      ← c .before .coverer .ensures .0,
+      ← c .before .coverer .ensures .is,
     )
     (leb-ltb (c .before .before .before .before .before .before .before .before .before .args .scope .actions) (c .before .coverer .result))
 

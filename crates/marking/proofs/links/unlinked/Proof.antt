@@ -56,7 +56,7 @@ loop-again c =
 
 returns : tie.Need-returns Inv-loop μ-loop
 returns c =
-    let l = c .before .loop in (λ k h. l .inv .0 k (omega arith), λ k h. l .inv .1 k (omega arith))
+    let l = c .before .loop in record { told = λ k h. l .inv .0 k (omega arith); zero = λ k h. l .inv .1 k (omega arith) }
 
 pub unlinked-spec : {M : Type 1} → statement M
 unlinked-spec =

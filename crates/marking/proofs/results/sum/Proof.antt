@@ -48,7 +48,7 @@ returns : tie.Need-returns Inv-loop μ-loop
 returns c =
     let l = c .before .loop in
     let a = c .before .before .args in
-    (at-end (λ n. l .total ≡ sumOf (now (a .bytes)) n) (l .i) (a .count) (l .inv .2) (c .loop-test .left) (l .inv .0), omega arith)
+    record { is = at-end (λ n. l .total ≡ sumOf (now (a .bytes)) n) (l .i) (a .count) (l .inv .2) (c .loop-test .left) (l .inv .0); atMost = omega arith }
 
 pub sum-spec : {M : Type 1} → statement M
 sum-spec =

@@ -33,14 +33,14 @@ element-copy-out-size c = search needs
 
 cast-size : tie.Need-cast-size Inv-loop μ-loop
 cast-size c =
-    omega (arith, c .before .before .before .before .pre .2 (c .before .before .loop .v) (c .before .loop-test .taken))
+    omega (arith, c .before .before .before .before .pre .source .fewValues (c .before .before .loop .v) (c .before .loop-test .taken))
 
 write-values-requires : tie.Need-write-values-requires Inv-loop μ-loop
 write-values-requires c κs =
     let l = c .before .before .before .loop in
     let start = c .before .before .before .before .before in
     let more = c .before .before .loop-test .taken in
-    (omega (arith, sum-within (now (start .args .sizes)) (l .v) (start .args .variables) (l .at) more (l .inv .1)), omega arith, start .pre .2 (l .v) more)
+    record { source = record { known = omega arith; few = start .pre .source .fewValues (l .v) more }; room = omega (arith, sum-within (now (start .args .sizes)) (l .v) (start .args .variables) (l .at) more (l .inv .1)) }
 
 add-at : tie.Need-add-at Inv-loop μ-loop
 add-at c =

@@ -7,9 +7,10 @@ use Rattle.files.specs.declared.Outcome.{Outcome}
 use Rattle.files.specs.Dense.{Arrays, held, arrays}
 use Rattle.files.specs.Task.{factCount}
 use Rattle.files.proofs.Valid.{Valid, task-valid}
-use Rattle.marking.specs.Mark.{marksFit}
+use Rattle.marking.specs.Mark.{marksFit, markBuffers}
 use Rattle.marking.proofs.HeldTask.{variables-held, actions-held, size-held}
-use Rattle.marking.proofs.MarkLaws.{answer-refused, buffer-untouched, answer-done, refusal-number, first-short, second-short, both-fit, facts-held, action-bytes, fact-bytes, actions-written, facts-written}
+use Rattle.marking.proofs.MarkLaws.{refusal-number, first-short, second-short, both-fit, facts-held, action-bytes, fact-bytes, actions-written, facts-written}
+use Rattle.marking.proofs.MarkRow.{marks-refused, marks-written}
 use borrow.Author.Needs.{needs}
 use Rattle.marking.proofs.rounds.mark_task.Statement.{statement}
 use Rattle.marking.proofs.rounds.mark_task.Tie as tie
@@ -30,12 +31,12 @@ abbrev to-start : tie.After-sum → tie.Start
 to-start c = c .before .before .before .before
 
 facts-are : (c : tie.After-sum) → c .sum .result ≡ factCount (held (task (to-start c)))
-facts-are c = c .sum .ensures .0 ∙ facts-held (task (to-start c)) (valid (to-start c)) (to-start c .args .scope .level)
+facts-are c = c .sum .ensures .is ∙ facts-held (task (to-start c)) (valid (to-start c)) (to-start c .args .scope .level)
 
 sum-requires : tie.Need-sum-requires
 sum-requires c κs =
     let s = c .before .before .before in
-    (omega (arith, variables-few s), omega (arith, variables-few s))
+    record { within = omega (arith, variables-few s); few = omega (arith, variables-few s) }
 
 refuse-requires : tie.Need-refuse-requires
 refuse-requires c κs = search needs
@@ -49,10 +50,7 @@ returns c =
     let n = c .before .before .before in
     let s = to-start n in
     let d = task s in
-    let refused = refusal-number _ 21 _ (omega arith) (c .before .refuse .ensures) in (
-      answer-refused _ _ refused (c .refused .ensures) _ (held d) (s .args .scope .level) (first-short _ _ _ _ _ _ (sym (actions-held d)) (facts-are n) _ (c .before .before .if1 .taken) (c .before .refuse .ensures)),
-      (buffer-untouched _ _ refused (c .refused .ensures) _ _, buffer-untouched _ _ refused (c .refused .ensures) _ _),
-    )
+    marks-refused (held d) (s .args .scope .level) _ _ (first-short _ _ _ _ _ _ (sym (actions-held d)) (facts-are n) _ (c .before .before .if1 .taken) (c .before .refuse .ensures)) _ (refusal-number _ 21 _ (omega arith) (c .before .refuse .ensures)) (c .refused .ensures)
 
 refuse-requires-2 : tie.Need-refuse-requires-2
 refuse-requires-2 c κs = search needs
@@ -66,10 +64,7 @@ returns-2 c =
     let n = c .before .before .before .before in
     let s = to-start n in
     let d = task s in
-    let refused = refusal-number _ 21 _ (omega arith) (c .before .refuse2 .ensures) in (
-      answer-refused _ _ refused (c .refused2 .ensures) _ (held d) (s .args .scope .level) (second-short _ _ _ _ _ _ (sym (actions-held d)) (facts-are n) _ (c .before .before .before .if1 .left) (c .before .before .if2 .taken) (c .before .refuse2 .ensures)),
-      (buffer-untouched _ _ refused (c .refused2 .ensures) _ _, buffer-untouched _ _ refused (c .refused2 .ensures) _ _),
-    )
+    marks-refused (held d) (s .args .scope .level) _ _ (second-short _ _ _ _ _ _ (sym (actions-held d)) (facts-are n) _ (c .before .before .before .if1 .left) (c .before .before .if2 .taken) (c .before .refuse2 .ensures)) _ (refusal-number _ 21 _ (omega arith) (c .before .refuse2 .ensures)) (c .refused2 .ensures)
 
 run-requires : tie.Need-run-requires
 run-requires c κs = search needs
@@ -77,7 +72,7 @@ run-requires c κs = search needs
 write-actions-requires : tie.Need-write-actions-requires
 write-actions-requires c κs =
     let s = to-start (c .before .before .before .before .before .before .before .before) in
-    (actions-few s, omega arith)
+    record { source = actions-few s; room = omega arith }
 
 at-most : {x y z : ℕ} → x ≡ y → x ≤ z → y ≤ z
 at-most e h = omega arith
@@ -91,11 +86,11 @@ to-sum c = c .before .before .before
 write-facts-requires : tie.Need-write-facts-requires
 write-facts-requires c κs =
     let n = to-sum (to-run (c .before .before .before .before .before)) in
-    let s = to-start n in (
-      variables-few s,
-      at-most (n .sum .ensures .0) (to-run (c .before .before .before .before .before) .before .if2 .left),
-      λ v l. omega (arith, size-held (task s) v l, valid s .size-most v),
-    )
+    let s = to-start n in
+    record {
+      source = record { fewVariables = variables-few s; fewValues = λ v l. omega (arith, size-held (task s) v l, valid s .size-most v) };
+      room = at-most (n .sum .ensures .is) (to-run (c .before .before .before .before .before) .before .if2 .left);
+    }
 
 done-requires : tie.Need-done-requires
 done-requires c κs = search needs
@@ -116,13 +111,15 @@ returns-3 c =
     let s = to-start n in
     let d = task s in
     let level = s .args .scope .level in
-    let zero : c .done .result .number ≡ 0 = ap (λ (o : Outcome). o .number) (c .done .ensures) in (
-      answer-done _ _ (held d) level _ _ _ zero (both-fit _ _ _ _ _ _ (sym (actions-held d)) (facts-are n) _ (r .before .before .if1 .left) (r .before .if2 .left) (c .done .ensures)) (sym (actions-held d)) (facts-are n) (r .run .ensures .count),
-      (
-        actions-written d (valid s) level _ zero _ _ (omega (arith, actions-held d, r .before .before .if1 .left)) _ (action-bytes d (valid s) level _ _ _ _ (r .run .ensures)) (k .write-actions .ensures),
-        facts-written d (valid s) level _ zero _ _ (omega (arith, facts-are n, r .before .if2 .left)) _ (fact-bytes d (valid s) level _ _ _ _ (r .run .ensures)) (w .write-facts .ensures),
-      ),
-    )
+    let zero : c .done .result .number ≡ 0 = ap (λ (o : Outcome). o .number) (c .done .ensures) in
+    let actions = sym (actions-held d) in
+    let facts = facts-are n in
+    let rounds = r .run .ensures .count in
+    let kept-now = actions-written d (valid s) level _ _ (omega (arith, actions-held d, r .before .before .if1 .left)) _ (action-bytes d (valid s) level _ _ _ _ (r .run .ensures)) (k .write-actions .ensures) in
+    let facts-now = facts-written d (valid s) level _ _ (omega (arith, facts-are n, r .before .if2 .left)) _ (fact-bytes d (valid s) level _ _ _ _ (r .run .ensures)) (w .write-facts .ensures) in
+    marks-written (held d) level _ _ (both-fit _ _ _ _ _ _ (sym (actions-held d)) (facts-are n) _ (r .before .before .if1 .left) (r .before .if2 .left) (c .done .ensures)) _ zero _
+    (λ i. record { outcome = c .done .ensures i; «action_marks» = actions i; «fact_marks» = facts i; rounds = rounds i })
+    (λ i. markBuffers (kept-now i) (facts-now i))
 
 pub mark-task-spec : {M : Type 1} → statement M
 mark-task-spec =

@@ -4,6 +4,7 @@ use mathlib.Core.Path.{ap₂}
 use native.Mathlib.Omega.{arith}
 use denote.Ref.{now}
 use borrow.Author.Needs.{needs}
+use Rattle.files.specs.Contracts.{WithinLimits}
 use Rattle.files.specs.Dense.{Arrays, held, arrays}
 use Rattle.files.proofs.Valid.{Valid, task-valid}
 use Rattle.marking.proofs.HeldTask.{variables-held, actions-held}
@@ -63,6 +64,9 @@ variables-few s = omega (arith, valid s .variables-few, variables-held (task s))
 actions-few : (s : tie.Start Inv-loop μ-loop) → s .args .scope .actions ≤ 512
 actions-few s = omega (arith, valid s .actions-few, actions-held (task s))
 
+limits : (s : tie.Start Inv-loop μ-loop) → WithinLimits (s .args .scope .variables) (s .args .scope .actions)
+limits s = record { fewVariables = variables-few s; fewActions = actions-few s }
+
 abbrev begun : tie.At-loop Inv-loop μ-loop → tie.Start Inv-loop μ-loop
 begun c = to-start (to-fill (to-name-row c))
 
@@ -72,7 +76,7 @@ slice-aggregate-fill-could-cover c = search needs
 fill-could-cover-requires : tie.Need-fill-could-cover-requires Inv-loop μ-loop
 fill-could-cover-requires c κs =
     let s : tie.Start Inv-loop μ-loop = c .before in
-    (variables-few s, actions-few s, omega arith)
+    record { source = limits s; room = omega arith }
 
 slice-aggregate-name-row : tie.Need-slice-aggregate-name-row Inv-loop μ-loop
 slice-aggregate-name-row c = search needs
@@ -80,18 +84,18 @@ slice-aggregate-name-row c = search needs
 name-row-requires : tie.Need-name-row-requires Inv-loop μ-loop
 name-row-requires c κs =
     let s : tie.Start Inv-loop μ-loop = to-start (c .before .before .before .before) in
-    (variables-few s, omega arith, omega arith)
+    record { source = record { fewVariables = variables-few s; within = omega arith }; room = omega arith }
 
 slice-aggregate-sum : tie.Need-slice-aggregate-sum Inv-loop μ-loop
 slice-aggregate-sum c = search needs
 
 sum-requires : tie.Need-sum-requires Inv-loop μ-loop
-sum-requires c κs = (omega arith, omega arith)
+sum-requires c κs = record { within = omega arith; few = omega arith }
 
 loop-holds : tie.Need-loop-holds Inv-loop μ-loop
 loop-holds c =
     let s = to-start (to-fill (c .before .before .before)) in
-    rounding-begins (task s) (valid s) (s .args .scope .level) _ (c .before .before .before .name-row .ensures) _ (c .sum .ensures .0)
+    rounding-begins (task s) (valid s) (s .args .scope .level) _ (c .before .before .before .name-row .ensures) _ (c .sum .ensures .is)
 
 slice-aggregate-threatened : tie.Need-slice-aggregate-threatened Inv-loop μ-loop
 slice-aggregate-threatened c = search needs
@@ -99,7 +103,7 @@ slice-aggregate-threatened c = search needs
 threatened-requires : tie.Need-threatened-requires Inv-loop μ-loop
 threatened-requires c κs =
     let s = begun (c .before .before .before) in
-    (variables-few s, actions-few s, omega arith)
+    record { source = limits s; room = omega arith }
 
 unlinked-requires : tie.Need-unlinked-requires Inv-loop μ-loop
 unlinked-requires c κs = variables-few (begun (to-loop (c .before .before .before)))
@@ -110,7 +114,7 @@ slice-aggregate-gain-actions c = search needs
 gain-actions-requires : tie.Need-gain-actions-requires Inv-loop μ-loop
 gain-actions-requires c κs =
     let s = begun (to-loop (to-threatened (c .before .before .before))) in
-    (variables-few s, actions-few s, omega arith)
+    record { source = limits s; room = omega arith }
 
 tracked-requires : tie.Need-tracked-requires Inv-loop μ-loop
 tracked-requires c κs = variables-few (begun (to-loop (to-threatened (to-unlinked (c .before .before)))))
@@ -118,7 +122,7 @@ tracked-requires c κs = variables-few (begun (to-loop (to-threatened (to-unlink
 counted-requires : tie.Need-counted-requires Inv-loop μ-loop
 counted-requires c κs =
     let s = begun (to-loop (to-threatened (to-unlinked (to-gain-actions (c .before .before .before .before .before))))) in
-    (variables-few s, actions-few s)
+    limits s
 
 slice-aggregate-gain-facts : tie.Need-slice-aggregate-gain-facts Inv-loop μ-loop
 slice-aggregate-gain-facts c = search (needs, to-loop (to-threatened (to-unlinked (to-gain-actions (to-tracked (c .before))))) .loop .inv .progress .facts-long)
@@ -127,7 +131,7 @@ gain-facts-requires : tie.Need-gain-facts-requires Inv-loop μ-loop
 gain-facts-requires c κs =
     let l = to-loop (to-threatened (to-unlinked (to-gain-actions (to-tracked (c .before .before .before .before))))) in
     let s = begun l in
-    (variables-few s, actions-few s, omega (arith, l .loop .inv .progress .facts-long))
+    record { source = limits s; room = omega (arith, l .loop .inv .progress .facts-long) }
 
 add-rounds : tie.Need-add-rounds Inv-loop μ-loop
 add-rounds c =
@@ -143,18 +147,18 @@ sum-requires-2 c κs =
     let k = to-gain-actions (to-tracked (to-counted (c .before .before))) in
     let l = to-loop (to-threatened (to-unlinked k)) in
     let s = begun l in
-    (omega (arith, actions-few s, k .gain-actions .ensures .same, l .loop .inv .progress .actions-long), omega (arith, actions-few s))
+    record { within = omega (arith, actions-few s, k .gain-actions .ensures .same, l .loop .inv .progress .actions-long); few = omega (arith, actions-few s) }
 
 slice-aggregate-sum-3 : tie.Need-slice-aggregate-sum-3 Inv-loop μ-loop
 slice-aggregate-sum-3 c = search needs
 
 sum-requires-3 : tie.Need-sum-requires-3 Inv-loop μ-loop
-sum-requires-3 c κs = (omega arith, omega arith)
+sum-requires-3 c κs = record { within = omega arith; few = omega arith }
 
 add-marks : tie.Need-add-marks Inv-loop μ-loop
 add-marks c =
     let s = begun (to-loop (to-threatened (to-unlinked (to-gain-actions (to-tracked (to-counted (to-gain-facts c))))))) in
-    omega (arith, actions-few s, c .before .before .sum2 .ensures .1, c .sum3 .ensures .1)
+    omega (arith, actions-few s, c .before .before .sum2 .ensures .atMost, c .sum3 .ensures .atMost)
 
 returns : tie.Need-returns Inv-loop μ-loop
 returns c =
@@ -170,13 +174,13 @@ returns c =
     (record {
       table = to-fill (to-name-row l) .fill-could-cover .ensures;
       threats-set = h .threatened .ensures;
-      unlinked-at = u .unlinked .ensures .0;
+      unlinked-at = u .unlinked .ensures .told;
       actions-set = k .gain-actions .ensures;
       tracked-at = t .tracked .ensures;
       counted-at = n .counted .ensures;
       facts-set = g .gain-facts .ensures;
     })
-    _ (ap₂ _+_ (c .before .before .before .sum2 .ensures .0) (c .before .sum3 .ensures .0))
+    _ (ap₂ _+_ (c .before .before .before .sum2 .ensures .is) (c .before .sum3 .ensures .is))
     (c .if1 .taken)
 
 loop-less : tie.Need-loop-less Inv-loop μ-loop
@@ -199,13 +203,13 @@ loop-again c =
     (record {
       table = to-fill (to-name-row l) .fill-could-cover .ensures;
       threats-set = h .threatened .ensures;
-      unlinked-at = u .unlinked .ensures .0;
+      unlinked-at = u .unlinked .ensures .told;
       actions-set = k .gain-actions .ensures;
       tracked-at = t .tracked .ensures;
       counted-at = n .counted .ensures;
       facts-set = g .gain-facts .ensures;
     })
-    _ (ap₂ _+_ (c .before .before .before .sum2 .ensures .0) (c .before .sum3 .ensures .0))
+    _ (ap₂ _+_ (c .before .before .before .sum2 .ensures .is) (c .before .sum3 .ensures .is))
     (c .if1 .left)
 
 pub run-spec : {M : Type 1} → statement M

@@ -43,7 +43,7 @@ loop-again c =
     )
 
 returns : tie.Need-returns Inv-loop μ-loop
-returns c = (λ w h. c .before .loop .inv .0 w (omega arith), λ w h. c .before .loop .inv .1 w (omega arith))
+returns c = record { copied = λ w h. c .before .loop .inv .0 w (omega arith); zero = λ w h. c .before .loop .inv .1 w (omega arith) }
 
 pub state-of-spec : {M : Type 1} → statement M
 state-of-spec =

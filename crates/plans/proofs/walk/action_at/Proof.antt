@@ -29,7 +29,7 @@ minutes-of-requires c κs = search needs
 
 returns : tie.Need-returns
 unfolding rowOf rowAction
-returns c = (λ i. action (c .minutes-of .ensures .0 i) (c .before .before .before .before .row-at .ensures i) (c .before .before .row-at2 .ensures i), c .minutes-of .ensures .1)
+returns c = record { is = λ i. action (c .minutes-of .ensures .is i) (c .before .before .before .before .row-at .ensures i) (c .before .before .row-at2 .ensures i); costBelow = c .minutes-of .ensures .below }
 
 pub action-at-spec : {M : Type 1} → statement M
 action-at-spec =

@@ -45,16 +45,16 @@ loop-holds c =
     let a = c .before .before .before .before .before .before .args in
     let plan = planOf (now (a .plan)) in
     let d : List ℕ → Arrays = λ sizes. arrays (a .variables) (a .actions) sizes (now (a .starts)) (now (a .goal)) (now (a .costs)) (now (a .conditions)) (now (a .effects)) in
-    let zero : c .start .result .minutes .0 ≡ 0 = ap (λ (x : Total). x .minutes) (c .start .ensures .1) in
-    let none : c .start .result .steps .0 ≡ 0 = ap (λ (x : Total). x .steps) (c .start .ensures .1) in (
-      λ sizes. walking-begins (held (d sizes)) plan (c .start .result) (c .start .ensures .0 ∙ held-start (d sizes) _ (c .before .state-of .ensures .0) (c .before .state-of .ensures .1)) (c .start .ensures .1),
+    let zero : c .start .result .minutes .0 ≡ 0 = ap (λ (x : Total). x .minutes) (c .start .ensures .counted) in
+    let none : c .start .result .steps .0 ≡ 0 = ap (λ (x : Total). x .steps) (c .start .ensures .counted) in (
+      λ sizes. walking-begins (held (d sizes)) plan (c .start .result) (c .start .ensures .reached ∙ held-start (d sizes) _ (c .before .state-of .ensures .copied) (c .before .state-of .ensures .zero)) (c .start .ensures .counted),
       omega arith,
       omega arith,
       none,
     )
 
 step-at-requires : tie.Need-step-at-requires Inv-loop μ-loop
-step-at-requires c κs = omega (arith, c .before .before .before .before .before .before .steps .ensures .0)
+step-at-requires c κs = omega (arith, c .before .before .before .before .before .before .steps .ensures .is)
 
 action-at-requires : tie.Need-action-at-requires Inv-loop μ-loop
 action-at-requires c κs =
@@ -62,8 +62,8 @@ action-at-requires c κs =
     let plan = planOf (now (a .plan)) in
     let d : List ℕ → Arrays = λ sizes. arrays (a .variables) (a .actions) sizes (now (a .starts)) (now (a .goal)) (now (a .costs)) (now (a .conditions)) (now (a .effects)) in
     let l = c .before .before .loop in
-    let below : l .i < length plan = omega (arith, c .before .before .before .before .before .before .before .steps .ensures .0, c .before .loop-test .taken) in
-    omega (arith, c .before .before .before .before .before .before .before .before .before .pre .3 (l .i) below, c .step-at .ensures)
+    let below : l .i < length plan = omega (arith, c .before .before .before .before .before .before .before .steps .ensures .is, c .before .loop-test .taken) in
+    let known = c .before .before .before .before .before .before .before .before .before .pre .known (l .i) below in search needs
 
 meets-requires : tie.Need-meets-requires Inv-loop μ-loop
 meets-requires c κs = search needs
@@ -80,10 +80,10 @@ returns c =
     let plan = planOf (now (a .plan)) in
     let d : List ℕ → Arrays = λ sizes. arrays (a .variables) (a .actions) sizes (now (a .starts)) (now (a .goal)) (now (a .costs)) (now (a .conditions)) (now (a .effects)) in
     let l = c .before .before .before .before .before .before .before .loop in
-    let below : l .i < length plan = omega (arith, c .before .before .before .before .before .before .before .before .before .before .before .before .steps .ensures .0, c .before .before .before .before .before .before .loop-test .taken) in
-    let known : stepOf plan (l .i) < a .actions = c .before .before .before .before .before .before .before .before .before .before .before .before .before .before .pre .3 (l .i) below in
+    let below : l .i < length plan = omega (arith, c .before .before .before .before .before .before .before .before .before .before .before .before .steps .ensures .is, c .before .before .before .before .before .before .loop-test .taken) in
+    let known : stepOf plan (l .i) < a .actions = c .before .before .before .before .before .before .before .before .before .before .before .before .before .before .pre .known (l .i) below in
     let row : rowOf (c .before .before .before .before .action-at .result) ≡ rowAction (a .variables) (now (a .costs)) (now (a .conditions)) (now (a .effects)) (stepOf plan (l .i)) =
-    c .before .before .before .before .action-at .ensures .0 ∙ ap (rowAction (a .variables) (now (a .costs)) (now (a .conditions)) (now (a .effects))) (c .before .before .before .before .before .step-at .ensures) in
+    c .before .before .before .before .action-at .ensures .is ∙ ap (rowAction (a .variables) (now (a .costs)) (now (a .conditions)) (now (a .effects))) (c .before .before .before .before .before .step-at .ensures) in
     let due : (sizes : List ℕ) → actionOf (held (d sizes)) (stepOf plan (l .i)) ≡ rowOf (c .before .before .before .before .action-at .result) = λ sizes. held-action (d sizes) (stepOf plan (l .i)) known ∙ sym row in
     λ sizes.
     walking-stops (held (d sizes)) plan (l .tally) (l .i) (l .inv .0 sizes) below _ (due sizes) _ _
@@ -92,10 +92,10 @@ returns c =
     (c .refused .ensures)
 
 step-requires : tie.Need-step-requires Inv-loop μ-loop
-step-requires c κs = omega (arith, c .before .before .before .before .before .before .before .before .before .before .steps .ensures .0, c .before .before .action-at .ensures .1)
+step-requires c κs = record { minutesFit = omega (arith, c .before .before .before .before .before .before .before .before .before .before .steps .ensures .is, c .before .before .action-at .ensures .costBelow); stepsFit = omega (arith, c .before .before .before .before .before .before .before .before .before .before .steps .ensures .is) }
 
 add-i : tie.Need-add-i Inv-loop μ-loop
-add-i c = omega (arith, c .before .before .before .before .before .before .before .before .before .before .before .steps .ensures .1)
+add-i c = omega (arith, c .before .before .before .before .before .before .before .before .before .before .before .steps .ensures .below)
 
 loop-less : tie.Need-loop-less Inv-loop μ-loop
 loop-less c = search needs
@@ -107,20 +107,20 @@ loop-again c =
     let plan = planOf (now (a .plan)) in
     let d : List ℕ → Arrays = λ sizes. arrays (a .variables) (a .actions) sizes (now (a .starts)) (now (a .goal)) (now (a .costs)) (now (a .conditions)) (now (a .effects)) in
     let l = c .before .before .before .before .before .before .loop in
-    let below : l .i < length plan = omega (arith, c .before .before .before .before .before .before .before .before .before .before .before .steps .ensures .0, c .before .before .before .before .before .loop-test .taken) in
-    let known : stepOf plan (l .i) < a .actions = c .before .before .before .before .before .before .before .before .before .before .before .before .before .pre .3 (l .i) below in
+    let below : l .i < length plan = omega (arith, c .before .before .before .before .before .before .before .before .before .before .before .steps .ensures .is, c .before .before .before .before .before .loop-test .taken) in
+    let known : stepOf plan (l .i) < a .actions = c .before .before .before .before .before .before .before .before .before .before .before .before .before .pre .known (l .i) below in
     let row : rowOf (c .before .before .before .action-at .result) ≡ rowAction (a .variables) (now (a .costs)) (now (a .conditions)) (now (a .effects)) (stepOf plan (l .i)) =
-    c .before .before .before .action-at .ensures .0 ∙ ap (rowAction (a .variables) (now (a .costs)) (now (a .conditions)) (now (a .effects))) (c .before .before .before .before .step-at .ensures) in
+    c .before .before .before .action-at .ensures .is ∙ ap (rowAction (a .variables) (now (a .costs)) (now (a .conditions)) (now (a .effects))) (c .before .before .before .before .step-at .ensures) in
     let due : (sizes : List ℕ) → actionOf (held (d sizes)) (stepOf plan (l .i)) ≡ rowOf (c .before .before .before .action-at .result) = λ sizes. held-action (d sizes) (stepOf plan (l .i)) known ∙ sym row in
-    let minutes : c .step .result .minutes .0 ≡ c .before .before .before .action-at .result .cost .0 + l .tally .minutes .0 = ap (λ (x : Total). x .minutes) (c .step .ensures .1) in
-    let steps : c .step .result .steps .0 ≡ l .tally .steps .0 + 1 = ap (λ (x : Total). x .steps) (c .step .ensures .1) in (
+    let minutes : c .step .result .minutes .0 ≡ c .before .before .before .action-at .result .cost .0 + l .tally .minutes .0 = ap (λ (x : Total). x .minutes) (c .step .ensures .counted) in
+    let steps : c .step .result .steps .0 ≡ l .tally .steps .0 + 1 = ap (λ (x : Total). x .steps) (c .step .ensures .counted) in (
       λ sizes.
           walking-next (held (d sizes)) plan (l .tally) (l .i) (l .inv .0 sizes) below _ (due sizes) (c .step .result)
           (sym (c .before .before .meets .ensures) ∙ not-false _ (c .before .if1 .left))
-          (c .step .ensures .0)
-          (c .step .ensures .1),
+          (c .step .ensures .reached)
+          (c .step .ensures .counted),
       omega arith,
-      omega (arith, c .before .before .before .action-at .ensures .1),
+      omega (arith, c .before .before .before .action-at .ensures .costBelow),
       omega arith,
     )
 
@@ -136,7 +136,7 @@ returns-2 c =
     let l = c .before .before .loop in
     λ sizes.
     c .ended .ensures
-    ∙ walking-ends (held (d sizes)) plan (l .tally) (l .i) _ (l .inv .0 sizes) (omega (arith, c .before .before .before .before .before .before .before .steps .ensures .0)) (omega (arith, c .before .before .before .before .before .before .before .steps .ensures .0)) (sym (c .before .before .before .before .before .row-at .ensures))
+    ∙ walking-ends (held (d sizes)) plan (l .tally) (l .i) _ (l .inv .0 sizes) (omega (arith, c .before .before .before .before .before .before .before .steps .ensures .is)) (omega (arith, c .before .before .before .before .before .before .before .steps .ensures .is)) (sym (c .before .before .before .before .before .row-at .ensures))
 
 pub take-steps-spec : {M : Type 1} → statement M
 take-steps-spec =

@@ -25,10 +25,10 @@ abbrev origins : tie.Start → OriginArrays
 origins s = originArrays (s .args .counts .variables) (s .args .counts .actions) (now (s .args .numbers)) (now (s .args .old-sizes)) (now (s .args .new-values)) (now (s .args .originals))
 
 task-length : (c : tie.After-origin-needed) → c .before .task-needed .result ≡ length (taskFile (held (task (to-start c))) (to-start c .args .signer))
-task-length c = c .before .task-needed .ensures .0 ∙ sym (task-file-length (task (to-start c)) (to-start c .args .signer))
+task-length c = c .before .task-needed .ensures .is ∙ sym (task-file-length (task (to-start c)) (to-start c .args .signer))
 
 origin-length : (c : tie.After-origin-needed) → c .origin-needed .result ≡ length (originFile (heldOrigin (origins (to-start c))) (to-start c .args .signer))
-origin-length c = c .origin-needed .ensures .0 ∙ sym (origin-file-length (origins (to-start c)) (to-start c .args .signer))
+origin-length c = c .origin-needed .ensures .is ∙ sym (origin-file-length (origins (to-start c)) (to-start c .args .signer))
 
 task-needed-requires : tie.Need-task-needed-requires
 task-needed-requires c κs = search needs

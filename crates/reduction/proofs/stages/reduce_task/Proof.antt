@@ -1,13 +1,15 @@
 -- Marking, then reduction: a stage that is refused ends the row.
 use Prim.Native.Nat.{ℕ, _≤_, _<_}
-use mathlib.Core.Path.{_≡_, _∙_}
+use mathlib.Core.Path.{_≡_, ap, _∙_}
 use native.Mathlib.Omega.{arith}
 use denote.Ref.{now}
 use lib.ListN.{getD}
 use Rattle.files.specs.Below.{bit}
 use Rattle.files.specs.Dense.{Arrays, held, arrays}
 use Rattle.files.proofs.Valid.{Valid, task-valid}
+use Rattle.marking.specs.Mark.{MarkBuffers}
 use Rattle.marking.proofs.HeldTask.{actions-held}
+use Rattle.marking.proofs.MarkRow.{marks-left}
 use Rattle.reduction.specs.Task.{keptAt}
 use Rattle.reduction.proofs.ReduceStages.{kept-bits, marks-room, marks-refused, files-refused, files-written}
 use borrow.Author.Needs.{needs}
@@ -40,7 +42,7 @@ kept-marks k z a l =
     let m = to-mark k in
     let s = to-start m in
     k .kept-actions .ensures a l
-    ∙ kept-bits (task s) (valid s) (s .args .scope .level) (m .mark-task .result .outcome) _ _ z (m .mark-task .ensures .1 .0) a (omega (arith, actions-held (task s)))
+    ∙ kept-bits (task s) (valid s) (s .args .scope .level) _ _ (ap (λ (b : MarkBuffers). b .actions) (marks-left _ _ _ _ _ (m .mark-task .ensures) z)) a (omega (arith, actions-held (task s)))
 
 mark-task-requires : tie.Need-mark-task-requires
 mark-task-requires c κs = search needs
@@ -58,13 +60,13 @@ returns : tie.Need-returns
 returns c =
     let m = c .before .before .before .before .before .before .before .before in
     let s = to-start m in
-    marks-refused (held (task s)) _ _ _ _ (m .mark-task .ensures .0) _ _ (m .mark-task .ensures .1 .0) (m .mark-task .ensures .1 .1) (c .before .if1 .taken) _ (c .refused .ensures)
+    marks-refused (held (task s)) _ _ _ _ _ _ (m .mark-task .ensures) (c .before .if1 .taken) _ (c .refused .ensures)
 
 kept-actions-requires : tie.Need-kept-actions-requires
 kept-actions-requires c κs =
     let m = c .before .before .before .before .before .before .before .before in
     let s = to-start m in
-    (actions-few s, marks-room (task s) (valid s) (s .args .scope .level) _ _ _ (c .before .if1 .left) (m .mark-task .ensures .1 .0))
+    (actions-few s, marks-room (task s) (valid s) (s .args .scope .level) _ _ (ap (λ (b : MarkBuffers). b .actions) (marks-left _ _ _ _ _ (m .mark-task .ensures) (c .before .if1 .left))))
 
 write-reduced-requires : tie.Need-write-reduced-requires
 write-reduced-requires c κs = to-start (to-mark (c .before .before .before)) .pre
@@ -91,7 +93,7 @@ returns-2 c =
     let m = to-mark k in
     let s = to-start m in
     let passes = k .before .before .if1 .left in
-    files-refused (held (task s)) _ _ _ _ (m .mark-task .ensures .0) _ _ (m .mark-task .ensures .1 .0) (m .mark-task .ensures .1 .1) passes _ _ _ (w .write-reduced .ensures _ (kept-marks k passes)) (c .before .if2 .taken) _ (c .refused2 .ensures)
+    files-refused (held (task s)) _ _ _ _ _ _ (m .mark-task .ensures) passes _ _ _ (w .write-reduced .ensures _ (kept-marks k passes)) (c .before .if2 .taken) _ (c .refused2 .ensures)
 
 done-requires : tie.Need-done-requires
 done-requires c κs = search needs
@@ -115,7 +117,7 @@ returns-3 c =
     let m = to-mark k in
     let s = to-start m in
     let passes = k .before .before .if1 .left in
-    files-written (held (task s)) _ _ _ _ (m .mark-task .ensures .0) _ _ (m .mark-task .ensures .1 .0) (m .mark-task .ensures .1 .1) passes _ _ _ (w .write-reduced .ensures _ (kept-marks k passes)) (c .before .if2 .left) _ (c .done .ensures)
+    files-written (held (task s)) _ _ _ _ _ _ (m .mark-task .ensures) passes _ _ _ (w .write-reduced .ensures _ (kept-marks k passes)) (c .before .if2 .left) _ (c .done .ensures)
 
 pub reduce-task-spec : {M : Type 1} → statement M
 reduce-task-spec =

@@ -35,7 +35,7 @@ refuse-requires c κs = search needs
 returns-3 : tie.Need-returns-3
 unfolding stretchOutcome
 returns-3 c =
-    let e = counted _ _ _ (c .before .before .actions-in .ensures .0) (c .before .before .before .side-of .ensures) in
+    let e = counted _ _ _ (c .before .before .actions-in .ensures .is) (c .before .before .before .side-of .ensures) in
     rw (← c .before .before .before .before .before .before .before .check-task2 .ensures) (search (forms, e) depth 12 fits 5000)
 
 done-requires : tie.Need-done-requires
@@ -44,7 +44,7 @@ done-requires c κs = search needs
 returns-4 : tie.Need-returns-4
 unfolding stretchOutcome
 returns-4 c =
-    let e = counted _ _ _ (c .before .before .actions-in .ensures .0) (c .before .before .before .side-of .ensures) in
+    let e = counted _ _ _ (c .before .before .actions-in .ensures .is) (c .before .before .before .side-of .ensures) in
     rw (← c .before .before .before .before .before .before .before .check-task2 .ensures) (search (forms, e) depth 12 fits 5000)
 
 pub outcome-spec : {M : Type 1} → statement M

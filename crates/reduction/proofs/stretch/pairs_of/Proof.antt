@@ -28,10 +28,10 @@ part-result-start c = search needs
 
 part-result-end : tie.Need-part-result-end
 part-result-end c =
-    part-within _ _ _ _ (c .before .action-place .ensures .0) (c .conditions-in .ensures .0) (c .before .before .before .pre .0) (c .before .before .before .pre .1)
+    part-within _ _ _ _ (c .before .action-place .ensures .is) (c .conditions-in .ensures .is) (c .before .before .before .pre .0) (c .before .before .before .pre .1)
 
 returns : tie.Need-returns
-returns c = part-is _ _ _ _ (c .before .before .action-place .ensures .0) (c .before .conditions-in .ensures .0)
+returns c = part-is _ _ _ _ (c .before .before .action-place .ensures .is) (c .before .conditions-in .ensures .is)
 
 pub pairs-of-spec : {M : Type 1} → statement M
 pairs-of-spec =

@@ -35,7 +35,7 @@ returns c =
     let at = originActionsPlace s + 4 in
     let count = bodyLength s (originActionsPlace s) / 2 in
     let i = args .action .0 in
-    c .u16-at .ensures .0
+    c .u16-at .ensures .is
     ∙ ap (λ (n : ℕ). u16At s (n + 2 * i)) (pre .place-is)
     ∙ sym (numbers-entry s at count i (omega (arith, pre .inside, numbers-length s at count)))
 

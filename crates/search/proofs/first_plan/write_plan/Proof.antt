@@ -126,7 +126,7 @@ cast-fewest : tie.Need-cast-fewest Inv-loop μ-loop
 cast-fewest c = omega (arith, few-steps (c .before))
 
 put-head-requires : tie.Need-put-head-requires Inv-loop μ-loop
-put-head-requires c κs = (omega (arith, few-steps (c .before .before)), omega (arith, start-room (c .before .before)))
+put-head-requires c κs = record { source = omega (arith, few-steps (c .before .before)); room = omega (arith, start-room (c .before .before)) }
 
 values-of-requires : tie.Need-values-of-requires Inv-loop μ-loop
 values-of-requires c κs =
@@ -159,7 +159,7 @@ original-requires : tie.Need-original-requires Inv-loop μ-loop
 original-requires c κs =
     let s = turn-start (c .before) in
     let place = to-found (to-number (to-loop (to-test (c .before) .before) .before)) .before .actions-place .ensures in
-    record { place-is = ap (λ (n : ℕ). n + 4) (place .0); place-few = omega (arith, place .1); inside = omega (arith, action-known (c .before), s .pre .numbers) }
+    record { place-is = ap (λ (n : ℕ). n + 4) (place .is); place-few = omega (arith, place .below); inside = omega (arith, action-known (c .before), s .pre .numbers) }
 
 put-action-requires : tie.Need-put-action-requires Inv-loop μ-loop
 put-action-requires c κs =

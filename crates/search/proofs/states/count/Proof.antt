@@ -23,14 +23,14 @@ byte-at-requires : tie.Need-byte-at-requires Inv-loop μ-loop
 byte-at-requires c κs = search needs
 
 mul-states : tie.Need-mul-states Inv-loop μ-loop
-mul-states c = omega (arith, product-most _ _ (c .before .before .before .loop .inv .2) (c .byte-at .ensures .1))
+mul-states c = omega (arith, product-most _ _ (c .before .before .before .loop .inv .2) (c .byte-at .ensures .below))
 
 returns : tie.Need-returns Inv-loop μ-loop
 returns c =
     let l = c .before .before .before .before .loop in
     let start = c .before .before .before .before .before in
     let sizes = now (start .args .sizes) in
-    count-over sizes _ _ _ (start .pre .least) (c .before .before .before .loop-test .taken) (weight-next sizes _ _ _ (l .inv .0) (c .before .byte-at .ensures .0)) (c .if1 .taken)
+    count-over sizes _ _ _ (start .pre .least) (c .before .before .before .loop-test .taken) (weight-next sizes _ _ _ (l .inv .0) (c .before .byte-at .ensures .is)) (c .if1 .taken)
 
 add-v : tie.Need-add-v Inv-loop μ-loop
 add-v c = search needs
@@ -42,7 +42,7 @@ loop-again : tie.Need-loop-again Inv-loop μ-loop
 loop-again c =
     let l = c .before .before .before .before .loop in
     let sizes = now (c .before .before .before .before .before .args .sizes) in
-    (weight-next sizes _ _ _ (l .inv .0) (c .before .byte-at .ensures .0), omega arith, omega arith)
+    (weight-next sizes _ _ _ (l .inv .0) (c .before .byte-at .ensures .is), omega arith, omega arith)
 
 returns-2 : tie.Need-returns-2 Inv-loop μ-loop
 returns-2 c =

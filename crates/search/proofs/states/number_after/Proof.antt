@@ -51,7 +51,7 @@ mul-number c =
     let start = c .before .before .before .before .before .before .before .before in
     let inside = after-inside (now (start .args .sizes)) (now (start .args .effects)) (start .args .base) (start .args .variables) (listState (now (start .args .values))) (start .pre .inside .inside) (start .pre .effect-inside) in
     let few = number-few (now (start .args .sizes)) (afterRow (now (start .args .effects)) (start .args .base) (listState (now (start .args .values)))) (start .args .variables) inside (l .v) (l .number) (l .inv .1) (l .inv .0) (start .pre .inside .states) in
-    omega (arith, product-most _ _ few (c .byte-at .ensures .1), mul-comm (l .number) (c .byte-at .result))
+    omega (arith, product-most _ _ few (c .byte-at .ensures .below), mul-comm (l .number) (c .byte-at .result))
 
 add-number : tie.Need-add-number Inv-loop μ-loop
 unfolding listState
@@ -60,7 +60,7 @@ add-number c =
     let start = c .before .before .before .before .before .before .before .before in
     let inside = after-inside (now (start .args .sizes)) (now (start .args .effects)) (start .args .base) (start .args .variables) (listState (now (start .args .values))) (start .pre .inside .inside) (start .pre .effect-inside) in
     let few = number-few (now (start .args .sizes)) (afterRow (now (start .args .effects)) (start .args .base) (listState (now (start .args .values)))) (start .args .variables) inside (l .v) (l .number) (l .inv .1) (l .inv .0) (start .pre .inside .states) in
-    omega (arith, product-most _ _ few (c .byte-at .ensures .1), mul-comm (l .number) (c .byte-at .result))
+    omega (arith, product-most _ _ few (c .byte-at .ensures .below), mul-comm (l .number) (c .byte-at .result))
 
 loop-less : tie.Need-loop-less Inv-loop μ-loop
 loop-less c = search needs
@@ -70,7 +70,7 @@ unfolding listState
 loop-again c =
     let l = c .before .before .before .before .before .before .loop in
     let start = c .before .before .before .before .before .before .before .before in
-    let next = number-next (now (start .args .sizes)) (afterRow (now (start .args .effects)) (start .args .base) (listState (now (start .args .values)))) (start .args .variables) (l .v) (l .number) _ _ (c .before .before .before .before .before .loop-test .taken) (l .inv .1) (l .inv .0) (c .before .before .cell-after .ensures) (c .byte-at .ensures .0) in
+    let next = number-next (now (start .args .sizes)) (afterRow (now (start .args .effects)) (start .args .base) (listState (now (start .args .values)))) (start .args .variables) (l .v) (l .number) _ _ (c .before .before .before .before .before .loop-test .taken) (l .inv .1) (l .inv .0) (c .before .before .cell-after .ensures) (c .byte-at .ensures .is) in
     (next, omega arith)
 
 returns : tie.Need-returns Inv-loop μ-loop

@@ -36,7 +36,7 @@ mul-number c =
     let l = c .before .before .before .before .before .loop in
     let start = c .before .before .before .before .before .before in
     let few = number-few (now (start .args .sizes)) (listState (now (start .args .starts))) (start .args .variables) (start .pre .inside) (l .v) (l .number) (l .inv .1) (l .inv .0) (start .pre .states) in
-    omega (arith, product-most _ _ few (c .byte-at2 .ensures .1), mul-comm (l .number) (c .byte-at2 .result))
+    omega (arith, product-most _ _ few (c .byte-at2 .ensures .below), mul-comm (l .number) (c .byte-at2 .result))
 
 add-number : tie.Need-add-number Inv-loop μ-loop
 unfolding listState
@@ -44,7 +44,7 @@ add-number c =
     let l = c .before .before .before .before .before .loop in
     let start = c .before .before .before .before .before .before in
     let few = number-few (now (start .args .sizes)) (listState (now (start .args .starts))) (start .args .variables) (start .pre .inside) (l .v) (l .number) (l .inv .1) (l .inv .0) (start .pre .states) in
-    omega (arith, product-most _ _ few (c .byte-at2 .ensures .1), mul-comm (l .number) (c .byte-at2 .result), c .before .before .byte-at .ensures .1)
+    omega (arith, product-most _ _ few (c .byte-at2 .ensures .below), mul-comm (l .number) (c .byte-at2 .result), c .before .before .byte-at .ensures .below)
 
 loop-less : tie.Need-loop-less Inv-loop μ-loop
 loop-less c = search needs
@@ -54,7 +54,7 @@ unfolding listState
 loop-again c =
     let l = c .before .before .before .before .before .loop in
     let start = c .before .before .before .before .before .before in
-    (number-next (now (start .args .sizes)) (listState (now (start .args .starts))) _ _ _ _ _ (c .before .before .before .before .loop-test .taken) (l .inv .1) (l .inv .0) (c .before .before .byte-at .ensures .0) (c .byte-at2 .ensures .0), omega arith)
+    (number-next (now (start .args .sizes)) (listState (now (start .args .starts))) _ _ _ _ _ (c .before .before .before .before .loop-test .taken) (l .inv .1) (l .inv .0) (c .before .before .byte-at .ensures .is) (c .byte-at2 .ensures .is), omega arith)
 
 returns : tie.Need-returns Inv-loop μ-loop
 unfolding listState

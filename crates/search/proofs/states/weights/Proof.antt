@@ -36,7 +36,7 @@ mul-weight c =
     let l = c .before .before .before .loop in
     let start = c .before .before .before .before in
     let below : l .weight ≤ 4096 = omega (arith, weight-most (now (start .args .sizes)) (l .v) (start .args .variables) (start .pre .sized .least) (l .inv .2), start .pre .states) in
-    omega (arith, product-most _ _ below (c .byte-at .ensures .1))
+    omega (arith, product-most _ _ below (c .byte-at .ensures .below))
 
 add-v : tie.Need-add-v Inv-loop μ-loop
 add-v c = search needs
@@ -49,7 +49,7 @@ loop-again c =
     let l = c .before .before .before .loop in
     let sizes = now (c .before .before .before .before .args .sizes) in (
       filled-before (l .weights) (l .v) _ (λ w x. x ≡ rowWeight sizes w) (omega arith) (l .inv .0) (l .inv .1),
-      weight-next sizes _ _ _ (l .inv .1) (c .byte-at .ensures .0),
+      weight-next sizes _ _ _ (l .inv .1) (c .byte-at .ensures .is),
       omega arith,
       length-set (l .weights) (l .v) _ ∙ l .inv .3,
     )

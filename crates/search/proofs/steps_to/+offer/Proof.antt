@@ -77,13 +77,13 @@ offer-mul-rest : (t : ℕ) → offer-lts.Need-mul-rest (known t) (offer-at t) of
 offer-mul-rest t c =
     let start = c .before .before .before .before .before .before .before in
     let f = found _ _ _ _ _ _ _ _ _ _ _ (start .pre .1) (c .before .before .before .before .next-effect .ensures) (c .before .before .before .if1 .taken) in
-    omega (arith, product-most _ _ (weight-few _ _ _ _ _ _ _ _ _ _ (c .byte-at .result) f refl) (c .byte-at .ensures .1))
+    omega (arith, product-most _ _ (weight-few _ _ _ _ _ _ _ _ _ _ (c .byte-at .result) f refl) (c .byte-at .ensures .below))
 
 offer-sub-rest : (t : ℕ) → offer-lts.Need-sub-rest (known t) (offer-at t) offer.Post offer-Inv-loop offer-μ-loop
 offer-sub-rest t c =
     let start = c .before .before .before .before .before .before .before in
     let f = found _ _ _ _ _ _ _ _ _ _ _ (start .pre .1) (c .before .before .before .before .next-effect .ensures) (c .before .before .before .if1 .taken) in
-    omega (arith, taken-least _ _ _ _ _ _ _ _ _ _ (c .byte-at .result) f refl (c .byte-at .ensures .0))
+    omega (arith, taken-least _ _ _ _ _ _ _ _ _ _ (c .byte-at .result) f refl (c .byte-at .ensures .is))
 
 offer-add-byte-at-2 : (t : ℕ) → offer-lts.Need-add-byte-at-2 (known t) (offer-at t) offer.Post offer-Inv-loop offer-μ-loop
 offer-add-byte-at-2 t c = omega (arith, c .before .before .before .before .if1 .taken, c .before .before .before .before .before .before .before .before .pre .1 .row .variables-few, c .before .before .before .before .before .before .before .before .pre .1 .row .row-inside)
@@ -98,14 +98,14 @@ offer-earlier-requires : (t : ℕ) → offer-lts.Need-earlier-requires (known t)
 offer-earlier-requires t c κs =
     let start = c .before .before .before .before .before .before .before .before .before .before .before in
     let asks = c .before .before .byte-at2 .ensures in
-    let size = c .byte-at3 .ensures .0 in
-    record { byte = asks .1; inside = λ d. omega (arith, asks .0, size, start .pre .1 .row .condition-inside _ (c .before .before .before .before .before .before .before .if1 .taken) (λ e. d (asks .0 ∙ e))) }
+    let size = c .byte-at3 .ensures .is in
+    record { byte = asks .below; inside = λ d. omega (arith, asks .is, size, start .pre .1 .row .condition-inside _ (c .before .before .before .before .before .before .before .if1 .taken) (λ e. d (asks .is ∙ e))) }
 
 offer-loop-holds : (t : ℕ) → offer-lts.Need-loop-holds (known t) (offer-at t) offer.Post offer-Inv-loop offer-μ-loop
 offer-loop-holds t c =
     let start = c .before .before .before .before .before .before .before .before .before .before .before .before in
     let f = found _ _ _ _ _ _ _ _ _ _ _ (start .pre .1) (c .before .before .before .before .before .before .before .before .before .next-effect .ensures) (c .before .before .before .before .before .before .before .before .if1 .taken) in
-    let w = walk _ _ _ _ _ _ _ _ _ _ _ _ _ _ _ f refl (c .before .before .before .before .before .byte-at .ensures .0) (c .before .before .before .byte-at2 .ensures .0) (c .before .byte-at3 .ensures .0) (c .earlier .ensures) in
+    let w = walk _ _ _ _ _ _ _ _ _ _ _ _ _ _ _ f refl (c .before .before .before .before .before .byte-at .ensures .is) (c .before .before .before .byte-at2 .ensures .is) (c .before .byte-at3 .ensures .is) (c .earlier .ensures) in
     (w, turns-begin _ _ _ _ _ _ _ _ _ _ _ _ _ w _ _ (start .pre .1 .room), unchanged-none _ _, refl)
 
 offer-add-offer : (t : ℕ) → offer-lts.Need-add-offer (known t) (offer-at t) offer.Post offer-Inv-loop offer-μ-loop
@@ -114,7 +114,7 @@ offer-add-offer t c = omega (arith, c .before .before .before .before .before .b
 offer-mul-offer : (t : ℕ) → offer-lts.Need-mul-offer (known t) (offer-at t) offer.Post offer-Inv-loop offer-μ-loop
 offer-mul-offer t c =
     let w = c .before .before .before .loop .inv .0 in
-    let few : c .before .before .before .loop .value < 256 = omega (arith, c .before .before .before .before .before .byte-at3 .ensures .0, c .before .before .before .before .before .byte-at3 .ensures .1, w .span .inside, c .before .before .loop-test .taken) in
+    let few : c .before .before .before .loop .value < 256 = omega (arith, c .before .before .before .before .before .byte-at3 .ensures .is, c .before .before .before .before .before .byte-at3 .ensures .below, w .span .inside, c .before .before .loop-test .taken) in
     omega (arith, product-most _ _ (weight-few _ _ _ _ _ _ _ _ _ _ 0 (w .found) (w .weight-is)) few)
 
 offer-add-offer-2 : (t : ℕ) → offer-lts.Need-add-offer-2 (known t) (offer-at t) offer.Post offer-Inv-loop offer-μ-loop
@@ -140,7 +140,7 @@ offer-offer-requires t c κs =
     )
 
 offer-add-value : (t : ℕ) → offer-lts.Need-add-value (known t) (offer-at t) offer.Post offer-Inv-loop offer-μ-loop
-offer-add-value t c = omega (arith, c .before .before .before .before .before .before .before .before .before .before .byte-at3 .ensures .0, c .before .before .before .before .before .before .before .before .before .before .byte-at3 .ensures .1, c .before .before .before .before .before .before .before .before .loop .inv .0 .span .inside, c .before .before .before .before .before .before .before .loop-test .taken)
+offer-add-value t c = omega (arith, c .before .before .before .before .before .before .before .before .before .before .byte-at3 .ensures .is, c .before .before .before .before .before .before .before .before .before .before .byte-at3 .ensures .below, c .before .before .before .before .before .before .before .before .loop .inv .0 .span .inside, c .before .before .before .before .before .before .before .loop-test .taken)
 
 offer-loop-less : (t : ℕ) → offer-lts.Need-loop-less (known t) (offer-at t) offer.Post offer-Inv-loop offer-μ-loop
 offer-loop-less t c = omega (arith, c .before .before .before .before .before .before .before .loop-test .taken)

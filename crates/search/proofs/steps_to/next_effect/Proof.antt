@@ -28,7 +28,7 @@ byte-at-requires c κs = search needs
 returns : tie.Need-returns Inv-loop μ-loop
 returns c =
     let l = c .before .before .before .before .loop in
-    record { first = l .inv .0; last = l .inv .1; between = l .inv .2; there = λ h e. c .if1 .taken (c .before .byte-at .ensures .0 ∙ e) }
+    record { first = l .inv .0; last = l .inv .1; between = l .inv .2; there = λ h e. c .if1 .taken (c .before .byte-at .ensures .is ∙ e) }
 
 add-v : tie.Need-add-v Inv-loop μ-loop
 add-v c = search needs
@@ -41,7 +41,7 @@ loop-again c =
     let l = c .before .before .before .before .loop in
     let start = c .before .before .before .before .before in
     let effects = now (start .args .effects) in
-    let here : getD effects (start .args .base + l .v) 0 ≡ 255 = sym (c .before .byte-at .ensures .0) ∙ c .if1 .left in (
+    let here : getD effects (start .args .base + l .v) 0 ≡ 255 = sym (c .before .byte-at .ensures .is) ∙ c .if1 .left in (
       omega arith,
       omega arith,
       λ u a b.

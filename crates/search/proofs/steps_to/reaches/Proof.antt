@@ -45,9 +45,9 @@ returns : tie.Need-returns Inv-loop μ-loop
 unfolding listState
 returns c =
     let start = c .before .before .before .before .before .before .before .before .before .before in
-    let e = c .before .before .before .before .before .before .byte-at .ensures .0 in
-    let f = c .before .before .before .before .byte-at2 .ensures .0 in
-    let g = c .before .before .byte-at3 .ensures .0 in
+    let e = c .before .before .before .before .before .before .byte-at .ensures .is in
+    let f = c .before .before .before .before .byte-at2 .ensures .is in
+    let g = c .before .before .byte-at3 .ensures .is in
     let same = c .before .can-have .ensures ∙ (λ i. canHave (e i) (f i) (g i)) in
     reach-stop (now (start .args .conditions)) (now (start .args .effects)) _ (listState (now (start .args .values))) _ _ _ (c .before .before .before .before .before .before .before .before .loop-test .taken) same (not-true _ (c .if1 .taken))
 
@@ -62,9 +62,9 @@ unfolding listState
 loop-again c =
     let l = c .before .before .before .before .before .before .before .before .before .loop in
     let start = c .before .before .before .before .before .before .before .before .before .before in
-    let e = c .before .before .before .before .before .before .byte-at .ensures .0 in
-    let f = c .before .before .before .before .byte-at2 .ensures .0 in
-    let g = c .before .before .byte-at3 .ensures .0 in
+    let e = c .before .before .before .before .before .before .byte-at .ensures .is in
+    let f = c .before .before .before .before .byte-at2 .ensures .is in
+    let g = c .before .before .byte-at3 .ensures .is in
     let same = c .before .can-have .ensures ∙ (λ i. canHave (e i) (f i) (g i)) in
     (reach-next (now (start .args .conditions)) (now (start .args .effects)) (start .args .base) (listState (now (start .args .values))) (l .v) _ (l .inv .0) same (not-false _ (c .if1 .left)), omega arith)
 

@@ -7,7 +7,7 @@ use Rattle.plans.proofs.tally.Tally.start.Tie as tie
 
 returns : tie.Need-returns
 unfolding stateOf totalIn noSteps
-returns c = (refl, refl)
+returns c = record { reached = refl; counted = refl }
 
 pub start-spec : {M : Type 1} → statement M
 start-spec = tie.close (tie.spec returns)

@@ -23,7 +23,7 @@ unfolding stateOf listState apply rowOf totalIn addStep
 returns c =
     let a = c .before .before .before .before .before .before .args in
     let minutes : a .self .minutes .0 + a .action .cost .0 ≡ a .action .cost .0 + a .self .minutes .0 = omega arith in
-    (fun-ext (λ v. c .before .before .before .applied .ensures v), λ i. record { minutes = minutes i; steps = a .self .steps .0 + 1 })
+    record { reached = fun-ext (λ v. c .before .before .before .applied .ensures v); counted = λ i. record { minutes = minutes i; steps = a .self .steps .0 + 1 } }
 
 pub step-spec : {M : Type 1} → statement M
 step-spec = tie.close (tie.spec applied-requires add-minutes add-steps returns)
