@@ -19,7 +19,7 @@ use Rattle.files.proofs.Logic.{clash, split}
 use Rattle.files.proofs.Tabulate.{tabulate-is}
 use Rattle.plans.specs.State.{allHold}
 use Rattle.plans.specs.Plan.{noSteps}
-use Rattle.marking.proofs.HeldTask.{actions-held, goal-held}
+use Rattle.files.proofs.HeldTask.{actions-held, goal-held}
 use Rattle.search.specs.States.{stateCount, stateAt}
 use Rattle.search.specs.Table.{Distance, distances, entry, entryOf, tableOf}
 use Rattle.search.specs.Columns.{entryIn, entriesIn, afterStep, offered, rowVariables, rowStates}

@@ -9,7 +9,7 @@ use Rattle.files.specs.declared.Outcome.{Outcome}
 use Rattle.files.specs.Outcome.{done, refusal}
 use Rattle.plans.specs.Plan.{Total}
 use Rattle.files.proofs.Valid.{Valid}
-use Rattle.marking.proofs.MarkLaws.{refusal-number}
+use Rattle.files.proofs.Guards.{refusal-number}
 use Rattle.search.specs.declared.stages.Found.{Found}
 use Rattle.search.specs.States.{stateCount}
 use Rattle.search.specs.Planner.{statesFit}
