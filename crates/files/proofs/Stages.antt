@@ -1,13 +1,13 @@
 -- Laws of rows of stages: which way a stage goes, a row in two parts, a buffer after a stage, and an answer by its row.
 use Prim.Native.Nat.{ℕ, _≤_, _<_}
-use mathlib.Core.Path.{_≡_, refl, sym, ap, _∙_}
+use mathlib.Core.Path.{_≡_, refl, sym, ap, ap₂, _∙_}
 use mathlib.Core.Bool.{true, false, cond}
 use mathlib.Core.List.{List, [], _∷_, _++_, map}
 use lib.Dec.{leb}
 use borrow.Author.Tests.{le-leb}
 use Rattle.files.specs.declared.Outcome.{Outcome}
 use Rattle.files.specs.Outcome.{done, refusal, isDone, andThen, fits, overwrite, after}
-use Rattle.files.specs.Stages.{Stage, stage, outcomeOf, leftBy, ByStages}
+use Rattle.files.specs.Stages.{Stage, stage, beside, outcomeOf, leftBy, ByStages}
 use Rattle.files.proofs.Guards.{goes-le, stops-le, guard-passes, is-done}
 use Rattle.files.proofs.Logic.{split, clash}
 
@@ -91,32 +91,73 @@ module _ {B : Type 0} where
       (λ y. rw y (left-first first second (s .leaves) (ap isDone (sym (both-yes (s .outcome) (outcomeOf first) y)) ∙ e)))
       (λ n. rw n refl)
 
+  -- where all are done, what the last leaves
+  pub left-last : (stages : List (Stage B)) (s : Stage B) (b : B) → isDone (outcomeOf (stages ++ (s ∷ []))) ≡ true → leftBy (stages ++ (s ∷ [])) b ≡ s .leaves
+  left-last [] s b e = split (isDone (s .outcome)) (λ y. rw y refl) (λ n. clash (sym (ap isDone (both-no (s .outcome) done n)) ∙ e) n)
+  left-last (x ∷ stages) s b e =
+      split (isDone (x .outcome))
+      (λ y. rw y (left-last stages s (x .leaves) (ap isDone (sym (both-yes (x .outcome) _ y)) ∙ e)))
+      (λ n. clash (sym (ap isDone (both-no (x .outcome) _ n)) ∙ e) n)
+
 -- a row beside buffers that it does not touch
-module _ {B C : Type 0} (beside : B → C) where
-  abbrev pub lifted : Stage B → Stage C
-  lifted s = stage (s .outcome) (beside (s .leaves))
+module _ {B C : Type 0} (more : B → C) where
+  pub outcome-beside : (stages : List (Stage B)) → outcomeOf (map (beside more) stages) ≡ outcomeOf stages
+  outcome-beside [] = refl
+  outcome-beside (s ∷ stages) = ap (andThen (s .outcome)) (outcome-beside stages)
 
-  pub outcome-lifted : (stages : List (Stage B)) → outcomeOf (map lifted stages) ≡ outcomeOf stages
-  outcome-lifted [] = refl
-  outcome-lifted (s ∷ stages) = ap (andThen (s .outcome)) (outcome-lifted stages)
-
-  pub left-lifted : (stages : List (Stage B)) (b : B) → leftBy (map lifted stages) (beside b) ≡ beside (leftBy stages b)
-  left-lifted [] b = refl
-  left-lifted (s ∷ stages) b = split (isDone (s .outcome)) (λ y. rw y (left-lifted stages (s .leaves))) (λ n. rw n refl)
+  pub left-beside : (stages : List (Stage B)) (b : B) → leftBy (map (beside more) stages) (more b) ≡ more (leftBy stages b)
+  left-beside [] b = refl
+  left-beside (s ∷ stages) b = split (isDone (s .outcome)) (λ y. rw y (left-beside stages (s .leaves))) (λ n. rw n refl)
 
 -- a call by its stages, one after the other: the last is done, one is refused, one is done
-module _ {A B : Type 0} {whole : A} {beside : Outcome → A} {given : A} {now : B} where
-  pub by-end : {before : B} → given ≡ whole → now ≡ before → ByStages [] whole beside before given now
+module _ {A B : Type 0} {whole : A} {refused : Outcome → A} {given : A} {now : B} where
+  pub by-end : {before : B} → given ≡ whole → now ≡ before → ByStages [] whole refused before given now
   unfolding isDone
   by-end e q = record { answer = e; buffers = q }
 
   module _ {stages : List (Stage B)} {before leaves : B} {o : Outcome} where
-    pub by-stop : isDone o ≡ false → given ≡ beside o → now ≡ before → ByStages (stage o leaves ∷ stages) whole beside before given now
+    pub by-stop : isDone o ≡ false → given ≡ refused o → now ≡ before → ByStages (stage o leaves ∷ stages) whole refused before given now
     by-stop n e q =
         let is = both-no o (outcomeOf stages) n in
-        record { answer = e ∙ sym (ap (λ (x : Outcome). cond (isDone x) whole (beside x)) is ∙ rw n refl); buffers = q ∙ rw n refl }
+        record { answer = e ∙ sym (ap (λ (x : Outcome). cond (isDone x) whole (refused x)) is ∙ rw n refl); buffers = q ∙ rw n refl }
 
-    pub by-next : isDone o ≡ true → ByStages stages whole beside leaves given now → ByStages (stage o leaves ∷ stages) whole beside before given now
+    pub by-next : isDone o ≡ true → ByStages stages whole refused leaves given now → ByStages (stage o leaves ∷ stages) whole refused before given now
     by-next y k =
         let is = both-yes o (outcomeOf stages) y in
-        record { answer = k .answer ∙ sym (ap (λ (x : Outcome). cond (isDone x) whole (beside x)) is); buffers = k .buffers ∙ rw y refl }
+        record { answer = k .answer ∙ sym (ap (λ (x : Outcome). cond (isDone x) whole (refused x)) is); buffers = k .buffers ∙ rw y refl }
+
+-- a call whose row is two rows, each beside buffers that it does not touch
+module _ {B C D : Type 0} (first : List (Stage B)) (second : List (Stage C)) (more : B → D) (further : C → D) where
+  both-is : outcomeOf (map (beside more) first ++ map (beside further) second) ≡ andThen (outcomeOf first) (outcomeOf second)
+  both-is = outcome-both (map (beside more) first) (map (beside further) second) ∙ ap₂ andThen (outcome-beside more first) (outcome-beside further second)
+
+  module _ {A : Type 0} {whole given : A} {refused : Outcome → A} {now : D} (b : B) where
+    pub by-first : isDone (outcomeOf first) ≡ false → given ≡ refused (outcomeOf first) → now ≡ more (leftBy first b)
+        → ByStages (map (beside more) first ++ map (beside further) second) whole refused (more b) given now
+    by-first n e q =
+        let is = both-is ∙ both-no (outcomeOf first) (outcomeOf second) n in
+        record {
+          answer = e ∙ sym (ap (λ (x : Outcome). cond (isDone x) whole (refused x)) is ∙ rw n refl);
+          buffers = q ∙ sym (left-first (map (beside more) first) (map (beside further) second) (more b) (ap isDone (outcome-beside more first) ∙ n) ∙ left-beside more first b);
+        }
+
+    pub by-second : isDone (outcomeOf first) ≡ true → (c x : C) → more (leftBy first b) ≡ further c → now ≡ further x → ByStages second whole refused c given x
+        → ByStages (map (beside more) first ++ map (beside further) second) whole refused (more b) given now
+    by-second y c x same q k =
+        let is = both-is ∙ both-yes (outcomeOf first) (outcomeOf second) y in
+        record {
+          answer = k .answer ∙ sym (ap (λ (o : Outcome). cond (isDone o) whole (refused o)) is);
+          buffers =
+              q ∙ ap further (k .buffers)
+              ∙ sym (left-both (map (beside more) first) (map (beside further) second) (more b) (ap isDone (outcome-beside more first) ∙ y)
+              ∙ ap (leftBy (map (beside further) second)) (left-beside more first b ∙ same)
+              ∙ left-beside further second c);
+        }
+
+-- what a call by its stages answers, from its outcome
+module _ {A B : Type 0} {stages : List (Stage B)} {whole given : A} {refused : Outcome → A} {before now : B} (k : ByStages stages whole refused before given now) where
+  pub given-whole : isDone (outcomeOf stages) ≡ true → given ≡ whole
+  given-whole y = k .answer ∙ rw y refl
+
+  pub given-refused : isDone (outcomeOf stages) ≡ false → given ≡ refused (outcomeOf stages)
+  given-refused n = k .answer ∙ rw n refl

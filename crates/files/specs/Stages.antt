@@ -14,6 +14,10 @@ pub record Stage (B : Type 0) : Type 0 where
 abbrev pub stage : {B : Type 0} → Outcome → B → Stage B
 stage outcome leaves = record { outcome = outcome; leaves = leaves }
 
+-- a stage beside buffers that it does not touch
+abbrev pub beside : {B C : Type 0} → (B → C) → Stage B → Stage C
+beside more s = stage (s .outcome) (more (s .leaves))
+
 -- a refusal ends the row
 abbrev pub outcomeOf : {B : Type 0} → List (Stage B) → Outcome
 outcomeOf [] = done
@@ -26,15 +30,15 @@ leftBy (s ∷ stages) b = cond (isDone (s .outcome)) (leftBy stages (s .leaves))
 
 -- the answer of a call: the whole where every stage is done, and beside a refusal nothing
 abbrev pub answerBy : {A B : Type 0} → List (Stage B) → A → (Outcome → A) → A
-answerBy stages whole beside = cond (isDone (outcomeOf stages)) whole (beside (outcomeOf stages))
+answerBy stages whole refused = cond (isDone (outcomeOf stages)) whole (refused (outcomeOf stages))
 
 -- a call by its stages: what it answers, and what each lent buffer holds now
-pub record ByStages {A B : Type 0} (stages : List (Stage B)) (whole : A) (beside : Outcome → A) (before : B) (given : A) (now : B) : Type 0 where
-  pub answer : given ≡ answerBy stages whole beside
+pub record ByStages {A B : Type 0} (stages : List (Stage B)) (whole : A) (refused : Outcome → A) (before : B) (given : A) (now : B) : Type 0 where
+  pub answer : given ≡ answerBy stages whole refused
   pub buffers : now ≡ leftBy stages before
 
 -- the same, with an outcome of the call's list of refusals
-pub record Answers {A B : Type 0} (refusals : List Refusal) (stages : List (Stage B)) (whole : A) (beside : Outcome → A) (before : B) (given : A) (now : B) : Type 0 where
+pub record Answers {A B : Type 0} (refusals : List Refusal) (stages : List (Stage B)) (whole : A) (refused : Outcome → A) (before : B) (given : A) (now : B) : Type 0 where
   pub outcome : listed refusals (outcomeOf stages) ≡ true
-  pub numbers : given ≡ answerBy stages whole beside
+  pub numbers : given ≡ answerBy stages whole refused
   pub buffers : now ≡ leftBy stages before

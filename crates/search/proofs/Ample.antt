@@ -14,6 +14,7 @@ use Rattle.files.specs.Bytes.{Octets}
 use Rattle.files.specs.OriginFile.{variableOriginBytes, originFile}
 use Rattle.files.specs.Outcome.{done, isDone, guard, andThen, fits}
 use Rattle.files.specs.PlanFile.{planFile}
+use Rattle.files.specs.Stages.{outcomeOf}
 use Rattle.files.specs.Records.{sizeFits, numberBytes, recordBytes, signerOf}
 use Rattle.files.specs.Task.{Task}
 use Rattle.files.specs.TaskFile.{checkTask, taskOf, taskFile}
@@ -32,7 +33,7 @@ use Rattle.plans.proofs.OrderLaws.{total-steps}
 use Rattle.marking.specs.Mark.{marksFit}
 use Rattle.marking.proofs.Rounding.{facts-few}
 use Rattle.reduction.specs.Preserved.{Preserves}
-use Rattle.reduction.specs.Reduce.{reducedFile, originsFile, filesFit, markStage, reduceStage}
+use Rattle.reduction.specs.Reduce.{reducedFile, originsFile, filesFit, reduceInput, reduceStages, fileStages}
 use Rattle.reduction.specs.Task.{reducedTask, originBy, originsAt, keptAt, byOriginal}
 use Rattle.reduction.proofs.OriginAccepted.{origins-accepted}
 use Rattle.reduction.proofs.Preservation.{reduction-preserves, reduction-accepted}
@@ -40,8 +41,9 @@ use Rattle.reduction.proofs.ReducedLength.{reduced-file-length}
 use Rattle.search.specs.States.{stateCount}
 use Rattle.search.specs.FirstPlan.{firstPlan}
 use Rattle.search.specs.Least.{PlanFirst}
-use Rattle.search.specs.Planner.{planLevel, searched, statesFit, searchStage, planFound, planFits, planStage, PlanRooms}
-use Rattle.search.specs.PlannerRight.{ample, AmpleSuffices, NeverShort}
+use Rattle.search.specs.Planner.{planLevel, searched, statesFit, planFound, planFits, searchBuffers, searchStages, Lent, planStages}
+use Rattle.search.specs.PlannerRight.{Ample, AmpleSuffices, NeverShort}
+use Rattle.search.proofs.Answers.{row-is}
 use Rattle.search.proofs.LeastPlans.{search-least}
 
 module _ (task : List ℕ) (octets : Octets task) (e : checkTask task ≡ done) where
@@ -110,14 +112,7 @@ module _ (task : List ℕ) (octets : Octets task) (e : checkTask task ≡ done) 
   plan-small few signer plan b = omega (arith, plan-file-length plan signer, best-short few plan b)
 
 pub ample-suffices : AmpleSuffices
-unfolding ample
-ample-suffices task signer b octets e few same =
-    let actions = ap (λ (r : PlanRooms). r .reduction .actions) same in
-    let facts-room = ap (λ (r : PlanRooms). r .reduction .facts) same in
-    let reduced = ap (λ (r : PlanRooms). r .reduction .reduced) same in
-    let origin = ap (λ (r : PlanRooms). r .reduction .origin) same in
-    let table = ap (λ (r : PlanRooms). r .table) same in
-    let plan-room = ap (λ (r : PlanRooms). r .plan) same in
+ample-suffices task signer b octets e few room =
     record {
       buffers =
           record {
@@ -146,54 +141,47 @@ fits-short needed room rest h e = ap (λ (o : Outcome). o .number) (sym (fits-in
 done-short : done .number ≡ 21 → ⊥
 done-short e = let z : _≡_ {A = ℕ} 0 21 = e in omega arith
 
-module _ (task : List ℕ) (signer : ℕ) (octets : Octets task) where
-  marks-never : markStage task planLevel signer (ample .reduction) .number ≡ 21 → ⊥
-  unfolding markStage marksFit ample
-  marks-never e =
+-- a row of which no stage gives 21
+module _ (task : List ℕ) (signer : ℕ) (b : Lent) (octets : Octets task) (room : Ample b) where
+  input-never : reduceInput task planLevel signer .number ≡ 21 → ⊥
+  unfolding reduceInput
+  input-never e =
       ⊎-elim
       (λ f. not-listed 0 21 task (checkTask task) refl refl (task-listed task) f)
-      (λ rest.
-      let z = task-check-done task (rest .0) in
-      let signs = guard-short _ 8 0 _ (rest .1) (λ q. omega arith) in
-      let fit = guard-short _ 7 0 _ (signs .1) (λ q. omega arith) in
-      done-short (fits-short _ 2048 done (facts-few (taskOf task) (valid task octets z)) (fits-short _ 512 _ (valid task octets z .actions-few) (fit .1))))
+      (λ rest. done-short (guard-short _ 7 0 _ (guard-short _ 8 0 _ (rest .1) (λ q. omega arith) .1) (λ q. omega arith) .1))
       (then-short _ _ e)
 
-  -- behind the first stages the file is accepted
-  reduced-accepted : reduceStage task planLevel signer (ample .reduction) .number ≡ 0 → checkTask task ≡ done
-  unfolding reduceStage markStage
-  reduced-accepted e = let found = simp facts at e in task-check-done task (found .0 .0)
+  input-accepted : reduceInput task planLevel signer .number ≡ 0 → checkTask task ≡ done
+  unfolding reduceInput
+  input-accepted e = task-check-done task (both-done _ _ e .0)
 
-  marks-accepted : markStage task planLevel signer (ample .reduction) .number ≡ 0 → checkTask task ≡ done
-  unfolding markStage
-  marks-accepted e = let found = simp facts at e in task-check-done task (found .0)
+  marks-never : checkTask task ≡ done → marksFit (taskOf task) (length (b .buffers .actions)) (length (b .buffers .facts)) .number ≡ 21 → ⊥
+  unfolding marksFit
+  marks-never z e =
+      let facts-room = facts-few (taskOf task) (valid task octets z) in
+      let actions-room = valid task octets z .actions-few in
+      done-short (fits-short _ _ done (omega (arith, room .facts)) (fits-short _ _ _ (omega (arith, room .actions)) e))
 
-  reduce-never : reduceStage task planLevel signer (ample .reduction) .number ≡ 21 → ⊥
-  unfolding reduceStage filesFit reducedFile originsFile ample
-  reduce-never e =
-      ⊎-elim marks-never
-      (λ rest.
-      let z = marks-accepted (rest .0) in
-      done-short (fits-short _ 5520 done (origin-fits z) (fits-short _ 65536 _ (reduced-fits z) (rest .1))))
-      (then-short _ _ e)
-    where
-      reduced-fits : checkTask task ≡ done → length (taskFile (reducedTask (taskOf task) planLevel) signer) ≤ 65536
-      reduced-fits z = reduced-small task octets z signer
+  files-never : checkTask task ≡ done → filesFit (reducedTask (taskOf task) planLevel) (originsAt (taskOf task) planLevel) signer (length (b .buffers .reduced)) (length (b .buffers .origin)) .number ≡ 21 → ⊥
+  unfolding filesFit reducedFile originsFile
+  files-never z e =
+      let reduced-room : length (taskFile (reducedTask (taskOf task) planLevel) signer) ≤ 65536 = reduced-small task octets z signer in
+      let origin-room : length (originFile (originsAt (taskOf task) planLevel) signer) ≤ 5520 = origin-small task octets z signer in
+      done-short (fits-short _ _ done (omega (arith, room .origin)) (fits-short _ _ _ (omega (arith, room .reduced)) e))
 
-      origin-fits : checkTask task ≡ done → length (originFile (originsAt (taskOf task) planLevel) signer) ≤ 5520
-      origin-fits z = origin-small task octets z signer
-
-  states-never : statesFit (searched task) 4096 .number ≡ 21 → ⊥
+  states-never : statesFit (searched task) (length (b .table)) .number ≡ 21 → ⊥
   unfolding statesFit
   states-never e =
       let few = guard-short _ 25 0 _ e (λ q. omega arith) in
-      done-short (fits-short _ 4096 done (leb-true _ 4096 (few .0)) (few .1))
+      let count = stateCount (searched task .variables) in
+      let inside : count ≤ 4096 = leb-true _ 4096 (few .0) in
+      done-short (fits-short count (length (b .table)) done (omega (arith, room .table)) (few .1))
 
-  states-few : statesFit (searched task) 4096 .number ≡ 0 → stateCount (reducedTask (taskOf task) planLevel .variables) ≤ 4096
+  states-few : statesFit (searched task) (length (b .table)) .number ≡ 0 → stateCount (reducedTask (taskOf task) planLevel .variables) ≤ 4096
   unfolding statesFit searched
   states-few e = let found = simp facts at e in found .0
 
-  plan-never : checkTask task ≡ done → stateCount (reducedTask (taskOf task) planLevel .variables) ≤ 4096 → planFits (planFound task) signer 8206 .number ≡ 21 → ⊥
+  plan-never : checkTask task ≡ done → stateCount (reducedTask (taskOf task) planLevel .variables) ≤ 4096 → planFits (planFound task) signer (length (b .plan)) .number ≡ 21 → ⊥
   unfolding planFound planFits searched
   plan-never z few e =
       split-option (firstPlan (u task octets z))
@@ -201,14 +189,41 @@ module _ (task : List ℕ) (signer : ℕ) (octets : Octets task) where
       (λ p q.
       let w : PlanFirst (u task octets z) (some p) = subst (PlanFirst (u task octets z)) q (read-off task octets z) in
       let best = preserved task octets z .first-back p (w .0) .best in
-      done-short (fits-short _ 8206 done (plan-small task octets z few signer _ best) (rw q at e)))
+      let small = plan-small task octets z few signer _ best in
+      done-short (fits-short _ _ done (omega (arith, room .plan)) (rw q at e)))
+
+  files-row-never : outcomeOf (fileStages task planLevel signer (b .buffers)) .number ≡ 21 → ⊥
+  unfolding reduceStages
+  files-row-never e =
+      ⊎-elim
+      (λ first. ⊎-elim input-never (λ rest. marks-never (input-accepted (rest .0)) (rest .1)) (then-short _ _ first))
+      (λ rest.
+      let z = input-accepted (both-done _ _ (rest .0) .0) in
+      ⊎-elim (files-never z) (λ last. done-short (last .1)) (then-short _ _ (rest .1)))
+      (then-short _ _ e)
+
+  files-row-accepted : outcomeOf (fileStages task planLevel signer (b .buffers)) .number ≡ 0 → checkTask task ≡ done
+  unfolding reduceStages
+  files-row-accepted e = input-accepted (both-done _ _ (both-done _ _ e .0) .0)
+
+  search-row-never : checkTask task ≡ done → outcomeOf (searchStages (searched task) (planFound task) signer (searchBuffers (b .table) (b .plan))) .number ≡ 21 → ⊥
+  unfolding searchStages
+  search-row-never z e =
+      ⊎-elim
+      states-never
+      (λ rest. ⊎-elim (plan-never z (states-few (rest .0))) (λ last. done-short (last .1)) (then-short _ _ (rest .1)))
+      (then-short _ _ e)
+
+  row-never : outcomeOf (planStages task signer b) .number ≡ 21 → ⊥
+  row-never e =
+      ⊎-elim
+      files-row-never
+      (λ rest. search-row-never (files-row-accepted (rest .0)) (rest .1))
+      (then-short _ _ (ap (λ (o : Outcome). o .number) (sym (row-is task signer b)) ∙ e))
 
 pub never-short : NeverShort
-unfolding planStage searchStage ample
-never-short task signer octets e =
-    ⊎-elim
-    (λ early. ⊎-elim (reduce-never task signer octets) (λ rest. states-never task signer octets (rest .1)) (then-short _ _ early))
-    (λ late.
-    let searched-done = both-done _ _ (late .0) in
-    plan-never task signer octets (reduced-accepted task signer octets (searched-done .0)) (states-few task signer octets (searched-done .1)) (late .1))
-    (then-short _ _ e)
+never-short task signer b octets room e =
+    row-never task signer b octets room
+    (split (isDone (outcomeOf (planStages task signer b)))
+    (λ y. absurd (let z : _≡_ {A = ℕ} 0 21 = rw y at e in omega arith))
+    (λ n. rw n at e))

@@ -3,11 +3,11 @@ use Rattle.search.specs.States.{stateCount, stateNumber, stateAt}
 use Rattle.search.specs.Table.{less, least, same, stepTo, atGoal, nextState, through, leastBelow, distancesIn, distances, entryOf, tableOf}
 use Rattle.search.specs.FirstPlan.{firstAction, stepsFrom, startNumber, firstPlan}
 use Rattle.search.specs.Least.{startedAt}
-use Rattle.search.specs.Columns.{entriesIn, lessEntry, lowered, afterStep, leadsTo, offered, rowStates, rowWeight, rowState, canHave, canReach, differsOnly, sameEntry}
-use Rattle.search.specs.Planner.{searched, searchedStates, planFound, statesFit, searchStage, planFits, planStage, planMade, planAnswer, plannedActionMarks, plannedFactMarks, plannedReduced, plannedOrigin, plannedTable, plannedPlan}
-use Rattle.search.specs.Found.{searchOutcome, foundPlan, foundStates, foundAnswer, bothTogether}
-use Rattle.search.specs.PlannerRight.{ample}
+use Rattle.search.specs.Entries.{isNone, entryIn, entriesIn, lessEntry, lowered, afterStep, sameEntry}
+use Rattle.search.specs.Rows.{leadsTo, offered, rowStates, rowWeight, rowState, canHave, canReach, differsOnly}
+use Rattle.search.specs.Planner.{searched, searchedStates, planFound, statesFit, planFits, searchStages, planMade, planStages}
+use Rattle.search.specs.Found.{foundPlan, foundStates, bothTogether}
 
 unfoldable pub computes : Unit {0}
-unfolding stateCount stateNumber stateAt less least same stepTo atGoal nextState through leastBelow distancesIn distances entryOf tableOf firstAction stepsFrom startNumber firstPlan startedAt entriesIn lessEntry lowered afterStep leadsTo offered rowStates rowWeight rowState canHave canReach differsOnly sameEntry searched searchedStates planFound statesFit searchStage planFits planStage planMade planAnswer plannedActionMarks plannedFactMarks plannedReduced plannedOrigin plannedTable plannedPlan searchOutcome foundPlan foundStates foundAnswer bothTogether ample
+unfolding stateCount stateNumber stateAt less least same stepTo atGoal nextState through leastBelow distancesIn distances entryOf tableOf firstAction stepsFrom startNumber firstPlan startedAt isNone entryIn entriesIn lessEntry lowered afterStep leadsTo offered rowStates rowWeight rowState canHave canReach differsOnly sameEntry searched searchedStates planFound statesFit planFits searchStages planMade planStages foundPlan foundStates bothTogether
 computes = tt

@@ -1,9 +1,9 @@
 -- Whether a state has its entry by way of an action, as the code finds it, and the first such action.
 use Prim.Native.Nat.{ℕ, suc, _+_, _*_, _-_, _≤_, _<_}
-use mathlib.Core.Path.{_≡_, refl, sym, ap, subst, _∙_}
+use mathlib.Core.Path.{_≡_, refl, sym, ap, ap₂, _∙_}
 use mathlib.Core.Bool.{Bool, true, false}
 use mathlib.Core.List.{List, []}
-use mathlib.Core.Option.{none}
+use mathlib.Core.Option.{none, some}
 use native.Mathlib.Omega.{arith}
 use lib.ListN.{getD}
 use Rattle.files.specs.Dense.{rowPairs, rowAction}
@@ -12,14 +12,16 @@ use Rattle.files.proofs.Countdown.{none-left}
 use Rattle.plans.specs.State.{State, allHold, applicable, apply}
 use Rattle.plans.specs.Tally.{listState}
 use Rattle.search.specs.States.{stateNumber, stateAt}
-use Rattle.search.specs.Table.{Distance, entry, same, stepTo, nextState, through, distances}
+use Rattle.search.specs.Table.{Distance, same, stepTo, nextState, through, distances, entryOf}
 use Rattle.search.specs.FirstPlan.{firstAction}
-use Rattle.search.specs.Columns.{rowVariables, rowStates, sameEntry, Tabled}
+use Rattle.search.specs.declared.Entry.{Entry}
+use Rattle.search.specs.Entries.{isNone, entryTotal, sameEntry, afterStep, Low, entryIn}
+use Rattle.search.specs.Rows.{rowVariables, rowStates, Tabled, NumberAfter}
 use Rattle.search.proofs.Radix.{state-in}
 use Rattle.search.proofs.RowNumbers.{RowSizes, row-sizes, inside-row}
 use Rattle.search.proofs.DistanceLaws.{some-none}
 use Rattle.search.proofs.Distances.{through-applicable, through-not}
-use Rattle.search.proofs.EntryDistances.{IsSome, entry-some, same-some, step-some, not-same, far-not-same}
+use Rattle.search.proofs.EntryLaws.{low-near, same-some, some-distance, step-distance, not-same, far-not-same}
 
 -- the values of a state are in the domains
 pub values-inside : (variables : ℕ) (sizes values : List ℕ) (s : ℕ) → RowSizes variables sizes
@@ -30,9 +32,9 @@ values-inside variables sizes values s least state v h =
     omega (arith, here, inside-row sizes [] variables (stateAt (rowVariables variables sizes []) s) (state-in (rowVariables variables sizes []) s (row-sizes sizes [] variables least)) v h)
 
 -- state s and action a
-module _ (variables actions : ℕ) (sizes costs conditions effects minutes steps : List ℕ) (values : List ℕ) (s a : ℕ) (known : a < actions)
+module _ (variables actions : ℕ) (sizes costs conditions effects entries : List ℕ) (values : List ℕ) (s a : ℕ) (known : a < actions)
     (state : (starts : List ℕ) → listState values ≡ stateAt (rowVariables variables sizes starts) s)
-    (t : Task) (tabled : Tabled t variables actions sizes costs conditions effects minutes steps) where
+    (t : Task) (tabled : Tabled t variables actions sizes costs conditions effects entries) where
   here-state : stateAt (t .variables) s ≡ listState values
   here-state = ap (λ (vs : List Variable). stateAt vs s) (tabled .variables-are) ∙ sym (state (tabled .starts))
 
@@ -51,51 +53,49 @@ module _ (variables actions : ℕ) (sizes costs conditions effects minutes steps
       ∙ ap (λ (vs : List Variable). stateNumber vs (apply (actionOf t a) (listState values))) (tabled .variables-are)
       ∙ sym (found (tabled .starts) (actionOf t a) (ap (λ (x : Action). x .effects) (tabled .actions-are a known)))
 
-  price-is : actionOf t a .cost ≡ getD costs a 0
+  cost-is : actionOf t a .cost ≡ getD costs a 0
   unfolding rowAction
-  price-is = ap (λ (x : Action). x .cost) (tabled .actions-are a known)
+  cost-is = ap (λ (x : Action). x .cost) (tabled .actions-are a known)
 
   -- whether the state has its entry by way of the action
-  module _ (inside : s < rowStates variables sizes) (near : getD minutes s 0 < 18446744073709551615)
+  module _ (inside : s < rowStates variables sizes) (reached : isNone (entryIn entries s) ≡ false)
       (b : Bool) (is : b ≡ allHold (rowPairs conditions (64 * a) 0 variables) (listState values)) where
-    here-some : IsSome (getD minutes s 0) (getD steps s 0) (getD (distances t) s none)
-    here-some = entry-some (getD minutes s 0) (getD steps s 0) (getD (distances t) s none) (tabled .entries-are s inside) near
+    here-some : getD (distances t) s none ≡ some (entryTotal (entryIn entries s))
+    here-some = some-distance (entryIn entries s) (getD (distances t) s none) (tabled .entries-are s inside) reached
 
     -- it is not applicable
     pub leads-not : b ≡ false → false ≡ same (through t (distances t) s a) (getD (distances t) s none)
     leads-not e =
         not-same (through t (distances t) s a) (getD (distances t) s none)
-        (λ z. some-none (here-some .total) (sym (here-some .is) ∙ sym z ∙ through-not t (distances t) s a (applies-is ∙ sym is ∙ e)))
+        (λ z. some-none (entryTotal (entryIn entries s)) (sym here-some ∙ sym z ∙ through-not t (distances t) s a (applies-is ∙ sym is ∙ e)))
 
-    module _ (e : b ≡ true) (next : ℕ)
-        (found : (starts : List ℕ) (x : Action) → x .effects ≡ rowPairs effects (64 * a) 0 variables → next ≡ stateNumber (rowVariables variables sizes starts) (apply x (listState values)))
-        (below : next < rowStates variables sizes) where
+    module _ (e : b ≡ true) (next : ℕ) (found : NumberAfter variables (64 * a) sizes effects values next) (x : Entry) (read : x ≡ entryIn entries next) (none-there : Bool) (none-is : none-there ≡ isNone x) where
       by-way : through t (distances t) s a ≡ stepTo (actionOf t a) (getD (distances t) next none)
       by-way =
           through-applicable t (distances t) s a (applies-is ∙ sym is ∙ e)
-          ∙ ap (λ (n : ℕ). stepTo (actionOf t a) (getD (distances t) n none)) (next-is next found)
+          ∙ ap (λ (n : ℕ). stepTo (actionOf t a) (getD (distances t) n none)) (next-is next (found .is))
+
+      there : x ≡ entryOf (getD (distances t) next none)
+      there = read ∙ tabled .entries-are next (found .below)
 
       -- it leads to where the goal is not reached
-      pub leads-far : getD minutes next 0 ≡ 18446744073709551615 → false ≡ same (through t (distances t) s a) (getD (distances t) s none)
-      leads-far far =
-          far-not-same (actionOf t a) (getD minutes next 0) (getD steps next 0) (getD minutes s 0) (getD steps s 0) (getD (distances t) next none) (getD (distances t) s none)
-          (tabled .entries-are next below) far here-some near
+      pub leads-far : Low (entryIn entries s) → none-there ≡ true → false ≡ same (through t (distances t) s a) (getD (distances t) s none)
+      leads-far low far =
+          far-not-same (actionOf t a) x (entryIn entries s) (getD (distances t) next none) (getD (distances t) s none) there (sym none-is ∙ far) here-some (low-near (entryIn entries s) low)
           ∙ ap (λ (d : Distance). same d (getD (distances t) s none)) (sym by-way)
 
-      next-some : getD minutes next 0 < 18446744073709551615 → IsSome (getD costs a 0 + getD minutes next 0) (getD steps next 0 + 1) (through t (distances t) s a)
-      next-some h =
-          subst (λ (d : Distance). IsSome (getD costs a 0 + getD minutes next 0) (getD steps next 0 + 1) d) (sym by-way)
-          (subst (λ (n : ℕ). IsSome (n + getD minutes next 0) (getD steps next 0 + 1) (stepTo (actionOf t a) (getD (distances t) next none))) price-is
-          (step-some (actionOf t a) (getD minutes next 0) (getD steps next 0) (getD (distances t) next none)
-          (entry-some (getD minutes next 0) (getD steps next 0) (getD (distances t) next none) (tabled .entries-are next below) h)))
-
-      pub leads-near : getD minutes next 0 < 18446744073709551615 → (r : Bool)
-          → r ≡ sameEntry (entry (getD costs a 0 + getD minutes next 0) (getD steps next 0 + 1)) (entry (getD minutes s 0) (getD steps s 0))
+      -- or to where it is
+      pub leads-near : none-there ≡ false → (y z : Entry) (r : Bool) → ((v : Action) → v .cost ≡ getD costs a 0 → y ≡ afterStep v x) → z ≡ entryIn entries s → r ≡ sameEntry y z
           → r ≡ same (through t (distances t) s a) (getD (distances t) s none)
-      leads-near h r q =
+      leads-near near y z r stepped here q =
+          let way : through t (distances t) s a ≡ some (entryTotal y) =
+          by-way
+          ∙ ap (stepTo (actionOf t a)) (some-distance x (getD (distances t) next none) there (sym none-is ∙ near))
+          ∙ sym (step-distance (actionOf t a) x)
+          ∙ ap (λ (w : Entry). some (entryTotal w)) (sym (stepped (actionOf t a) cost-is)) in
           q
-          ∙ same-some (getD costs a 0 + getD minutes next 0) (getD steps next 0 + 1) (getD minutes s 0) (getD steps s 0) (through t (distances t) s a) (getD (distances t) s none)
-          (next-some h) here-some
+          ∙ same-some y z
+          ∙ ap₂ (λ (d w : Distance). same d w) (sym way) (ap (λ (w : Entry). some (entryTotal w)) here ∙ sym here-some)
 
 -- the first action, as a loop that counts up wants it
 pub first-begin : (t : Task) (row : List Distance) (n actions : ℕ) → firstAction t row n 0 (actions - 0) ≡ firstAction t row n 0 actions

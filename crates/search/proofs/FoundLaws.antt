@@ -1,29 +1,30 @@
--- The search of one task: its answer, its table and its plan buffer, from those of its parts.
+-- The search of one task by its stages, from what its parts came to.
 use Prim.Native.Nat.{ℕ, _+_, _*_, _≤_, _<_}
-use mathlib.Core.Path.{_≡_, refl, sym, ap, _∙_}
-use mathlib.Core.Bool.{true, cond}
+use mathlib.Core.Path.{_≡_, refl, sym, ap, ap₂, subst, _∙_}
+use mathlib.Core.Bool.{true, false}
 use mathlib.Core.List.{List, []}
-use mathlib.Core.Option.{none, some, Option·map, Option·getD}
+use mathlib.Core.Option.{Option, none, some, Option·map, Option·getD}
 use native.Mathlib.Omega.{arith}
 use lib.ListN.{length, getD, length-map}
 use Rattle.files.specs.declared.Outcome.{Outcome}
-use Rattle.files.specs.Outcome.{done, refusal, isDone, fits, overwrite, after}
+use Rattle.files.specs.Outcome.{done, refusal, isDone, fits, overwrite}
 use Rattle.files.specs.OriginFile.{originOf}
 use Rattle.files.specs.PlanFile.{planFile}
 use Rattle.files.specs.Task.{Task}
-use Rattle.files.proofs.Guards.{goes-on, stops, goes-le, stops-le, is-done, is-refused, after-done, after-refused}
-use Rattle.plans.specs.Plan.{Total, totalOf}
+use Rattle.files.proofs.Guards.{goes-le, stops-le, is-refused}
 use Rattle.files.proofs.Lengths.{plan-file-length}
+use Rattle.files.proofs.Stages.{is-yes, by-end, by-stop, by-next}
 use Rattle.files.proofs.Valid.{Valid}
+use Rattle.plans.specs.Plan.{Total, totalOf}
 use Rattle.reduction.specs.Preserved.{byOriginFile}
 use Rattle.search.specs.declared.Entry.{Entry}
 use Rattle.search.specs.declared.stages.Found.{Found}
 use Rattle.search.specs.States.{stateCount}
 use Rattle.search.specs.Table.{distances, tableOf}
 use Rattle.search.specs.FirstPlan.{startNumber, firstPlan}
-use Rattle.search.specs.Columns.{entriesIn}
-use Rattle.search.specs.Planner.{statesFit, planFits}
-use Rattle.search.specs.Found.{searchOutcome, foundPlan, foundStates, notFound, foundAnswer}
+use Rattle.search.specs.Entries.{entriesIn}
+use Rattle.search.specs.Planner.{statesFit, planFits, searchBuffers, searchStages}
+use Rattle.search.specs.Found.{foundPlan, foundStates, notFound, SearchesRoom}
 use Rattle.search.proofs.Radix.{start-below}
 use Rattle.search.proofs.ReadOff.{steps-length}
 use Rattle.search.proofs.LeastPlans.{stepsRead, first-plan-some, search-least}
@@ -42,60 +43,54 @@ module _ (t : Task) (room : ℕ) where
   states-fit h k = goes-le (stateCount (t .variables)) 4096 25 0 _ done _ _ refl refl h (goes-le (stateCount (t .variables)) room 21 (stateCount (t .variables)) _ done _ _ refl refl k refl)
 
 -- the entries of no states
-pub no-entries : (minutes steps : List ℕ) → entriesIn minutes steps 0 ≡ []
+pub no-entries : (numbers : List ℕ) → entriesIn numbers 0 ≡ []
 unfolding entriesIn
-no-entries minutes steps = refl
+no-entries numbers = refl
 
--- the plan buffer after a refusal
-pub refused-plan : (r : Found) (o : Outcome) (states : ℕ) → r ≡ notFound o states → (o .number ≡ 0 → ⊥) → (new old : List ℕ) → old ≡ after (r .outcome) new old
-refused-plan r o states q d new old = sym (after-refused (r .outcome) new old (λ z. d (ap (λ (x : Found). x .outcome .number) (sym q) ∙ z)))
+-- the search of a task for whatever table of `room` entries, from what its parts came to
+module _ (t : Task) (original : List ℕ → List ℕ) (signer room : ℕ) (plan : List ℕ) where
+  abbrev found-is : Option (List ℕ)
+  found-is = Option·map original (firstPlan t)
 
-module _ (t : Task) (room : ℕ) where
-  pub early-table : (o : Outcome) → o ≡ statesFit t room → (o .number ≡ 0 → ⊥) → (r : Found) → r ≡ notFound o 0
-      → (minutes steps : List ℕ) → entriesIn minutes steps (r .states) ≡ cond (isDone (statesFit t room)) (tableOf t) []
-  early-table o e d r q minutes steps = rw (← e, is-refused o d) (ap (λ (x : Found). entriesIn minutes steps (x .states)) q ∙ no-entries minutes steps)
+  -- refused before the search: nothing is filled
+  pub search-early : (o : Outcome) → o ≡ statesFit t room → (o .number ≡ 0 → ⊥) → (r : Found) → r ≡ notFound 0 o
+      → (numbers : List ℕ) → SearchesRoom t original signer room plan r (entriesIn numbers (r .states)) plan
+  unfolding searchStages foundStates overwrite
+  search-early o e d r q numbers table len =
+      let is : o ≡ statesFit t (length table) = e ∙ ap (statesFit t) (sym len) in
+      let no : isDone (statesFit t (length table)) ≡ false = ap isDone (sym is) ∙ is-refused o d in
+      let empty : entriesIn numbers (r .states) ≡ [] = ap (λ (x : Found). entriesIn numbers (x .states)) q ∙ no-entries numbers in
+      by-stop no (q ∙ ap (notFound 0) is ∙ rw no refl) (ap (λ (l : List Entry). searchBuffers (overwrite table l) plan) empty)
 
-  fit : done ≡ statesFit t room → isDone (statesFit t room) ≡ true
-  unfolding isDone
-  fit e = ap isDone (sym e)
+  module _ (e : done ≡ statesFit t room) (numbers : List ℕ) (w : entriesIn numbers (stateCount (t .variables)) ≡ tableOf t) where
+    fit : (table : List Entry) → length table ≡ room → isDone (statesFit t (length table)) ≡ true
+    fit table len = is-yes _ (ap (statesFit t) len ∙ sym e)
 
-  pub full-table : done ≡ statesFit t room → (minutes steps : List ℕ) (states : ℕ) → states ≡ stateCount (t .variables)
-      → entriesIn minutes steps (stateCount (t .variables)) ≡ tableOf t → entriesIn minutes steps states ≡ cond (isDone (statesFit t room)) (tableOf t) []
-  full-table e minutes steps states s w = rw (fit e, s) w
+    table-is : (states : ℕ) → states ≡ stateCount (t .variables) → (table : List Entry) → overwrite table (entriesIn numbers states) ≡ overwrite table (tableOf t)
+    table-is states s table = ap (overwrite table) (ap (entriesIn numbers) s ∙ w)
 
-module _ (t : Task) (original : List ℕ → List ℕ) (signer room planRoom : ℕ) where
-  answer-refused : (r : Found) (o : Outcome) (states : ℕ) → o ≡ searchOutcome t original signer room planRoom → (o .number ≡ 0 → ⊥) → states ≡ foundStates t room
-      → r ≡ notFound o states → r ≡ foundAnswer t original signer room planRoom
-  unfolding foundAnswer
-  answer-refused r o states e d s q = rw (← e, is-refused o d, ← s) q
+    -- no plan, or no room for it: the table is filled
+    pub search-late : (o : Outcome) → o ≡ planFits found-is signer (length plan) → (o .number ≡ 0 → ⊥) → (states : ℕ) → states ≡ stateCount (t .variables) → (r : Found) → r ≡ notFound states o
+        → SearchesRoom t original signer room plan r (entriesIn numbers (r .states)) plan
+    unfolding searchStages foundStates
+    search-late o p d states s r q table len =
+        let no : isDone (planFits found-is signer (length plan)) ≡ false = ap isDone (sym p) ∙ is-refused o d in
+        let yes = fit table len in
+        by-next yes
+        (by-stop no (q ∙ ap₂ notFound s p ∙ rw yes refl) (ap (λ (l : List Entry). searchBuffers l plan) (table-is (r .states) (ap (λ (x : Found). x .states) q ∙ s) table)))
 
-  -- refused before the search
-  pub early-answer : (o : Outcome) → o ≡ statesFit t room → (o .number ≡ 0 → ⊥) → (r : Found) → r ≡ notFound o 0 → r ≡ foundAnswer t original signer room planRoom
-  unfolding searchOutcome foundStates
-  early-answer o e d r q =
-      let none-filled : 0 ≡ foundStates t room = rw (← e, is-refused o d) refl in
-      answer-refused r o 0 (stops (statesFit t room) _ o e d) d none-filled q
-
-  -- after the search
-  module _ (e : done ≡ statesFit t room) (o : Outcome) (p : o ≡ planFits (Option·map original (firstPlan t)) signer planRoom) where
-    states-are : stateCount (t .variables) ≡ foundStates t room
-    unfolding foundStates
-    states-are = rw (fit t room e) refl
-
-    outcome-is : o ≡ searchOutcome t original signer room planRoom
-    unfolding searchOutcome
-    outcome-is = goes-on (statesFit t room) _ o done e refl p
-
-    pub late-answer : (o .number ≡ 0 → ⊥) → (r : Found) (states : ℕ) → states ≡ stateCount (t .variables) → r ≡ notFound o states → r ≡ foundAnswer t original signer room planRoom
-    late-answer d r states s q = answer-refused r o states outcome-is d (s ∙ states-are) q
-
-    pub done-answer : o .number ≡ 0 → (states plan cost steps : ℕ) → states ≡ stateCount (t .variables) → plan ≡ length (planFile (original (foundPlan t)) signer)
-        → cost ≡ totalOf t (foundPlan t) .minutes → steps ≡ totalOf t (foundPlan t) .steps
-        → record { outcome = o; states = states; plan = plan; cost = record { 0 = cost }; steps = record { 0 = steps } } ≡ foundAnswer t original signer room planRoom
-    unfolding foundAnswer
-    done-answer z states plan cost steps s l m k =
-        rw (← outcome-is, is-done o z, ← states-are)
-        (λ i. record { outcome = o; states = s i; plan = l i; cost = record { 0 = m i }; steps = record { 0 = k i } })
+    -- the plan is written
+    pub search-done : done ≡ planFits found-is signer (length plan) → (o : Outcome) → o ≡ done → (states bytes cost fewest : ℕ) → states ≡ stateCount (t .variables)
+        → bytes ≡ length (planFile (original (foundPlan t)) signer) → cost ≡ totalOf t (foundPlan t) .minutes → fewest ≡ totalOf t (foundPlan t) .steps
+        → (now : List ℕ) → now ≡ overwrite plan (planFile (Option·getD found-is []) signer)
+        → SearchesRoom t original signer room plan (record { outcome = o; states = states; plan = bytes; cost = record { 0 = cost }; steps = record { 0 = fewest } }) (entriesIn numbers states) now
+    unfolding searchStages
+    search-done p o z states bytes cost fewest s l m k now q table len =
+        by-next (fit table len)
+        (by-next (is-yes _ (sym p))
+        (by-end
+        (λ i. record { outcome = z i; states = s i; plan = l i; cost = record { 0 = m i }; steps = record { 0 = k i } })
+        (ap₂ searchBuffers (table-is states s table) q)))
 
 pub plan-is : (t : Task) (plan : List ℕ) → firstPlan t ≡ some plan → foundPlan t ≡ plan
 unfolding foundPlan
@@ -138,19 +133,11 @@ module _ (t : Task) (valid : Valid t) (x : Total) (e : getD (distances t) (start
   read-length origin signer needed n =
       read-needed origin signer needed n ∙ ap (λ (p : List ℕ). length (planFile (byOriginFile origin p) signer)) (sym (plan-is t (stepsRead t) read-plan))
 
-pub plan-written : (t : Task) (origin : List ℕ) (signer : ℕ) (o : Outcome) (old new : List ℕ) → o .number ≡ 0
-    → new ≡ overwrite old (planFile (byOriginFile origin (Option·getD (firstPlan t) [])) signer) → new ≡ after o (planFile (byOriginFile origin (foundPlan t)) signer) old
-unfolding foundPlan
-plan-written t origin signer o old new z e = e ∙ sym (after-done o _ old z)
+-- the plan by other numbers, where there is one
+pub plan-made : (t : Task) (plan : List ℕ) (original : List ℕ → List ℕ) → firstPlan t ≡ some plan → Option·getD (Option·map original (firstPlan t)) [] ≡ original (Option·getD (firstPlan t) [])
+plan-made t plan original e = rw e refl
 
 -- the same of the same task
-module _ (h t : Task) (is : h ≡ t) where
-  pub answer-alike : (original : List ℕ → List ℕ) (signer room planRoom : ℕ) (r : Found) → r ≡ foundAnswer h original signer room planRoom → r ≡ foundAnswer t original signer room planRoom
-  answer-alike original signer room planRoom r e = e ∙ ap (λ (x : Task). foundAnswer x original signer room planRoom) is
-
-  pub table-alike : (room : ℕ) (l : List Entry) → l ≡ cond (isDone (statesFit h room)) (tableOf h) [] → l ≡ cond (isDone (statesFit t room)) (tableOf t) []
-  table-alike room l e = e ∙ ap (λ (x : Task). cond (isDone (statesFit x room)) (tableOf x) []) is
-
-  pub plan-alike : (origin : List ℕ) (signer : ℕ) (o : Outcome) (old new : List ℕ) → new ≡ after o (planFile (byOriginFile origin (foundPlan h)) signer) old
-      → new ≡ after o (planFile (byOriginFile origin (foundPlan t)) signer) old
-  plan-alike origin signer o old new e = e ∙ ap (λ (x : Task). after o (planFile (byOriginFile origin (foundPlan x)) signer) old) is
+pub searches-alike : (h t : Task) → h ≡ t → (original : List ℕ → List ℕ) (signer room : ℕ) (plan : List ℕ) (r : Found) (entries : List Entry) (now : List ℕ)
+    → SearchesRoom h original signer room plan r entries now → SearchesRoom t original signer room plan r entries now
+searches-alike h t is original signer room plan r entries now k = subst (λ (x : Task). SearchesRoom x original signer room plan r entries now) is k

@@ -15,7 +15,7 @@ use Rattle.plans.specs.Tally.{listState}
 use Rattle.files.proofs.HeldTask.{held-action, variables-held, actions-held, size-held, start-held, cost-held, condition-valid, effect-valid}
 use Rattle.search.specs.States.{stateCount, stateNumber}
 use Rattle.search.specs.FirstPlan.{startNumber}
-use Rattle.search.specs.Columns.{rowVariables, rowStates, Searchable}
+use Rattle.search.specs.Rows.{rowVariables, rowStates, Searchable}
 use Rattle.search.proofs.RowNumbers.{states-count}
 
 pub number-same : (vs : List Variable) (s r : State) → ((v : ℕ) → v < length vs → s v ≡ r v) → stateNumber vs s ≡ stateNumber vs r

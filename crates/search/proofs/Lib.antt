@@ -4,13 +4,13 @@ pub mod Computes
 pub mod Settled
 pub mod Radix
 pub mod DistanceLaws
+pub mod EntryLaws
 pub mod Distances
 pub mod ReadOff
 pub mod LeastPlans
 pub mod TableEntries
 pub mod FoundLaws
 pub mod StageLaws
-pub mod ColumnLaws
 pub mod RowNumbers
 pub mod RowSteps
 pub mod StateLoops
@@ -26,9 +26,8 @@ pub mod Blocks
 pub mod Begun
 pub mod Searching
 pub mod Hand
-pub mod Entries
+pub mod EntrySlices
 pub mod TableFilling
-pub mod EntryDistances
 pub mod FirstPlanLaws
 pub mod PlanWriting
 pub mod Answers

@@ -1,20 +1,20 @@
 -- An action offers an entry to the states from which it leads to a state; the loop over the actions.
 use Prim.Native.Nat.{ℕ, _+_, _*_, _≤_, _<_}
-use mathlib.Core.Path.{_≡_, refl, sym, ap, ap₂, _∙_}
+use mathlib.Core.Path.{_≡_, refl, sym, ap, ap₂, subst, _∙_}
 use mathlib.Core.Bool.{Bool, true, false, cond, _&&_}
 use mathlib.Core.List.{List, []}
 use native.Mathlib.Omega.{arith}
 use native.Mathlib.Numerals.{add-one}
 use lib.ListN.{length, getD}
+use Rattle.files.specs.Task.{Action}
 use Rattle.files.specs.Dense.{rowAction}
-use Rattle.plans.specs.Plan.{addStep}
 use Rattle.plans.specs.State.{State}
 use Rattle.search.specs.States.{stateAt}
-use Rattle.search.specs.Table.{entry}
-use Rattle.search.specs.Columns.{entryIn, lowered, afterStep, leadsTo, offered, rowVariables, rowStates, rowWeight, rowState, canReach, differsOnly, StepRow, Searchable}
+use Rattle.search.specs.Entries.{lowered, afterStep, Low, StepOn, Holds, entryIn}
+use Rattle.search.specs.Rows.{leadsTo, offered, rowVariables, rowStates, rowWeight, rowState, canReach, differsOnly, StepRow, Searchable, Offered, leadsFrom, CanSettle}
 use Rattle.search.specs.declared.Entry.{Entry}
 use Rattle.search.proofs.Predecessors.{reached-set, leads-is}
-use Rattle.search.proofs.OfferLoops.{Offered, offered-alike, offered-none}
+use Rattle.search.proofs.OfferLoops.{offered-alike, offered-none}
 
 -- a step that can reach values that are a state's can reach the state
 pub reached-is : (conditions effects : List ℕ) (base n : ℕ) (values s : State) (reached : Bool) → reached ≡ canReach conditions effects base n values → values ≡ s → reached ≡ canReach conditions effects base n s
@@ -34,62 +34,52 @@ module _ (sizes weights conditions effects : List ℕ) (n a x : ℕ) (row : Step
   unfolding leads rowAction
   leads-test s = leads-is sizes conditions effects n (64 * a) (row .size-least) (row .effect-inside) (rowAction n costs conditions effects a) refl refl starts s x below
 
-  module _ (e : Entry) (minutes₀ steps₀ : List ℕ) (reached : Bool) (is : reached ≡ canReach conditions effects (64 * a) n (rowState n sizes x)) where
-    pub action-offers : (minutes steps : List ℕ) → reached ≡ true
-        → Offered (λ s. differsOnly conditions effects (64 * a) n 0 (rowState n sizes x) (rowState n sizes s)) (rowStates n sizes) e minutes₀ steps₀ minutes steps
-        → Offered (λ s. leadsTo (rowVariables n sizes starts) (rowAction n costs conditions effects a) s x) (rowStates n sizes) e minutes₀ steps₀ minutes steps
+  module _ (e : Entry) (entries₀ : List ℕ) (reached : Bool) (is : reached ≡ canReach conditions effects (64 * a) n (rowState n sizes x)) where
+    pub action-offers : (entries : List ℕ) → reached ≡ true
+        → Offered (λ s. differsOnly conditions effects (64 * a) n 0 (rowState n sizes x) (rowState n sizes s)) (rowStates n sizes) e entries₀ entries
+        → Offered (λ s. leadsTo (rowVariables n sizes starts) (rowAction n costs conditions effects a) s x) (rowStates n sizes) e entries₀ entries
     unfolding leads
-    action-offers minutes steps t =
-        offered-alike (rowStates n sizes) e (λ s. differsOnly conditions effects (64 * a) n 0 (rowState n sizes x) (rowState n sizes s)) leads minutes₀ steps₀ minutes steps
+    action-offers entries t =
+        offered-alike (rowStates n sizes) e (λ s. differsOnly conditions effects (64 * a) n 0 (rowState n sizes x) (rowState n sizes s)) leads entries₀ entries
         (λ s l. sym (leads-test s ∙ ap (λ (b : Bool). b && differsOnly conditions effects (64 * a) n 0 (rowState n sizes x) (rowState n sizes s)) (sym is ∙ t)))
 
     pub action-offers-none : reached ≡ false
-        → Offered (λ s. leadsTo (rowVariables n sizes starts) (rowAction n costs conditions effects a) s x) (rowStates n sizes) e minutes₀ steps₀ minutes₀ steps₀
+        → Offered (λ s. leadsTo (rowVariables n sizes starts) (rowAction n costs conditions effects a) s x) (rowStates n sizes) e entries₀ entries₀
     unfolding leads
     action-offers-none t =
-        offered-none (rowStates n sizes) e leads minutes₀ steps₀
+        offered-none (rowStates n sizes) e leads entries₀
         (λ s l. leads-test s ∙ ap (λ (b : Bool). b && differsOnly conditions effects (64 * a) n 0 (rowState n sizes x) (rowState n sizes s)) (sym is ∙ t))
 
 -- the loop over the actions
-module _ (sizes weights costs conditions effects : List ℕ) (n actions x : ℕ) (minutes₀ steps₀ : List ℕ) where
+module _ (sizes weights costs conditions effects : List ℕ) (n actions x : ℕ) (entries₀ : List ℕ) where
   abbrev pub offeredBy : List ℕ → ℕ → ℕ → Entry
-  offeredBy starts s a = offered (rowVariables n sizes starts) (rowAction n costs conditions effects) x (entryIn minutes₀ steps₀ x) s (entryIn minutes₀ steps₀ s) a
+  offeredBy starts s a = offered (rowVariables n sizes starts) (rowAction n costs conditions effects) x (entryIn entries₀ x) s (entryIn entries₀ s) a
 
-  pub record Actions (cost count : ℕ) (minutes steps : List ℕ) (a : ℕ) : Type 0 where
+  pub record Actions (entries : List ℕ) (a : ℕ) : Type 0 where
     pub asked : Searchable n actions sizes costs conditions effects
     pub weights-are : (v : ℕ) → v < n → getD weights v 0 ≡ rowWeight sizes v
     pub below : x < rowStates n sizes
-    pub cost-is : cost ≡ getD minutes₀ x 0
-    pub cost-few : cost < 18446744073000000000
-    pub count-is : count ≡ getD steps₀ x 0 + 1
-    pub minutes-long : rowStates n sizes ≤ length minutes₀
-    pub steps-long : rowStates n sizes ≤ length steps₀
-    pub minutes-same : length minutes ≡ length minutes₀
-    pub steps-same : length steps ≡ length steps₀
+    pub low : Low (entryIn entries₀ x)
+    pub room : Holds entries₀ (rowStates n sizes)
+    pub same : length entries ≡ length entries₀
     pub within : a ≤ actions
-    pub entries : (starts : List ℕ) (s : ℕ) → s < rowStates n sizes → entryIn minutes steps s ≡ offeredBy starts s a
+    pub offers : (starts : List ℕ) (s : ℕ) → s < rowStates n sizes → entryIn entries s ≡ offeredBy starts s a
 
-  pub actions-begin : (cost count : ℕ) → Searchable n actions sizes costs conditions effects → rowStates n sizes ≤ length minutes₀ → rowStates n sizes ≤ length steps₀
-      → ((v : ℕ) → v < n → getD weights v 0 ≡ rowWeight sizes v) → x < rowStates n sizes → cost ≡ getD minutes₀ x 0 → cost < 18446744073000000000 → count ≡ getD steps₀ x 0 + 1
-      → Actions cost count minutes₀ steps₀ 0
+  pub actions-begin : (changed : List ℕ) → CanSettle n actions x sizes weights costs conditions effects entries₀ changed → Actions entries₀ 0
   unfolding offered
-  actions-begin cost count asked a b ws h c few k =
+  actions-begin changed h =
       record {
-        asked = asked;
-        weights-are = ws;
-        below = h;
-        cost-is = c;
-        cost-few = few;
-        count-is = k;
-        minutes-long = a;
-        steps-long = b;
-        minutes-same = refl;
-        steps-same = refl;
+        asked = h .asked;
+        weights-are = h .weights-are;
+        below = h .below;
+        low = h .low;
+        room = h .room;
+        same = refl;
         within = omega arith;
-        entries = λ starts s l. refl;
+        offers = λ starts s l. refl;
       }
 
-  module _ (cost count : ℕ) (minutes steps : List ℕ) (a : ℕ) (t : Actions cost count minutes steps a) where
+  module _ (entries : List ℕ) (a : ℕ) (t : Actions entries a) where
     pub action-row : a < actions → StepRow n (64 * a) sizes weights conditions effects
     action-row h =
         record {
@@ -102,40 +92,39 @@ module _ (sizes weights costs conditions effects : List ℕ) (n actions x : ℕ)
           weight = t .weights-are;
         }
 
-    pub price-few : a < actions → getD costs a 0 ≤ 1000000
-    price-few h = t .asked .cost-most a h
+    -- the next action
+    row-cost : rowAction n costs conditions effects a .cost ≡ getD costs a 0
+    unfolding rowAction
+    row-cost = refl
+
+    pub step-on : (e : Entry) (cost : ℕ) → a < actions → e ≡ entryIn entries₀ x → cost ≡ getD costs a 0 → StepOn e cost
+    step-on e cost h is c = record { low = subst Low (sym is) (t .low); cost-most = omega (arith, c, t .asked .cost-most a h) }
 
     pub state-values : (values : State) → ((starts : List ℕ) → values ≡ stateAt (rowVariables n sizes starts) x) → values ≡ rowState n sizes x
     unfolding rowState
     state-values values h = h []
 
-    step-entry : (price : ℕ) → price ≡ getD costs a 0 → entry (cost + price) count ≡ afterStep (rowAction n costs conditions effects a) (entryIn minutes₀ steps₀ x)
-    unfolding afterStep addStep rowAction
-    step-entry price e = ap₂ entry (let sum : cost + price ≡ getD costs a 0 + getD minutes₀ x 0 = omega (arith, t .cost-is) in sum) (t .count-is)
-
-    pub actions-next : (price : ℕ) (minutes′ steps′ : List ℕ) → a < actions → price ≡ getD costs a 0 → length minutes′ ≡ length minutes → length steps′ ≡ length steps
-        → ((starts costs′ : List ℕ) → Offered (λ s. leadsTo (rowVariables n sizes starts) (rowAction n costs′ conditions effects a) s x) (rowStates n sizes) (entry (cost + price) count) minutes steps minutes′ steps′)
-        → Actions cost count minutes′ steps′ (a + 1)
+    pub actions-next : (e new : Entry) (entries′ : List ℕ) → e ≡ entryIn entries₀ x → ((b : Action) → b .cost ≡ getD costs a 0 → new ≡ afterStep b e) → a < actions → length entries′ ≡ length entries
+        → ((starts costs′ : List ℕ) → Offered (leadsFrom starts costs′ sizes conditions effects n a x) (rowStates n sizes) new entries entries′)
+        → Actions entries′ (a + 1)
     unfolding offered
-    actions-next price minutes′ steps′ h p lm lk o =
+    actions-next e new entries′ is stepped h same o =
         record {
           asked = t .asked;
           weights-are = t .weights-are;
           below = t .below;
-          cost-is = t .cost-is;
-          cost-few = t .cost-few;
-          count-is = t .count-is;
-          minutes-long = t .minutes-long;
-          steps-long = t .steps-long;
-          minutes-same = lm ∙ t .minutes-same;
-          steps-same = lk ∙ t .steps-same;
+          low = t .low;
+          room = t .room;
+          same = same ∙ t .same;
           within = omega arith;
-          entries =
+          offers =
               λ starts s l.
+              let step : new ≡ afterStep (rowAction n costs conditions effects a) (entryIn entries₀ x) =
+              stepped (rowAction n costs conditions effects a) row-cost ∙ ap (afterStep (rowAction n costs conditions effects a)) is in
               o starts costs s l
-              ∙ ap₂ (λ (e old : Entry). cond (leadsTo (rowVariables n sizes starts) (rowAction n costs conditions effects a) s x) (lowered e old) old) (step-entry price p) (t .entries starts s l)
+              ∙ ap₂ (λ (y old : Entry). cond (leadsTo (rowVariables n sizes starts) (rowAction n costs conditions effects a) s x) (lowered y old) old) step (t .offers starts s l)
               ∙ ap (offeredBy starts s) (sym (add-one a));
         }
 
-    pub actions-end : actions ≤ a → (starts : List ℕ) (s : ℕ) → s < rowStates n sizes → entryIn minutes steps s ≡ offeredBy starts s actions
-    actions-end h starts s l = let is : a ≡ actions = omega (arith, t .within) in t .entries starts s l ∙ ap (offeredBy starts s) is
+    pub actions-end : actions ≤ a → (starts : List ℕ) (s : ℕ) → s < rowStates n sizes → entryIn entries s ≡ offeredBy starts s actions
+    actions-end h starts s l = let is : a ≡ actions = omega (arith, t .within) in t .offers starts s l ∙ ap (offeredBy starts s) is

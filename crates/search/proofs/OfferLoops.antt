@@ -11,41 +11,37 @@ use Rattle.files.proofs.Logic.{clash, split, split-le, and-split, and-join}
 use Rattle.plans.specs.State.{State}
 use Rattle.plans.specs.Tally.{meetsCell}
 use Rattle.files.proofs.Truth.{same-truth}
-use Rattle.search.specs.Columns.{entryIn, lowered, rowStates, rowWeight, rowState, differsOnly, StepRow}
+use Rattle.search.specs.Entries.{lowered, Holds, entryIn}
+use Rattle.search.specs.Rows.{rowStates, rowWeight, rowState, differsOnly, StepRow, Spanned, NextEffect, Offered, OfferFrom}
 use Rattle.search.specs.declared.Entry.{Entry}
 use Rattle.search.proofs.RowNumbers.{weight-most}
 use Rattle.search.proofs.OneChange.{changed, changed-here, changed-other, state-inside, same-number, value-least, change-below, change-state}
-use Rattle.search.proofs.Predecessors.{Spanned, only-early, only-left, only-effect, differs-only}
-
--- columns after an entry was offered to the states that pass a test
-abbrev pub Offered : (ℕ → Bool) → ℕ → Entry → List ℕ → List ℕ → List ℕ → List ℕ → Type 0
-Offered f count e minutes₀ steps₀ minutes steps =
-    (s : ℕ) → s < count → entryIn minutes steps s ≡ cond (f s) (lowered e (entryIn minutes₀ steps₀ s)) (entryIn minutes₀ steps₀ s)
+use Rattle.search.proofs.Predecessors.{only-early, only-left, only-effect, differs-only}
 
 module _ (count : ℕ) (e : Entry) where
-  pub offered-alike : (f g : ℕ → Bool) (minutes₀ steps₀ minutes steps : List ℕ) → ((s : ℕ) → s < count → f s ≡ g s)
-      → Offered f count e minutes₀ steps₀ minutes steps → Offered g count e minutes₀ steps₀ minutes steps
-  offered-alike f g minutes₀ steps₀ minutes steps h o s l = o s l ∙ ap (λ (b : Bool). cond b (lowered e (entryIn minutes₀ steps₀ s)) (entryIn minutes₀ steps₀ s)) (h s l)
+  pub offered-alike : (f g : ℕ → Bool) (entries₀ entries : List ℕ) → ((s : ℕ) → s < count → f s ≡ g s)
+      → Offered f count e entries₀ entries → Offered g count e entries₀ entries
+  offered-alike f g entries₀ entries h o s l = o s l ∙ ap (λ (b : Bool). cond b (lowered e (entryIn entries₀ s)) (entryIn entries₀ s)) (h s l)
 
-  pub offered-none : (f : ℕ → Bool) (minutes steps : List ℕ) → ((s : ℕ) → s < count → f s ≡ false) → Offered f count e minutes steps minutes steps
-  offered-none f minutes steps h s l = sym (ap (λ (b : Bool). cond b (lowered e (entryIn minutes steps s)) (entryIn minutes steps s)) (h s l))
+  pub offered-none : (f : ℕ → Bool) (entries : List ℕ) → ((s : ℕ) → s < count → f s ≡ false) → Offered f count e entries entries
+  offered-none f entries h s l = sym (ap (λ (b : Bool). cond b (lowered e (entryIn entries s)) (entryIn entries s)) (h s l))
 
   -- a second offer to states that the first left out
-  pub offered-more : (f g k : ℕ → Bool) (minutes₀ steps₀ minutes steps minutes′ steps′ : List ℕ)
+  pub offered-more : (f g k : ℕ → Bool) (entries₀ entries entries′ : List ℕ)
       → ((s : ℕ) → s < count → g s ≡ true → (f s ≡ false) × (k s ≡ true)) → ((s : ℕ) → s < count → g s ≡ false → k s ≡ f s)
-      → Offered f count e minutes₀ steps₀ minutes steps → Offered g count e minutes steps minutes′ steps′ → Offered k count e minutes₀ steps₀ minutes′ steps′
-  offered-more f g k minutes₀ steps₀ minutes steps minutes′ steps′ newly rest o p s l =
-      let old : Entry = entryIn minutes₀ steps₀ s in
+      → Offered f count e entries₀ entries → Offered g count e entries entries′ → Offered k count e entries₀ entries′
+  offered-more f g k entries₀ entries entries′ newly rest o p s l =
+      let old : Entry = entryIn entries₀ s in
       split (g s)
       (λ b.
-      let first : entryIn minutes steps s ≡ old = o s l ∙ ap (λ (t : Bool). cond t (lowered e old) old) (newly s l b .0) in
+      let first : entryIn entries s ≡ old = o s l ∙ ap (λ (t : Bool). cond t (lowered e old) old) (newly s l b .0) in
       p s l
-      ∙ ap (λ (t : Bool). cond t (lowered e (entryIn minutes steps s)) (entryIn minutes steps s)) b
+      ∙ ap (λ (t : Bool). cond t (lowered e (entryIn entries s)) (entryIn entries s)) b
       ∙ ap (lowered e) first
       ∙ sym (ap (λ (t : Bool). cond t (lowered e old) old) (newly s l b .1)))
       (λ b.
       p s l
-      ∙ ap (λ (t : Bool). cond t (lowered e (entryIn minutes steps s)) (entryIn minutes steps s)) b
+      ∙ ap (λ (t : Bool). cond t (lowered e (entryIn entries s)) (entryIn entries s)) b
       ∙ o s l
       ∙ sym (ap (λ (t : Bool). cond t (lowered e old) old) (rest s l b)))
 
@@ -88,8 +84,9 @@ module _ (sizes weights conditions effects : List ℕ) (base n from number : ℕ
     pub rest-is : rest ≡ number - weight * getD effects (base + v) 0
     pub span : Spanned (getD conditions (base + v) 0) (getD sizes v 0) low high
 
-  pub found : (v : ℕ) → StepRow n base sizes weights conditions effects → number < rowStates n sizes → EffectsSet → from ≤ v → NoneBetween v → (v < n → getD effects (base + v) 0 ≡ 255 → ⊥) → v < n → Found v
-  found v row below set first between there last = record { row = row; below = below; set = set; first = first; last = last; between = between; there = there last }
+  pub found : (v : ℕ) (entries changed : List ℕ) → OfferFrom n base from number sizes weights conditions effects entries changed → NextEffect effects n base from v → v < n → Found v
+  found v entries changed asked next last =
+      record { row = asked .row; below = asked .below; set = asked .set; first = next .first; last = last; between = next .between; there = next .there last }
 
   pub walk : (v weight effect condition size low high : ℕ) → Found v → weight ≡ getD weights v 0 → effect ≡ getD effects (base + v) 0 → condition ≡ getD conditions (base + v) 0 → size ≡ getD sizes v 0
       → Spanned condition size low high → Walk v weight (number - weight * effect) low high
@@ -114,14 +111,12 @@ module _ (sizes weights conditions effects : List ℕ) (base n from number : ℕ
   upTo v low z s = (leb low (rowState n sizes s v) && ltb (rowState n sizes s v) z) && withValue v (rowState n sizes s v) s
 
   -- the loop over the values
-  pub record Turns (v low high : ℕ) (e : Entry) (minutes₀ steps₀ minutes steps : List ℕ) (z : ℕ) : Type 0 where
-    pub minutes-long : rowStates n sizes ≤ length minutes₀
-    pub steps-long : rowStates n sizes ≤ length steps₀
-    pub minutes-same : length minutes ≡ length minutes₀
-    pub steps-same : length steps ≡ length steps₀
+  pub record Turns (v low high : ℕ) (e : Entry) (entries₀ entries : List ℕ) (z : ℕ) : Type 0 where
+    pub room : Holds entries₀ (rowStates n sizes)
+    pub same : length entries ≡ length entries₀
     pub least : low ≤ z
     pub most : z ≤ high
-    pub entries : Offered (upTo v low z) (rowStates n sizes) e minutes₀ steps₀ minutes steps
+    pub offers : Offered (upTo v low z) (rowStates n sizes) e entries₀ entries
 
   module _ (v weight rest low high : ℕ) (w : Walk v weight rest low high) where
     f : Found v
@@ -129,7 +124,7 @@ module _ (sizes weights conditions effects : List ℕ) (base n from number : ℕ
 
     module _ (z : ℕ) (inside : z < high) where
       value-inside : z < getD sizes v 0
-      value-inside = omega (arith, w .span .1)
+      value-inside = omega (arith, w .span .inside)
 
       next-is : rest + weight * z ≡ number - rowWeight sizes v * rowState n sizes number v + rowWeight sizes v * z
       next-is =
@@ -216,7 +211,7 @@ module _ (sizes weights conditions effects : List ℕ) (base n from number : ℕ
         same-truth (upTo v low high s) (before s)
         (λ e.
         let both = and-split (leb low y && ltb y high) (withValue v y s) e in
-        let met : meetsCell (getD conditions (base + v) 0) y ≡ true = w .span .2 y within ∙ both .0 in
+        let met : meetsCell (getD conditions (base + v) 0) y ≡ true = w .span .values y within ∙ both .0 in
         let plain : (u : ℕ) → (u ≡ v → ⊥) → r u ≡ h u → r u ≡ g u = λ u d q. q ∙ changed-other g v y u d in
         differs-only conditions effects base n from g r
         (λ u l k. plain u (λ q. omega (arith, f .first)) (only-early conditions effects base n (v + 1) h r (both .1) u l (omega (arith, f .first))))
@@ -236,7 +231,7 @@ module _ (sizes weights conditions effects : List ℕ) (base n from number : ℕ
         (λ k. let is : u ≡ v = eqb-true u v k in rw is (sym (changed-here g v y)))
         (λ k. q ∙ sym (changed-other g v y u (eqb-false u v k))) in
         and-join
-        (sym (w .span .2 y within) ∙ met)
+        (sym (w .span .values y within) ∙ met)
         (differs-only conditions effects base n (v + 1) h r
         (λ u l k.
         split-le v u
@@ -248,43 +243,39 @@ module _ (sizes weights conditions effects : List ℕ) (base n from number : ℕ
         (λ u l d. plain u l (only-left conditions effects base n from g r e u l d))
         (λ u l k d. only-effect conditions effects base n from g r e u l (omega (arith, f .first)) d)))
 
-    module _ (e : Entry) (minutes₀ steps₀ : List ℕ) where
-      pub turns-begin : rowStates n sizes ≤ length minutes₀ → rowStates n sizes ≤ length steps₀ → Turns v low high e minutes₀ steps₀ minutes₀ steps₀ low
-      turns-begin a b =
+    module _ (e : Entry) (entries₀ : List ℕ) where
+      pub turns-begin : Holds entries₀ (rowStates n sizes) → Turns v low high e entries₀ entries₀ low
+      turns-begin a =
           record {
-            minutes-long = a;
-            steps-long = b;
-            minutes-same = refl;
-            steps-same = refl;
+            room = a;
+            same = refl;
             least = omega arith;
-            most = w .span .0;
-            entries = offered-none (rowStates n sizes) e (upTo v low low) minutes₀ steps₀ (λ s l. upTo-begin s);
+            most = w .span .order;
+            offers = offered-none (rowStates n sizes) e (upTo v low low) entries₀ (λ s l. upTo-begin s);
           }
 
-      pub turns-next : (minutes steps minutes′ steps′ : List ℕ) (z : ℕ) → Turns v low high e minutes₀ steps₀ minutes steps z → z < high
-          → length minutes′ ≡ length minutes → length steps′ ≡ length steps
-          → Offered (λ s. differsOnly conditions effects base n (v + 1) (rowState n sizes (rest + weight * z)) (rowState n sizes s)) (rowStates n sizes) e minutes steps minutes′ steps′
-          → Turns v low high e minutes₀ steps₀ minutes′ steps′ (z + 1)
-      turns-next minutes steps minutes′ steps′ z t h a b o =
+      pub turns-next : (entries entries′ : List ℕ) (z : ℕ) → Turns v low high e entries₀ entries z → z < high
+          → length entries′ ≡ length entries
+          → Offered (λ s. differsOnly conditions effects base n (v + 1) (rowState n sizes (rest + weight * z)) (rowState n sizes s)) (rowStates n sizes) e entries entries′
+          → Turns v low high e entries₀ entries′ (z + 1)
+      turns-next entries entries′ z t h a o =
           record {
-            minutes-long = t .minutes-long;
-            steps-long = t .steps-long;
-            minutes-same = a ∙ t .minutes-same;
-            steps-same = b ∙ t .steps-same;
+            room = t .room;
+            same = a ∙ t .same;
             least = omega (arith, t .least);
             most = omega arith;
-            entries =
-                offered-more (rowStates n sizes) e (upTo v low z) (withValue v z) (upTo v low (z + 1)) minutes₀ steps₀ minutes steps minutes′ steps′
+            offers =
+                offered-more (rowStates n sizes) e (upTo v low z) (withValue v z) (upTo v low (z + 1)) entries₀ entries entries′
                 (λ s l q. upTo-here z s (t .least) q)
                 (λ s l q. upTo-past z s q)
-                (t .entries)
-                (λ s l. o s l ∙ ap (λ (q : Bool). cond q (lowered e (entryIn minutes steps s)) (entryIn minutes steps s)) (next-test z h s));
+                (t .offers)
+                (λ s l. o s l ∙ ap (λ (q : Bool). cond q (lowered e (entryIn entries s)) (entryIn entries s)) (next-test z h s));
           }
 
-      pub turns-end : (minutes steps : List ℕ) (z : ℕ) → Turns v low high e minutes₀ steps₀ minutes steps z → high ≤ z → Offered before (rowStates n sizes) e minutes₀ steps₀ minutes steps
-      turns-end minutes steps z t h =
+      pub turns-end : (entries : List ℕ) (z : ℕ) → Turns v low high e entries₀ entries z → high ≤ z → Offered before (rowStates n sizes) e entries₀ entries
+      turns-end entries z t h =
           let is : z ≡ high = omega (arith, t .most) in
-          offered-alike (rowStates n sizes) e (upTo v low z) before minutes₀ steps₀ minutes steps (λ s l. ap (λ (k : ℕ). upTo v low k s) is ∙ upTo-end s) (t .entries)
+          offered-alike (rowStates n sizes) e (upTo v low z) before entries₀ entries (λ s l. ap (λ (k : ℕ). upTo v low k s) is ∙ upTo-end s) (t .offers)
 
   -- no variable is left that the effects set
   module _ (v : ℕ) (row : StepRow n base sizes weights conditions effects) (below : number < rowStates n sizes) (between : NoneBetween v) (past : n ≤ v) where
@@ -305,8 +296,8 @@ module _ (sizes weights conditions effects : List ℕ) (base n from number : ℕ
         (λ b. only-left conditions effects base n from g r e u a (between u b (omega arith)))
         (λ b. only-early conditions effects base n from g r e u a b))))
 
-    pub offer-last : (e : Entry) (minutes₀ steps₀ minutes steps : List ℕ)
-        → ((s : ℕ) → entryIn minutes steps s ≡ cond (eqb s number) (lowered e (entryIn minutes₀ steps₀ s)) (entryIn minutes₀ steps₀ s))
-        → Offered before (rowStates n sizes) e minutes₀ steps₀ minutes steps
-    offer-last e minutes₀ steps₀ minutes steps o =
-        offered-alike (rowStates n sizes) e (λ s. eqb s number) before minutes₀ steps₀ minutes steps last-test (λ s l. o s)
+    pub offer-last : (e : Entry) (entries₀ entries : List ℕ)
+        → Offered (λ s. eqb s number) (rowStates n sizes) e entries₀ entries
+        → Offered before (rowStates n sizes) e entries₀ entries
+    offer-last e entries₀ entries o =
+        offered-alike (rowStates n sizes) e (λ s. eqb s number) before entries₀ entries last-test o

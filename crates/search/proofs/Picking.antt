@@ -6,12 +6,12 @@ use mathlib.Core.List.{List}
 use native.Mathlib.Omega.{arith}
 use lib.ListN.{getD}
 use Rattle.files.proofs.Logic.{split-le}
-use Rattle.search.specs.Columns.{entryIn, lessEntry}
+use Rattle.search.specs.Entries.{isNone, lessEntry, entryIn}
 use Rattle.search.specs.Settling.{Picked}
-use Rattle.search.proofs.Offering.{top, lessEntry-self, lessEntry-below, lessEntry-trans}
+use Rattle.search.proofs.EntryLaws.{lessEntry-self, lessEntry-below, lessEntry-trans}
 
-module _ (minutes steps settled : List ℕ) (count : ℕ) where
-  pub pick-none : (from : ℕ) → Picked minutes steps settled count from from count
+module _ (entries settled : List ℕ) (count : ℕ) where
+  pub pick-none : (from : ℕ) → Picked entries settled count from from count
   pick-none from =
       record {
         range = omega arith;
@@ -23,19 +23,19 @@ module _ (minutes steps settled : List ℕ) (count : ℕ) where
       }
 
   -- an open state with an entry, alone
-  pub pick-one : (s : ℕ) → s < count → getD settled s 0 ≡ 0 → getD minutes s 0 < top → Picked minutes steps settled count s (s + 1) s
+  pub pick-one : (s : ℕ) → s < count → getD settled s 0 ≡ 0 → isNone (entryIn entries s) ≡ false → Picked entries settled count s (s + 1) s
   pick-one s h o m =
       record {
         range = omega arith;
         inside = λ _. (omega arith, omega arith);
         unsettled = λ _. o;
         has-entry = λ _. m;
-        least = λ _ r a l c z w. let same : r ≡ s = omega arith in subst (λ (i : ℕ). lessEntry (entryIn minutes steps i) (entryIn minutes steps s) ≡ false) (sym same) (lessEntry-self (entryIn minutes steps s));
+        least = λ _ r a l c z w. let same : r ≡ s = omega arith in subst (λ (i : ℕ). lessEntry (entryIn entries i) (entryIn entries s) ≡ false) (sym same) (lessEntry-self (entryIn entries s));
         none-left = λ q. absurd (omega arith);
       }
 
   -- a state that is settled or has no entry, alone
-  pub pick-not : (s : ℕ) → (getD settled s 0 ≡ 0 → getD minutes s 0 < top → ⊥) → Picked minutes steps settled count s (s + 1) count
+  pub pick-not : (s : ℕ) → (getD settled s 0 ≡ 0 → isNone (entryIn entries s) ≡ false → ⊥) → Picked entries settled count s (s + 1) count
   pick-not s f =
       record {
         range = omega arith;
@@ -43,11 +43,11 @@ module _ (minutes steps settled : List ℕ) (count : ℕ) where
         unsettled = λ h. absurd (omega arith);
         has-entry = λ h. absurd (omega arith);
         least = λ h. absurd (omega arith);
-        none-left = λ e r a l c z w. let same : r ≡ s = omega arith in f (subst (λ (i : ℕ). getD settled i 0 ≡ 0) same z) (subst (λ (i : ℕ). getD minutes i 0 < top) same w);
+        none-left = λ e r a l c z w. let same : r ≡ s = omega arith in f (subst (λ (i : ℕ). getD settled i 0 ≡ 0) same z) (subst (λ (i : ℕ). isNone (entryIn entries i) ≡ false) same w);
       }
 
   -- states behind the last change nothing
-  pub pick-to : (from limit more best : ℕ) → limit ≤ more → (limit < more → count ≤ limit) → Picked minutes steps settled count from limit best → Picked minutes steps settled count from more best
+  pub pick-to : (from limit more best : ℕ) → limit ≤ more → (limit < more → count ≤ limit) → Picked entries settled count from limit best → Picked entries settled count from more best
   pick-to from limit more best h k p =
       record {
         range = p .range;
@@ -61,7 +61,7 @@ module _ (minutes steps settled : List ℕ) (count : ℕ) where
       below : (s : ℕ) → s < more → s < count → s < limit
       below s b c = split-le more limit (λ m. omega arith) (λ m. omega (arith, k m))
 
-  pub pick-all : (limit best : ℕ) → count ≤ limit → Picked minutes steps settled count 0 limit best → Picked minutes steps settled count 0 count best
+  pub pick-all : (limit best : ℕ) → count ≤ limit → Picked entries settled count 0 limit best → Picked entries settled count 0 count best
   pick-all limit best h p =
       record {
         range = p .range;
@@ -72,12 +72,12 @@ module _ (minutes steps settled : List ℕ) (count : ℕ) where
         none-left = λ e s a b c z w. p .none-left e s a (omega arith) c z w;
       }
 
-  pub pick-block : (b best : ℕ) → Picked minutes steps settled count 0 (64 * b + 64) best → Picked minutes steps settled count 0 (64 * (b + 1)) best
-  pick-block b best p = subst (λ (limit : ℕ). Picked minutes steps settled count 0 limit best) (omega arith) p
+  pub pick-block : (b best : ℕ) → Picked entries settled count 0 (64 * b + 64) best → Picked entries settled count 0 (64 * (b + 1)) best
+  pick-block b best p = subst (λ (limit : ℕ). Picked entries settled count 0 limit best) (omega arith) p
 
   -- of two stretches
-  module _ (from middle limit first second : ℕ) (h : from ≤ middle) (k : middle ≤ limit) (p : Picked minutes steps settled count from middle first) (q : Picked minutes steps settled count middle limit second) where
-    pub join-first : second ≡ count → Picked minutes steps settled count from limit first
+  module _ (from middle limit first second : ℕ) (h : from ≤ middle) (k : middle ≤ limit) (p : Picked entries settled count from middle first) (q : Picked entries settled count middle limit second) where
+    pub join-first : second ≡ count → Picked entries settled count from limit first
     join-first e =
         record {
           range = p .range;
@@ -88,7 +88,7 @@ module _ (minutes steps settled : List ℕ) (count : ℕ) where
           none-left = λ e′ s a b c z w. split-le middle s (λ m. q .none-left e s m b c z w) (λ m. p .none-left e′ s a m c z w);
         }
 
-    pub join-second : first ≡ count → Picked minutes steps settled count from limit second
+    pub join-second : first ≡ count → Picked entries settled count from limit second
     join-second e =
         record {
           range = q .range;
@@ -99,7 +99,7 @@ module _ (minutes steps settled : List ℕ) (count : ℕ) where
           none-left = λ e′ s a b c z w. split-le middle s (λ m. q .none-left e′ s m b c z w) (λ m. p .none-left e s a m c z w);
         }
 
-    pub join-less : first < count → second < count → lessEntry (entryIn minutes steps second) (entryIn minutes steps first) ≡ true → Picked minutes steps settled count from limit second
+    pub join-less : first < count → second < count → lessEntry (entryIn entries second) (entryIn entries first) ≡ true → Picked entries settled count from limit second
     join-less f g e =
         record {
           range = q .range;
@@ -110,11 +110,11 @@ module _ (minutes steps settled : List ℕ) (count : ℕ) where
               λ l s a b c z w.
               split-le middle s
               (λ m. q .least l s m b c z w)
-              (λ m. lessEntry-below (entryIn minutes steps second) (entryIn minutes steps first) (entryIn minutes steps s) e (p .least f s a m c z w));
+              (λ m. lessEntry-below (entryIn entries second) (entryIn entries first) (entryIn entries s) e (p .least f s a m c z w));
           none-left = λ e′. absurd (omega arith);
         }
 
-    pub join-keep : first < count → second < count → lessEntry (entryIn minutes steps second) (entryIn minutes steps first) ≡ false → Picked minutes steps settled count from limit first
+    pub join-keep : first < count → second < count → lessEntry (entryIn entries second) (entryIn entries first) ≡ false → Picked entries settled count from limit first
     join-keep f g e =
         record {
           range = p .range;
@@ -124,7 +124,7 @@ module _ (minutes steps settled : List ℕ) (count : ℕ) where
           least =
               λ l s a b c z w.
               split-le middle s
-              (λ m. lessEntry-trans (entryIn minutes steps first) (entryIn minutes steps second) (entryIn minutes steps s) e (q .least g s m b c z w))
+              (λ m. lessEntry-trans (entryIn entries first) (entryIn entries second) (entryIn entries s) e (q .least g s m b c z w))
               (λ m. p .least l s a m c z w);
           none-left = λ e′. absurd (omega arith);
         }

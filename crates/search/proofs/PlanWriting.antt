@@ -6,14 +6,13 @@ use mathlib.Core.List.{List, [], _∷_, _++_}
 use mathlib.Core.Option.{Option, none, some, Option·getD}
 use native.Mathlib.Omega.{arith}
 use lib.ListN.{length, getD, length-map}
-use Rattle.files.specs.Accepted.{acceptedTask}
 use Rattle.files.specs.Bytes.{placed, u16Bytes, u32Bytes}
 use Rattle.files.specs.Dense.{Arrays, rowPairs, held}
 use Rattle.files.specs.OriginFile.{originOf}
 use Rattle.files.specs.Outcome.{overwrite}
 use Rattle.files.specs.PlanFile.{planFile}
 use Rattle.files.specs.Records.{numberBytes, recordBytes}
-use Rattle.files.specs.Task.{Pair, Variable, Action}
+use Rattle.files.specs.Task.{Pair, Variable}
 use Rattle.files.proofs.Countdown.{one-more}
 use Rattle.files.proofs.Lengths.{number-bytes-length, number-record-length, plan-file-length}
 use Rattle.files.proofs.Placed.{placed-length, placed-overwrite}
@@ -21,57 +20,50 @@ use Rattle.files.proofs.Valid.{Valid}
 use Rattle.files.proofs.Writing.{placed-u16-then, placed-record, placed-signed}
 use Rattle.files.proofs.HeldTask.{actions-held, goal-held}
 use Rattle.plans.specs.Plan.{Total, noSteps}
-use Rattle.plans.specs.State.{State, allHold, apply}
+use Rattle.plans.specs.State.{State, allHold}
 use Rattle.plans.specs.Tally.{listState}
 use Rattle.reduction.specs.Preserved.{byOriginFile}
-use Rattle.search.specs.States.{stateCount, stateNumber, stateAt}
-use Rattle.search.specs.Table.{distances, nextState, tableOf}
+use Rattle.search.specs.States.{stateCount, stateAt}
+use Rattle.search.specs.Table.{distances, nextState}
 use Rattle.search.specs.FirstPlan.{firstAction, stepsFrom, startNumber, firstPlan}
-use Rattle.search.specs.Columns.{entriesIn, rowVariables, rowStates, Searchable, Bounded, Tabled}
+use Rattle.search.specs.declared.Entry.{Entry}
+use Rattle.search.specs.Entries.{isNone, entryTotal, entryIn, Bounded}
+use Rattle.search.specs.Rows.{rowVariables, rowStates, Searchable, Tabled, NumberAfter, ReadAt, CanWrite}
 use Rattle.search.proofs.Radix.{start-below}
 use Rattle.search.proofs.Distances.{steps-few, minutes-few}
 use Rattle.search.proofs.ReadOff.{actionFrom, LeadsOn, leads-on, steps-goal, steps-more, goal-no-steps, steps-length}
 use Rattle.search.proofs.LeastPlans.{stepsRead, first-plan-some}
-use Rattle.search.proofs.TableEntries.{entry-is, entry-some}
-use Rattle.search.proofs.EntryDistances as entries
+use Rattle.search.proofs.TableEntries.{entry-is, entry-low}
+use Rattle.search.proofs.EntryLaws.{near-some, within-near, within-total, total-is, some-distance}
 use Rattle.search.proofs.HeldStates.{held-variables, held-states, held-actions, held-valid, searchable}
 use Rattle.search.proofs.FirstPlanLaws.{next-is}
 
--- what is known of arrays and columns that hold an accepted task and its table
-pub record Ready (d : Arrays) (minutes steps : List ℕ) : Type 0 where
+-- what is known of arrays and entries that hold an accepted task and its table
+pub record Ready (d : Arrays) (entries : List ℕ) : Type 0 where
   pub valid : Valid (held d)
   pub can-search : Searchable (d .variables) (d .actions) (d .sizes) (d .costs) (d .conditions) (d .effects)
-  pub tabled : Tabled (held d) (d .variables) (d .actions) (d .sizes) (d .costs) (d .conditions) (d .effects) minutes steps
-  pub bounded : Bounded minutes steps (rowStates (d .variables) (d .sizes))
+  pub tabled : Tabled (held d) (d .variables) (d .actions) (d .sizes) (d .costs) (d .conditions) (d .effects) entries
+  pub bounded : Bounded entries (rowStates (d .variables) (d .sizes))
 
-pub ready : (d : Arrays) (minutes steps : List ℕ) → acceptedTask (held d) ≡ true → stateCount (held d .variables) ≤ 4096
-    → stateCount (held d .variables) ≤ length minutes → stateCount (held d .variables) ≤ length steps
-    → entriesIn minutes steps (stateCount (held d .variables)) ≡ tableOf (held d) → Ready d minutes steps
-ready d minutes steps accepted few a b table =
+pub ready : (d : Arrays) (origin entries plan : List ℕ) → CanWrite d origin entries plan → Ready d entries
+ready d origin entries plan asked =
     let t = held d in
-    let valid = held-valid d accepted in
+    let valid = held-valid d (asked .accepted) in
     let count = held-states d in
     record {
       valid = valid;
-      can-search = searchable d accepted few;
+      can-search = searchable d (asked .accepted) (asked .few);
       tabled =
           record {
             starts = d .starts;
             variables-are = held-variables d;
             actions-are = λ n h. held-actions d n (omega (arith, actions-held d));
-            entries-are = λ s h. entry-is t minutes steps table s (omega (arith, count));
+            entries-are = λ s h. entry-is t entries (asked .table) s (omega (arith, count));
           };
       bounded =
           record {
-            minutes-long = omega (arith, count);
-            steps-long = omega (arith, count);
-            low =
-                λ s h near.
-                let below : s < stateCount (t .variables) = omega (arith, count) in
-                let x = entry-some t minutes steps table s below (λ e. omega arith) in
-                let m = minutes-few t valid s (x .total) below (x .distance) in
-                let n = steps-few t valid s (x .total) below (x .distance) in
-                (omega (arith, m, n, x .minutes-are), omega (arith, n, x .steps-are));
+            room = omega (arith, asked .room, count);
+            low = λ s h near. entry-low t entries (asked .table) s (omega (arith, count)) valid (asked .few) near;
           };
     }
 
@@ -105,45 +97,50 @@ origin-length : (origin plan : List ℕ) → length (byOriginFile origin plan) �
 unfolding byOriginFile
 origin-length origin plan = length-map plan (λ n. getD (originOf origin .actions) n 0)
 
-module _ (d : Arrays) (minutes steps : List ℕ) (known : Ready d minutes steps) (origin first : List ℕ) where
+module _ (d : Arrays) (entries : List ℕ) (known : Ready d entries) (origin first : List ℕ) where
   -- no step is written at the start state
-  pub write-begin : (s count : ℕ) (values : List ℕ) → s ≡ startNumber (held d) → getD minutes (startNumber (held d)) 0 < 18446744073709551615
-      → count ≡ getD steps s 0 → ((starts : List ℕ) → listState values ≡ stateAt (rowVariables (d .variables) (d .sizes) starts) s)
+  pub write-begin : (s count : ℕ) (values : List ℕ) (x : Entry) → s ≡ startNumber (held d) → isNone (entryIn entries (startNumber (held d))) ≡ false
+      → x ≡ entryIn entries s → count ≡ x .steps → ((starts : List ℕ) → listState values ≡ stateAt (rowVariables (d .variables) (d .sizes) starts) s)
       → Writing d origin first first values count s 0
-  write-begin s count values e near c state =
+  write-begin s count values y e near read c state =
       let t = held d in
       let below : s < stateCount (t .variables) = omega (arith, e, start-below t (known .valid)) in
-      let here : getD minutes s 0 < 18446744073709551615 = omega (arith, near, ap (λ (n : ℕ). getD minutes n 0) e) in
-      let x = entries.entry-some (getD minutes s 0) (getD steps s 0) (getD (distances t) s none) (known .tabled .entries-are s (omega (arith, held-states d))) here in
-      let short = steps-few t (known .valid) s (x .total) below (x .is) in
-      let start : getD (distances t) (startNumber t) none ≡ some (x .total) = ap (λ (n : ℕ). getD (distances t) n none) (sym e) ∙ x .is in
+      let x = entryTotal (entryIn entries s) in
+      let steps-are : count ≡ x .steps = c ∙ ap (λ (z : Entry). z .steps) read in
+      let here : getD (distances t) s none ≡ some x = some-distance (entryIn entries s) (getD (distances t) s none) (known .tabled .entries-are s (omega (arith, held-states d))) (ap (λ (n : ℕ). isNone (entryIn entries n)) e ∙ near) in
+      let short = steps-few t (known .valid) s x below here in
+      let start : getD (distances t) (startNumber t) none ≡ some x = ap (λ (n : ℕ). getD (distances t) n none) (sym e) ∙ here in
       record {
         inside = below;
-        total = x .total;
-        distance = x .is;
-        left = omega (arith, c, x .steps);
+        total = x;
+        distance = here;
+        left = omega (arith, steps-are);
         limit = stateCount (t .variables) - 1;
         enough = omega (arith, short);
         state = state;
         room = refl;
-        whole = steps-length t (known .valid) (startNumber t) (x .total) (start-below t (known .valid)) start ∙ sym (x .steps) ∙ sym c;
-        few = omega (arith, c, x .steps, short, known .can-search .states-few, held-states d);
-        plan-is = first-plan-some t (x .total) start;
+        whole = steps-length t (known .valid) (startNumber t) x (start-below t (known .valid)) start ∙ sym steps-are;
+        few = omega (arith, steps-are, short, known .can-search .states-few, held-states d);
+        plan-is = first-plan-some t x start;
         rest = ap (λ (n : ℕ). placed first 4 (numberBytes (byOriginFile origin (stepsFrom t (distances t) n (stateCount (t .variables) - 1))))) e;
       }
 
 -- the state that is reached has an entry
-module _ (d : Arrays) (minutes steps : List ℕ) (known : Ready d minutes steps) (origin first buffer values : List ℕ) (count s i : ℕ)
+module _ (d : Arrays) (entries : List ℕ) (known : Ready d entries) (origin first buffer values : List ℕ) (count s i : ℕ)
     (w : Writing d origin first buffer values count s i) where
   pub write-inside : s < rowStates (d .variables) (d .sizes)
   write-inside = omega (arith, w .inside, held-states d)
 
-  pub write-near : getD minutes s 0 < 18446744073709551615
+  pub write-near : isNone (entryIn entries s) ≡ false
   write-near =
-      let is = entries.entry-total (getD minutes s 0) (getD steps s 0) (getD (distances (held d)) s none) (w .total) (known .tabled .entries-are s write-inside) (w .distance) in
-      omega (arith, is .0, minutes-few (held d) (known .valid) s (w .total) (w .inside) (w .distance), w .left, w .few)
+      let is = total-is (entryIn entries s) (getD (distances (held d)) s none) (w .total) (known .tabled .entries-are s write-inside) (w .distance) in
+      near-some (entryIn entries s)
+      (within-near 0 (entryIn entries s) (within-total (entryIn entries s) (w .total) is (omega (arith, w .left, w .few)) (minutes-few (held d) (known .valid) s (w .total) (w .inside) (w .distance))))
 
-module _ (d : Arrays) (minutes steps : List ℕ) (known : Ready d minutes steps) (origin first buffer values : List ℕ) (count s i : ℕ)
+  pub read-at : ReadAt (d .variables) (d .actions) s (d .sizes) (d .costs) (d .conditions) (d .effects) values entries
+  read-at = record { asked = known .can-search; bounded = known .bounded; below = write-inside; reached = write-near; values-are = w .state }
+
+module _ (d : Arrays) (entries : List ℕ) (known : Ready d entries) (origin first buffer values : List ℕ) (count s i : ℕ)
     (w : Writing d origin first buffer values count s i) (b : Bool) (is : b ≡ allHold (rowPairs (d .goal) 0 0 (d .variables)) (listState values)) where
   goal-is : allHold (held d .goal) (stateAt (held d .variables) s) ≡ b
   goal-is =
@@ -177,7 +174,7 @@ module _ (d : Arrays) (minutes steps : List ℕ) (known : Ready d minutes steps)
       write-known = omega (arith, from-is, onward .below, actions-held d)
 
       pub write-next : (number next : ℕ) (after valuesAfter : List ℕ) → number ≡ getD (originOf origin .actions) a 0 → after ≡ placed buffer (4 + 2 * i) (u16Bytes number)
-          → ((starts : List ℕ) (x : Action) → x .effects ≡ rowPairs (d .effects) (64 * a) 0 (d .variables) → next ≡ stateNumber (rowVariables (d .variables) (d .sizes) starts) (apply x (listState values)))
+          → NumberAfter (d .variables) (64 * a) (d .sizes) (d .effects) values next
           → ((starts : List ℕ) → listState valuesAfter ≡ stateAt (rowVariables (d .variables) (d .sizes) starts) next)
           → Writing d origin first after valuesAfter count next (i + 1)
       write-next number next after valuesAfter n p found state =
@@ -186,7 +183,7 @@ module _ (d : Arrays) (minutes steps : List ℕ) (known : Ready d minutes steps)
           let k = w .limit - 1 in
           let fewer = onward .fewer (w .total) (w .distance) in
           let next-number : next ≡ nextState t (actionFrom t s) s =
-          sym (next-is (d .variables) (d .actions) (d .sizes) (d .costs) (d .conditions) (d .effects) minutes steps values s a write-known (w .state) t (known .tabled) next found)
+          sym (next-is (d .variables) (d .actions) (d .sizes) (d .costs) (d .conditions) (d .effects) entries values s a write-known (w .state) t (known .tabled) next (found .is))
           ∙ ap (λ (m : ℕ). nextState t m s) from-is in
           let plan : stepsFrom t row s (w .limit) ≡ a ∷ stepsFrom t row next k =
           ap (stepsFrom t row s) (one-more (w .limit) (omega (arith, fewer, w .enough)))

@@ -3,7 +3,7 @@
 use Prim.Native.Nat.{ℕ, _≤_, _<_}
 use mathlib.Core.Path.{_≡_, refl, sym, ap, ap₂, subst, _∙_}
 use mathlib.Core.Bool.{true}
-use mathlib.Core.List.{List}
+use mathlib.Core.List.{List, map}
 use mathlib.Core.Option.{none, some}
 use native.Mathlib.Omega.{arith}
 use lib.Dec.{leb}
@@ -13,16 +13,17 @@ use borrow.Author.Tests.{le-leb}
 use Rattle.files.specs.declared.Outcome.{Outcome}
 use Rattle.files.specs.Accepted.{validSigner, acceptedTask, acceptedPlan}
 use Rattle.files.specs.Bytes.{Octets}
-use Rattle.files.specs.Outcome.{done, refusal, isDone, overwrite}
+use Rattle.files.specs.Outcome.{done, refusal, isDone, andThen, overwrite}
 use Rattle.files.specs.PlanFile.{planFile}
 use Rattle.files.specs.Reading.{readPlan, under}
+use Rattle.files.specs.Stages.{Stage, beside, outcomeOf, leftBy}
 use Rattle.files.specs.Task.{Task, actionCount}
 use Rattle.files.specs.TaskFile.{checkTask, taskOf}
 use Rattle.files.proofs.BelowLaws.{map-entry}
 use Rattle.files.proofs.Guards.{guard-passes}
-use Rattle.files.proofs.Logic.{split-option, and-join}
+use Rattle.files.proofs.Logic.{split, split-option, and-join}
 use Rattle.files.proofs.PlanRoundTrip.{plan-reads-back}
-use Rattle.files.proofs.Stages.{is-yes, fits-in}
+use Rattle.files.proofs.Stages.{is-yes, fits-in, both-yes, left-both, outcome-beside, left-beside}
 use Rattle.files.proofs.TaskChecked.{task-accepted}
 use Rattle.files.proofs.Valid.{Valid, task-valid}
 use Rattle.plans.specs.Plan.{IsPlan, Total, totalOf, FirstBest}
@@ -30,19 +31,19 @@ use Rattle.plans.proofs.OrderLaws.{total-steps}
 use Rattle.plans.proofs.PlanChecker.{all-below}
 use Rattle.marking.specs.Mark.{validLevel}
 use Rattle.reduction.specs.Task.{reducedTask, byOriginal}
-use Rattle.reduction.specs.Reduce.{roomsOf, reduceStage}
+use Rattle.reduction.specs.Reduce.{Buffers, withFiles, fileStages}
 use Rattle.reduction.specs.Preserved.{Preserves}
-use Rattle.reduction.proofs.Answers.{row-fits}
+use Rattle.reduction.proofs.Answers.{stages-fit, buffers-fit}
 use Rattle.reduction.proofs.Preservation.{reduction-preserves, reduction-accepted}
 use Rattle.search.specs.declared.Entry.{Entry}
 use Rattle.search.specs.declared.Planned.{Planned}
 use Rattle.search.specs.States.{stateCount}
 use Rattle.search.specs.FirstPlan.{firstPlan}
 use Rattle.search.specs.Least.{startedAt, DistanceLeast, PlanFirst}
-use Rattle.search.specs.Planner.{planLevel, searched, planFound, statesFit, planFits, planStage, planMade, planAnswer, Lent, lentRooms, planAfter}
-use Rattle.search.specs.PlannerRight.{PlanLongEnough, HandedBack, EntryRight, PlannerRight, PlannerPromise}
+use Rattle.search.specs.Planner.{planLevel, searched, planFound, statesFit, planFits, planMade, SearchBuffers, searchBuffers, searchStages, Lent, lent, planStages, planWhole, planAnswer, planAfter, Plans}
+use Rattle.search.specs.PlannerRight.{PlanLongEnough, HandedBack, EntryRight, PlannerRight, PlannerPromise, PlansRight}
 use Rattle.search.specs.Table.{distances, entryOf, tableOf}
-use Rattle.search.proofs.Answers.{whole-outcome, whole-is, plan-written, table-filled}
+use Rattle.search.proofs.Answers.{row-is}
 use Rattle.search.proofs.Distances.{distances-length, steps-few, minutes-few}
 use Rattle.search.proofs.LeastPlans.{search-least}
 
@@ -102,9 +103,9 @@ module _ (task : List ℕ) (signer : ℕ) (b : Lent) (octets : Octets task) (e :
   preserved : Preserves t u (byOriginal t planLevel)
   preserved = reduction-preserves t planLevel accepted
 
-  reduced-done : isDone (reduceStage task planLevel signer (roomsOf (b .buffers))) ≡ true
+  reduced-done : isDone (outcomeOf (fileStages task planLevel signer (b .buffers))) ≡ true
   unfolding validLevel
-  reduced-done = is-yes _ (row-fits task planLevel signer (b .buffers) e refl s (long .buffers))
+  reduced-done = is-yes _ (stages-fit task planLevel signer (b .buffers) e refl s (long .buffers))
 
   states-done : isDone (statesFit (searched task) (length (b .table))) ≡ true
   unfolding statesFit searched
@@ -115,15 +116,44 @@ module _ (task : List ℕ) (signer : ℕ) (b : Lent) (octets : Octets task) (e :
   abbrev found : Outcome
   found = planFits (planFound task) signer (length (b .plan))
 
-  stage : planStage task signer (lentRooms b) ≡ found
-  stage = whole-is task signer b reduced-done states-done
+  abbrev search-row : List (Stage SearchBuffers)
+  search-row = searchStages (searched task) (planFound task) signer (searchBuffers (b .table) (b .plan))
 
-  outcome : planAnswer task signer (lentRooms b) .outcome ≡ found
-  outcome = whole-outcome task signer b ∙ stage
+  search-is : outcomeOf search-row ≡ andThen found done
+  unfolding searchStages
+  search-is = both-yes _ _ states-done
+
+  stage : outcomeOf (planStages task signer b) ≡ andThen found done
+  stage = row-is task signer b ∙ both-yes _ _ reduced-done ∙ search-is
+
+  -- the buffers of the row are those of its second half, with the files beside them
+  after-is : planAfter task signer b ≡ lent (withFiles t planLevel signer (b .buffers)) (leftBy search-row (searchBuffers (b .table) (b .plan)) .table) (leftBy search-row (searchBuffers (b .table) (b .plan)) .plan)
+  unfolding planStages validLevel
+  after-is =
+      left-both (map (beside (λ (x : Buffers). lent x (b .table) (b .plan))) (fileStages task planLevel signer (b .buffers))) _ b (ap isDone (outcome-beside _ (fileStages task planLevel signer (b .buffers))) ∙ reduced-done)
+      ∙ ap (leftBy (map (beside besides) search-row))
+      (left-beside (λ (x : Buffers). lent x (b .table) (b .plan)) (fileStages task planLevel signer (b .buffers)) (b .buffers)
+      ∙ ap (λ (x : Buffers). lent x (b .table) (b .plan)) (buffers-fit task planLevel signer (b .buffers) e refl s (long .buffers)))
+      ∙ left-beside besides search-row (searchBuffers (b .table) (b .plan))
+    where
+      besides : SearchBuffers → Lent
+      besides x = lent (withFiles t planLevel signer (b .buffers)) (x .table) (x .plan)
+
+  table-filled : planAfter task signer b .table ≡ overwrite (b .table) (tableOf (searched task))
+  unfolding searchStages
+  table-filled = ap (λ (x : Lent). x .table) after-is ∙ rw states-done (split (isDone found) (λ y. rw y refl) (λ n. rw n refl))
+
+  plan-written : isDone found ≡ true → planAfter task signer b .plan ≡ overwrite (b .plan) (planFile (planMade task) signer)
+  unfolding searchStages planMade
+  plan-written y = ap (λ (x : Lent). x .plan) after-is ∙ rw (states-done, y) refl
 
   found-none : firstPlan u ≡ none → found ≡ refusal 24 0
   unfolding planFound planFits searched
   found-none q = rw q refl
+
+  outcome-none : firstPlan u ≡ none → planAnswer task signer b .outcome ≡ refusal 24 0
+  unfolding andThen isDone
+  outcome-none q = let is = stage ∙ ap (λ (o : Outcome). andThen o done) (found-none q) in rw is refl
 
   none-there : firstPlan u ≡ none → (plan : List ℕ) → IsPlan t plan → ⊥
   none-there q plan p =
@@ -137,7 +167,7 @@ module _ (task : List ℕ) (signer : ℕ) (b : Lent) (octets : Octets task) (e :
   entries n h =
       subst (EntryRight (startedAt u n))
       (sym
-      (ap (λ (l : List Entry). getD l n (entryOf none)) (table-filled task signer b reduced-done states-done)
+      (ap (λ (l : List Entry). getD l n (entryOf none)) table-filled
       ∙ List·getD-append (tableOf u) _ (entryOf none) n (omega (arith, table-length))))
       (entry-right u valid few n h)
     where
@@ -171,31 +201,33 @@ module _ (task : List ℕ) (signer : ℕ) (b : Lent) (octets : Octets task) (e :
     unfolding acceptedPlan
     held = and-join (le-leb (length p) 4096 (omega (arith, same-length, first .1))) (all-below (actionCount t) p (full .best .isPlan .numbers))
 
-    answer-is : planAnswer task signer (lentRooms b) .outcome ≡ done
-    answer-is = outcome ∙ found-some
+    whole-is : planAnswer task signer b ≡ planWhole task signer
+    unfolding andThen isDone
+    whole-is = let is = stage ∙ ap (λ (o : Outcome). andThen o done) found-some in rw is refl
+
+    answer-is : planAnswer task signer b .outcome ≡ done
+    answer-is = ap (λ (x : Planned). x .outcome) whole-is
 
     numbers :
-        (planAnswer task signer (lentRooms b) .plan ≡ length (planFile p signer))
-        × (planAnswer task signer (lentRooms b) .cost .0 ≡ totalOf t p .minutes)
-        × (planAnswer task signer (lentRooms b) .steps .0 ≡ totalOf t p .steps)
-    unfolding planAnswer
-    numbers =
-        let d : isDone (planStage task signer (lentRooms b)) ≡ true = is-yes _ (stage ∙ found-some) in (
-          rw d (ap (λ (l : List ℕ). length (planFile l signer)) made),
-          rw d (ap (λ (l : List ℕ). totalOf t l .minutes) made),
-          rw d (ap (λ (l : List ℕ). totalOf t l .steps) made),
-        )
+        (planAnswer task signer b .plan ≡ length (planFile p signer))
+        × (planAnswer task signer b .cost .0 ≡ totalOf t p .minutes)
+        × (planAnswer task signer b .steps .0 ≡ totalOf t p .steps)
+    numbers = (
+      ap (λ (x : Planned). x .plan) whole-is ∙ ap (λ (l : List ℕ). length (planFile l signer)) made,
+      ap (λ (x : Planned). x .cost .0) whole-is ∙ ap (λ (l : List ℕ). totalOf t l .minutes) made,
+      ap (λ (x : Planned). x .steps .0) whole-is ∙ ap (λ (l : List ℕ). totalOf t l .steps) made,
+    )
 
     buffer : planAfter task signer b .plan ≡ overwrite (b .plan) (planFile p signer)
-    buffer = plan-written task signer b reduced-done states-done (is-yes _ found-some) ∙ ap (λ (l : List ℕ). overwrite (b .plan) (planFile l signer)) made
+    buffer = plan-written (is-yes _ found-some) ∙ ap (λ (l : List ℕ). overwrite (b .plan) (planFile l signer)) made
 
-    file : readPlan (actionCount t) (take (planAnswer task signer (lentRooms b) .plan) (planAfter task signer b .plan)) ≡ under p signer
+    file : readPlan (actionCount t) (take (planAnswer task signer b .plan) (planAfter task signer b .plan)) ≡ under p signer
     unfolding overwrite
     file =
         ap (readPlan (actionCount t)) (ap₂ (λ (n : ℕ) (l : List ℕ). take n l) (numbers .0) buffer ∙ take-append-seam (planFile p signer) _)
         ∙ plan-reads-back (actionCount t) p signer (omega (arith, task-valid t accepted .actions-few)) held s
 
-    handed : HandedBack t signer (planAnswer task signer (lentRooms b)) (planAfter task signer b .plan)
+    handed : HandedBack t signer (planAnswer task signer b) (planAfter task signer b .plan)
     handed =
         record {
           outcome = answer-is;
@@ -208,16 +240,16 @@ module _ (task : List ℕ) (signer : ℕ) (b : Lent) (octets : Octets task) (e :
           first = full;
         }
 
-    not-none : planAnswer task signer (lentRooms b) .outcome ≡ refusal 24 0 → ⊥
+    not-none : planAnswer task signer b .outcome ≡ refusal 24 0 → ⊥
     not-none z = absurd (let k : _≡_ {A = ℕ} 24 0 = ap (λ (o : Outcome). o .number) (sym z ∙ answer-is) in omega arith)
 
-  planner-right : PlannerRight task signer (planAnswer task signer (lentRooms b)) (planAfter task signer b)
+  planner-right : PlannerRight task signer (planAnswer task signer b) (planAfter task signer b)
   planner-right =
       split-option (firstPlan u)
       (λ q.
       record {
-        no-plan = (λ z. none-there q, λ n. outcome ∙ found-none q);
-        otherwise = λ n. absurd (n (outcome ∙ found-none q));
+        no-plan = (λ z. none-there q, λ n. outcome-none q);
+        otherwise = λ n. absurd (n (outcome-none q));
         entries = entries;
       })
       (λ q f.
@@ -227,9 +259,9 @@ module _ (task : List ℕ) (signer : ℕ) (b : Lent) (octets : Octets task) (e :
         entries = entries;
       })
 
-pub planner-promise : (task : List ℕ) (signer : ℕ) (b : Lent) → PlannerPromise task signer b (planAnswer task signer (lentRooms b)) (planAfter task signer b)
+pub planner-promise : (task : List ℕ) (signer : ℕ) (b : Lent) → PlannerPromise task signer b (planAnswer task signer b) (planAfter task signer b)
 planner-promise task signer b octets e s few long = planner-right task signer b octets e s few long
 
--- the same of an answer and of buffers that equal the definitions'
-pub promise-kept : (task : List ℕ) (signer : ℕ) (b : Lent) (answer : Planned) (now : Lent) → answer ≡ planAnswer task signer (lentRooms b) → now ≡ planAfter task signer b → PlannerPromise task signer b answer now
-promise-kept task signer b answer now e same = rw (e, same) (planner-promise task signer b)
+-- a call by the planner's stages is right
+pub plans-right : (task : List ℕ) (signer : ℕ) (b : Lent) (answer : Planned) (now : Lent) → Plans task signer b answer now → PlansRight task signer b answer now
+plans-right task signer b answer now k = record { stages = k; right = rw (k .answer, k .buffers) (planner-promise task signer b) }

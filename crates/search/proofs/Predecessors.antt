@@ -19,7 +19,7 @@ use Rattle.plans.specs.Tally.{meetsCell}
 use Rattle.plans.proofs.RowStates.{meets-none, meets-some, after-none, after-some}
 use Rattle.files.proofs.Truth.{same-truth}
 use Rattle.search.specs.States.{stateNumber, stateAt}
-use Rattle.search.specs.Columns.{rowVariables, rowStates, rowState, canHave, canReach, differsOnly, leadsTo}
+use Rattle.search.specs.Rows.{rowVariables, rowStates, rowState, canHave, canReach, differsOnly, leadsTo, Spanned}
 use Rattle.search.proofs.RowNumbers.{RowSizes, RowInside, weighted, number-sum, state-alike}
 use Rattle.search.proofs.RowSteps.{meetsAt, hold-below, apply-row, apply-behind}
 use Rattle.search.proofs.StateLoops.{after-inside}
@@ -42,26 +42,25 @@ module _ (condition effect value : ℕ) where
   have-any e d = meets-none condition value d ∙ have-left e
 
 -- the values that a variable may have had
-abbrev pub Spanned : ℕ → ℕ → ℕ → ℕ → Type 0
-Spanned condition size low high = (low ≤ high) × (high ≤ size) × ((value : ℕ) → value < size → meetsCell condition value ≡ leb low value && ltb value high)
-
 pub any-earlier : (condition size : ℕ) → condition ≡ 255 → Spanned condition size 0 size
-any-earlier condition size e = (omega arith, omega arith, λ value h. sym (meets-none condition value e) ∙ sym (and-join (le-leb 0 value (omega arith)) (lt-ltb value size h)))
+any-earlier condition size e = record { order = omega arith; inside = omega arith; values = λ value h. sym (meets-none condition value e) ∙ sym (and-join (le-leb 0 value (omega arith)) (lt-ltb value size h)) }
 
 pub one-earlier : (condition size : ℕ) → (condition ≡ 255 → ⊥) → condition < size → Spanned condition size condition (condition + 1)
-one-earlier condition size d l = (
-  omega arith,
-  omega arith,
-  λ value h.
-      sym (meets-some condition value d)
-      ∙ same-truth (eqb condition value) (leb condition value && ltb value (condition + 1))
-      (λ e.
-      let is : condition ≡ value = eqb-true condition value e in
-      and-join (le-leb condition value (omega arith)) (lt-ltb value (condition + 1) (omega arith)))
-      (λ e.
-      let both = and-split (leb condition value) (ltb value (condition + 1)) e in
-      eq-eqb condition value (omega (arith, leb-true condition value (both .0), ltb-true value (condition + 1) (both .1)))),
-)
+one-earlier condition size d l =
+    record {
+      order = omega arith;
+      inside = omega arith;
+      values =
+          λ value h.
+          sym (meets-some condition value d)
+          ∙ same-truth (eqb condition value) (leb condition value && ltb value (condition + 1))
+          (λ e.
+          let is : condition ≡ value = eqb-true condition value e in
+          and-join (le-leb condition value (omega arith)) (lt-ltb value (condition + 1) (omega arith)))
+          (λ e.
+          let both = and-split (leb condition value) (ltb value (condition + 1)) e in
+          eq-eqb condition value (omega (arith, leb-true condition value (both .0), ltb-true value (condition + 1) (both .1))));
+    }
 
 module _ (conditions effects : List ℕ) (base : ℕ) where
   abbrev pub conditionAt : ℕ → ℕ

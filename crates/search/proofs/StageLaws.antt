@@ -1,48 +1,49 @@
--- The planner's row: its outcome, its answer and its buffers, from those of its stages.
+-- The planner's stages, from those of reduction and of the search.
 use Prim.Native.Nat.{ℕ, _-_, _^_, _≤_, _<_}
 use mathlib.Core.Path.{_≡_, refl, sym, ap, ap₂, subst, _∙_}
-use mathlib.Core.Bool.{true, false, cond}
-use mathlib.Core.List.{List, [], map}
+use mathlib.Core.Bool.{true, false}
+use mathlib.Core.List.{List, [], _∷_, map}
 use mathlib.Core.Option.{Option, none, some, Option·map}
 use native.Mathlib.Omega.{arith}
 use lib.Dec.{leb}
-use lib.ListN.{length, getD, take, drop, length-append, length-map}
+use lib.ListN.{length, getD, take, drop, length-append, length-map, replicate, length-replicate}
 use lib.Seq.{take-append-seam}
 use borrow.Author.Tests.{leb-true, le-leb}
-use Rattle.files.specs.declared.Outcome.{Outcome}
 use Rattle.files.specs.Accepted.{validSigner, acceptedTask}
 use Rattle.files.specs.Bytes.{Octets}
 use Rattle.files.specs.OriginFile.{Origin, originOf}
-use Rattle.files.specs.Outcome.{done, isDone, andThen, fits, overwrite, after}
+use Rattle.files.specs.Outcome.{done, isDone, fits, overwrite}
 use Rattle.files.specs.PlanFile.{planFile}
-use Rattle.files.specs.Task.{Task, actionCount, factCount}
+use Rattle.files.specs.Stages.{Stage, outcomeOf, leftBy, answerBy}
+use Rattle.files.specs.Task.{Task, actionCount}
 use Rattle.files.specs.TaskFile.{checkTask, taskOf}
-use Rattle.files.proofs.Guards.{goes-on, stops, is-done, is-refused, done-number, passed, both-done, after-done, after-refused}
+use Rattle.files.proofs.Guards.{is-done, is-refused, done-number, passed, both-done}
 use Rattle.files.proofs.Logic.{split, split-option, and-join}
 use Rattle.files.proofs.OriginRoundTrip.{origin-read-as}
+use Rattle.files.proofs.Stages.{left-last, by-first, by-second, given-whole, given-refused}
 use Rattle.files.proofs.TaskChecked.{task-accepted}
 use Rattle.files.proofs.TaskRoundTrip.{task-read-as}
 use Rattle.files.proofs.Listed.{task-check-done}
 use Rattle.files.proofs.Valid.{Valid, task-valid}
-use Rattle.plans.specs.Plan.{IsPlan, Total, totalOf}
-use Rattle.marking.specs.Rounds.{marking}
+use Rattle.plans.specs.Plan.{IsPlan, totalOf}
 use Rattle.marking.specs.Mark.{validLevel}
 use Rattle.reduction.specs.declared.Reduced.{Reduced}
 use Rattle.reduction.specs.Task.{keptActions, keptAt, reducedBy, originBy, reducedTask, originsAt, byOriginal}
-use Rattle.reduction.specs.Reduce.{Rooms, reducedFile, originsFile, markStage, reduceStage, reduceAnswer, reduce, reducedActionMarks, reducedFactMarks, reducedBuffer, originBuffer}
+use Rattle.reduction.specs.Reduce.{Buffers, withFiles, reducedFile, originsFile, reduceInput, reduceStages, fileStages, reduceWhole, Reduces}
 use Rattle.reduction.specs.Preserved.{FilesPreserve, byOriginFile}
 use Rattle.reduction.proofs.FilesPreserved.{reduction-of-files}
 use Rattle.reduction.proofs.Preservation.{reduction-preserves, reduction-accepted}
+use Rattle.search.specs.declared.Entry.{Entry}
 use Rattle.search.specs.declared.Planned.{Planned}
 use Rattle.search.specs.declared.stages.Found.{Found}
 use Rattle.search.specs.declared.stages.Run.{Run}
 use Rattle.search.specs.States.{stateCount}
-use Rattle.search.specs.Table.{tableOf}
+use Rattle.search.specs.Table.{entry}
 use Rattle.search.specs.FirstPlan.{firstPlan}
 use Rattle.search.specs.Least.{PlanFirst}
-use Rattle.search.specs.Columns.{entriesIn}
-use Rattle.search.specs.Planner.{planLevel, PlanRooms, planRooms, searched, searchedStates, planFound, statesFit, searchStage, planFits, planStage, planMade, unplanned, planAnswer, plannedActionMarks, plannedFactMarks, plannedReduced, plannedOrigin, plannedPlan}
-use Rattle.search.specs.Found.{searchOutcome, foundPlan, foundStates, foundAnswer, bothTogether}
+use Rattle.search.specs.Entries.{entriesIn}
+use Rattle.search.specs.Planner.{planLevel, searched, searchedStates, planFound, planMade, statesFit, planFits, SearchBuffers, searchBuffers, searchStages, lent, unplanned, planWhole, planStages}
+use Rattle.search.specs.Found.{foundPlan, foundStates, foundWhole, notFound, SearchesRoom, bothTogether, PlansRoom}
 use Rattle.search.proofs.FoundLaws.{no-entries, plan-is}
 use Rattle.search.proofs.LeastPlans.{search-least}
 
@@ -86,268 +87,228 @@ module _ (t : Task) (room : ℕ) where
       (λ w. let b = states-bounded w in let q : n ≡ stateCount (t .variables) = e ∙ rw w refl in (omega arith, omega arith))
       (λ w. let q : n ≡ 0 = e ∙ rw w refl in (omega arith, omega arith))
 
-module _ (task : List ℕ) (signer : ℕ) (room : Rooms) (tableRoom planRoom : ℕ) where
-  abbrev whole : PlanRooms
-  whole = planRooms room tableRoom planRoom
+module _ (task : List ℕ) (signer : ℕ) (before : Buffers) (first : Reduced) (after : Buffers) (k : Reduces task planLevel signer before first after) where
+  abbrev t : Task
+  t = taskOf task
 
-  -- the buffers of the first stages
-  pub action-marks : (new old : List ℕ) → new ≡ reducedActionMarks task planLevel signer room old → new ≡ plannedActionMarks task signer whole old
-  unfolding plannedActionMarks
-  action-marks new old e = e
+  abbrev u : Task
+  u = searched task
 
-  pub fact-marks : (new old : List ℕ) → new ≡ reducedFactMarks task planLevel signer room old → new ≡ plannedFactMarks task signer whole old
-  unfolding plannedFactMarks
-  fact-marks new old e = e
+  abbrev files-row : List (Stage Buffers)
+  files-row = fileStages task planLevel signer before
 
-  pub reduced-file : (new old : List ℕ) → new ≡ reducedBuffer task planLevel signer room old → new ≡ plannedReduced task signer whole old
-  unfolding plannedReduced
-  reduced-file new old e = e
+  row-refused : (first .outcome .number ≡ 0 → ⊥) → isDone (outcomeOf files-row) ≡ false
+  row-refused d = split (isDone (outcomeOf files-row)) (λ y. absurd (d (ap (λ (x : Reduced). x .outcome .number) (given-whole k y)))) (λ n. n)
 
-  pub origin-file : (new old : List ℕ) → new ≡ originBuffer task planLevel signer room old → new ≡ plannedOrigin task signer whole old
-  unfolding plannedOrigin
-  origin-file new old e = e
+  row-done : first .outcome .number ≡ 0 → isDone (outcomeOf files-row) ≡ true
+  row-done z =
+      split (isDone (outcomeOf files-row))
+      (λ y. y)
+      (λ n. is-done (outcomeOf files-row) (sym (ap (λ (x : Reduced). x .outcome .number) (given-refused k n)) ∙ z))
 
-  module _ (first : Reduced) (a : first ≡ reduce task planLevel signer room) where
-    first-is : first .outcome ≡ reduceStage task planLevel signer room
-    unfolding reduce reduceAnswer
-    first-is =
-        ap (λ (x : Reduced). x .outcome) a
-        ∙ split (isDone (reduceStage task planLevel signer room)) (λ e. rw e refl) (λ e. rw e refl)
+  -- reduction refuses
+  pub plans-early : (first .outcome .number ≡ 0 → ⊥) → (room : ℕ) (plan : List ℕ) (p : Planned) → p ≡ unplanned (first .outcome)
+      → (numbers : List ℕ) → PlansRoom task signer room before plan (record { planned = p; states = 0 }) after (entriesIn numbers 0) plan
+  unfolding planStages overwrite
+  plans-early d room plan p q numbers =
+      let n = row-refused d in
+      let is : first .outcome ≡ outcomeOf files-row = ap (λ (x : Reduced). x .outcome) (given-refused k n) in
+      record {
+        plans = λ table len.
+            by-first files-row (searchStages u (planFound task) signer (searchBuffers table plan)) _ _ before n (q ∙ ap unplanned is)
+            (λ i. lent (k .buffers i) (ap (overwrite table) (no-entries numbers) i) plan);
+        states-inside = omega arith;
+        states-few = omega arith;
+      }
 
-    -- refused before the search
-    module _ (d : first .outcome .number ≡ 0 → ⊥) where
-      early-search : first .outcome ≡ searchStage task signer whole
-      unfolding searchStage
-      early-search = stops (reduceStage task planLevel signer room) _ (first .outcome) first-is d
+  -- reduction is done: its files say what they should
+  module _ (z : first .outcome .number ≡ 0) (octets : Octets task) (small : signer < 2 ^ 32) where
+    checked : (checkTask task .number ≡ 0) × (leb 1 signer ≡ true)
+    unfolding reduceStages reduceInput
+    checked =
+        let marks = both-done _ _ (done-number (outcomeOf files-row) (row-done z)) .0 in
+        let input = both-done (reduceInput task planLevel signer) _ marks .0 in
+        let read = both-done (checkTask task) _ input in
+        let level = passed (validLevel planLevel) 8 0 _ (omega arith) (read .1) in
+        (read .0, passed (leb 1 signer) 7 0 _ (omega arith) (level .1) .0)
 
-      early-stage : first .outcome ≡ planStage task signer whole
-      unfolding planStage
-      early-stage = stops (searchStage task signer whole) _ (first .outcome) early-search d
+    accepted : acceptedTask t ≡ true
+    accepted = task-accepted task octets (checked .0)
 
-      pub early-answer : (p : Planned) → p ≡ unplanned (first .outcome) → p ≡ planAnswer task signer whole
-      unfolding planAnswer
-      early-answer p q = rw (← early-stage, is-refused (first .outcome) d) q
+    signed : validSigner signer ≡ true
+    unfolding validSigner
+    signed = and-join (checked .1) (le-leb _ _ small)
 
-      pub early-plan : (old : List ℕ) → old ≡ plannedPlan task signer whole old
-      unfolding plannedPlan
-      early-plan old = rw (← early-stage) (sym (after-refused (first .outcome) _ old d))
+    files : FilesPreserve task planLevel signer
+    files = reduction-of-files task planLevel signer octets (task-check-done task (checked .0)) signed
 
-      pub early-table : (minutes steps : List ℕ) → entriesIn minutes steps 0 ≡ cond (isDone (searchStage task signer whole)) (tableOf (searched task)) []
-      early-table minutes steps = rw (← early-search, is-refused (first .outcome) d) (no-entries minutes steps)
+    abbrev reduced-bytes : List ℕ
+    reduced-bytes = reducedFile t planLevel signer
 
-    -- reduction is done: its files say what they should
-    module _ (z : first .outcome .number ≡ 0) (octets : Octets task) (small : signer < 2 ^ 32) where
-      abbrev t : Task
-      t = taskOf task
+    abbrev origin-bytes : List ℕ
+    origin-bytes = originsFile t planLevel signer
 
-      stage-done : reduceStage task planLevel signer room .number ≡ 0
-      stage-done = ap (λ (o : Outcome). o .number) (sym first-is) ∙ z
+    same-task : taskOf reduced-bytes ≡ u
+    unfolding searched
+    same-task = task-read-as reduced-bytes (reducedTask t planLevel) signer (files .reduced-reads) .1
 
-      checked : (checkTask task .number ≡ 0) × (leb 1 signer ≡ true)
-      unfolding reduceStage markStage
-      checked =
-          let marks = both-done (markStage task planLevel signer room) _ stage-done .0 in
-          let read = both-done (checkTask task) _ marks in
-          let level = passed (validLevel planLevel) 8 0 _ (omega arith) (read .1) in
-          (read .0, passed (leb 1 signer) 7 0 _ (omega arith) (level .1) .0)
+    same-origin : originOf origin-bytes ≡ originsAt t planLevel
+    same-origin = origin-read-as origin-bytes (originsAt t planLevel) signer (files .origin-reads) .1
 
-      accepted : acceptedTask t ≡ true
-      accepted = task-accepted task octets (checked .0)
+    same-numbers : byOriginFile origin-bytes ≡ byOriginal t planLevel
+    unfolding byOriginal byOriginFile
+    same-numbers = ap (λ (o : Origin). λ plan. map (λ n. getD (o .actions) n 0) plan) same-origin
 
-      signed : validSigner signer ≡ true
-      unfolding validSigner
-      signed = and-join (checked .1) (le-leb _ _ small)
+    -- the numbers of reduction, and what its buffers hold
+    numbers : first ≡ reduceWhole t planLevel signer
+    numbers = given-whole k (row-done z)
 
-      files : FilesPreserve task planLevel signer
-      files = reduction-of-files task planLevel signer octets (task-check-done task (checked .0)) signed
+    filled : after ≡ withFiles t planLevel signer before
+    unfolding reduceStages
+    filled = k .buffers ∙ left-last (_ ∷ []) _ before (row-done z)
 
-      abbrev reduced-bytes : List ℕ
-      reduced-bytes = reducedFile t planLevel signer
+    -- the parts of the buffers that hold the files
+    part : (n : ℕ) (file new old : List ℕ) → n ≡ length file → new ≡ overwrite old file → take (n - 0) new ≡ file
+    unfolding overwrite
+    part n file new old e q = ap₂ (λ (m : ℕ) (l : List ℕ). take m l) (let s : n - 0 ≡ length file = omega arith in s) q ∙ take-append-seam file _
 
-      abbrev origin-bytes : List ℕ
-      origin-bytes = originsFile t planLevel signer
+    room-for : (n : ℕ) (file new old : List ℕ) → n ≡ length file → new ≡ overwrite old file → n ≤ length new
+    unfolding overwrite
+    room-for n file new old e q = omega (arith, ap length q, length-append file (drop (length file) old))
 
-      same-task : taskOf reduced-bytes ≡ searched task
-      unfolding searched
-      same-task = task-read-as reduced-bytes (reducedTask t planLevel) signer (files .reduced-reads) .1
+    pub reduced-part : take (first .reduced - 0) (after .reduced) ≡ reduced-bytes
+    reduced-part = part (first .reduced) reduced-bytes (after .reduced) (before .reduced) (ap (λ (x : Reduced). x .reduced) numbers) (ap (λ (x : Buffers). x .reduced) filled)
 
-      same-origin : originOf origin-bytes ≡ originsAt t planLevel
-      same-origin = origin-read-as origin-bytes (originsAt t planLevel) signer (files .origin-reads) .1
+    pub origin-part : take (first .origin - 0) (after .origin) ≡ origin-bytes
+    origin-part = part (first .origin) origin-bytes (after .origin) (before .origin) (ap (λ (x : Reduced). x .origin) numbers) (ap (λ (x : Buffers). x .origin) filled)
 
-      same-numbers : byOriginFile origin-bytes ≡ byOriginal t planLevel
-      unfolding byOriginal byOriginFile
-      same-numbers = ap (λ (o : Origin). λ plan. map (λ n. getD (o .actions) n 0) plan) same-origin
+    pub reduced-fits : first .reduced ≤ length (after .reduced)
+    reduced-fits = room-for (first .reduced) reduced-bytes (after .reduced) (before .reduced) (ap (λ (x : Reduced). x .reduced) numbers) (ap (λ (x : Buffers). x .reduced) filled)
 
-      -- the numbers of reduction
-      numbers : first ≡ record { outcome = reduceStage task planLevel signer room; «action_marks» = actionCount t; «fact_marks» = factCount t; reduced = length reduced-bytes; origin = length origin-bytes; rounds = marking t planLevel .rounds }
-      unfolding reduce reduceAnswer
-      numbers = a ∙ rw (is-done (reduceStage task planLevel signer room) stage-done) refl
+    pub origin-fits : first .origin ≤ length (after .origin)
+    origin-fits = room-for (first .origin) origin-bytes (after .origin) (before .origin) (ap (λ (x : Reduced). x .origin) numbers) (ap (λ (x : Buffers). x .origin) filled)
 
-      -- the parts of the buffers that hold the files
-      part : (n : ℕ) (file new old : List ℕ) → n ≡ length file → new ≡ overwrite old file → take (n - 0) new ≡ file
-      unfolding overwrite
-      part n file new old e q = ap₂ (λ (m : ℕ) (l : List ℕ). take m l) (let s : n - 0 ≡ length file = omega arith in s) q ∙ take-append-seam file _
+    -- what the search asks of the files
+    module _ (file origins : List ℕ) (f : file ≡ reduced-bytes) (g : origins ≡ origin-bytes) where
+      pub file-checked : checkTask file ≡ done
+      file-checked = ap checkTask f ∙ task-read-as reduced-bytes (reducedTask t planLevel) signer (files .reduced-reads) .0
 
-      pub reduced-part : (new old : List ℕ) → new ≡ reducedBuffer task planLevel signer room old → take (first .reduced - 0) new ≡ reduced-bytes
-      unfolding reducedBuffer
-      reduced-part new old e = part (first .reduced) reduced-bytes new old (ap (λ (x : Reduced). x .reduced) numbers) (e ∙ after-done _ reduced-bytes old stage-done)
+      pub enough-numbers : actionCount (taskOf file) ≤ length (originOf origins .actions)
+      unfolding searched reducedTask reducedBy originsAt originBy
+      enough-numbers =
+          let actions : length (taskOf file .actions) ≡ length (keptActions t (keptAt t planLevel)) =
+          ap (λ (x : List ℕ). length (taskOf x .actions)) f ∙ ap (λ (x : Task). length (x .actions)) same-task ∙ length-map (keptActions t (keptAt t planLevel)) _ in
+          let numbers : length (originOf origins .actions) ≡ length (keptActions t (keptAt t planLevel)) =
+          ap (λ (x : List ℕ). length (originOf x .actions)) g ∙ ap (λ (x : Origin). length (x .actions)) same-origin in
+          omega arith
 
-      pub origin-part : (new old : List ℕ) → new ≡ originBuffer task planLevel signer room old → take (first .origin - 0) new ≡ origin-bytes
-      unfolding originBuffer
-      origin-part new old e = part (first .origin) origin-bytes new old (ap (λ (x : Reduced). x .origin) numbers) (e ∙ after-done _ origin-bytes old stage-done)
+      -- the search of the reduced task, by original numbers
+      module _ (room : ℕ) (plan : List ℕ) (found : Found) (fill : ℕ → List Entry) (now : List ℕ) (w : SearchesRoom (taskOf file) (byOriginFile origins) signer room plan found (fill (found .states)) now) where
+        abbrev entries : List Entry
+        entries = fill (found .states)
 
-      pub reduced-fits : (new old : List ℕ) → new ≡ reducedBuffer task planLevel signer room old → first .reduced ≤ length new
-      unfolding reducedBuffer overwrite
-      reduced-fits new old e =
-          omega (
-            arith,
-            ap length (e ∙ after-done _ reduced-bytes old stage-done),
-            length-append reduced-bytes (drop (length reduced-bytes) old),
-            ap (λ (x : Reduced). x .reduced) numbers,
-          )
+        searches : SearchesRoom u (byOriginal t planLevel) signer room plan found entries now
+        searches =
+            subst (λ (h : List ℕ → List ℕ). SearchesRoom u h signer room plan found entries now) (ap byOriginFile g ∙ same-numbers)
+            (subst (λ (x : Task). SearchesRoom x (byOriginFile origins) signer room plan found entries now) (ap taskOf f ∙ same-task) w)
 
-      pub origin-fits : (new old : List ℕ) → new ≡ originBuffer task planLevel signer room old → first .origin ≤ length new
-      unfolding originBuffer overwrite
-      origin-fits new old e =
-          omega (
-            arith,
-            ap length (e ∙ after-done _ origin-bytes old stage-done),
-            length-append origin-bytes (drop (length origin-bytes) old),
-            ap (λ (x : Reduced). x .origin) numbers,
-          )
+        abbrev search-row : List Entry → List (Stage SearchBuffers)
+        search-row table = searchStages u (planFound task) signer (searchBuffers table plan)
 
-      -- what the search asks of the files
-      module _ (file origins : List ℕ) (f : file ≡ reduced-bytes) (g : origins ≡ origin-bytes) where
-        pub file-checked : checkTask file ≡ done
-        file-checked = ap checkTask f ∙ task-read-as reduced-bytes (reducedTask t planLevel) signer (files .reduced-reads) .0
+        -- the plan by original numbers
+        made : planMade task ≡ byOriginal t planLevel (foundPlan u)
+        unfolding planMade planFound foundPlan byOriginal
+        made = split-option (firstPlan u) (λ e. rw e refl) (λ p e. rw e refl)
 
-        pub enough-numbers : actionCount (taskOf file) ≤ length (originOf origins .actions)
-        unfolding searched reducedTask reducedBy originsAt originBy
-        enough-numbers =
-            let actions : length (taskOf file .actions) ≡ length (keptActions t (keptAt t planLevel)) =
-            ap (λ (x : List ℕ). length (taskOf x .actions)) f ∙ ap (λ (x : Task). length (x .actions)) same-task ∙ length-map (keptActions t (keptAt t planLevel)) _ in
-            let numbers : length (originOf origins .actions) ≡ length (keptActions t (keptAt t planLevel)) =
-            ap (λ (x : List ℕ). length (originOf x .actions)) g ∙ ap (λ (x : Origin). length (x .actions)) same-origin in
-            omega arith
+        -- where all is done
+        module _ (table : List Entry) (y : isDone (outcomeOf (search-row table)) ≡ true) where
+          stages : (statesFit u (length table) .number ≡ 0) × (planFits (planFound task) signer (length plan) .number ≡ 0)
+          unfolding searchStages
+          stages =
+              let both = both-done (statesFit u (length table)) _ (done-number _ y) in
+              (both .0, both-done (planFits (planFound task) signer (length plan)) _ (both .1) .0)
 
-        -- the search of the reduced task, by original numbers
-        module _ (found : Found) (b : found ≡ foundAnswer (taskOf file) (byOriginFile origins) signer tableRoom planRoom) where
-          abbrev u : Task
-          u = searched task
+          plan-there : (plan : List ℕ) × (firstPlan u ≡ some plan)
+          unfolding planFits planFound
+          plan-there =
+              split-option (firstPlan u)
+              (λ e.
+              let q : planFits (Option·map (byOriginal t planLevel) none) signer (length plan) .number ≡ 0 =
+              ap (λ (p : Option (List ℕ)). planFits (Option·map (byOriginal t planLevel) p) signer (length plan) .number) (sym e) ∙ stages .1 in
+              absurd (let k : _≡_ {A = ℕ} 24 0 = q in omega arith))
+              (λ p e. (p, e))
 
-          file-task : taskOf file ≡ u
-          file-task = ap taskOf f ∙ same-task
+          valid : Valid u
+          unfolding searched
+          valid = task-valid (reducedTask t planLevel) (reduction-accepted t planLevel accepted)
 
-          file-numbers : byOriginFile origins ≡ byOriginal t planLevel
-          file-numbers = ap byOriginFile g ∙ same-numbers
+          found-plan : IsPlan u (foundPlan u)
+          found-plan =
+              let p = plan-there .0 in
+              let e = plan-there .1 in
+              let w : PlanFirst u (some p) = subst (PlanFirst u) e (search-least u valid .plan) in
+              subst (IsPlan u) (sym (plan-is u p e)) (w .0 .best .isPlan)
 
-          found-is : found ≡ foundAnswer u (byOriginal t planLevel) signer tableRoom planRoom
-          found-is = b ∙ ap₂ (λ (x : Task) (h : List ℕ → List ℕ). foundAnswer x h signer tableRoom planRoom) file-task file-numbers
+          totals : totalOf u (foundPlan u) ≡ totalOf t (planMade task)
+          unfolding searched
+          totals = sym (ap (totalOf t) made ∙ reduction-preserves t planLevel accepted .plan-back (foundPlan u) found-plan .1)
 
-          found-outcome : found .outcome ≡ searchOutcome u (byOriginal t planLevel) signer tableRoom planRoom
-          unfolding foundAnswer
-          found-outcome =
-              ap (λ (x : Found). x .outcome) found-is
-              ∙ split (isDone (searchOutcome u (byOriginal t planLevel) signer tableRoom planRoom)) (λ e. rw e refl) (λ e. rw e refl)
+          whole-is : bothTogether (reduceWhole t planLevel signer) (foundWhole u (byOriginal t planLevel) signer) .planned ≡ planWhole task signer
+          unfolding bothTogether isDone searchedStates
+          whole-is =
+              λ i. record {
+                outcome = done;
+                «action_marks» = planWhole task signer .«action_marks»;
+                «fact_marks» = planWhole task signer .«fact_marks»;
+                reduced = planWhole task signer .reduced;
+                origin = planWhole task signer .origin;
+                table = planWhole task signer .table;
+                plan = ap (λ (p : List ℕ). length (planFile p signer)) (sym made) i;
+                rounds = planWhole task signer .rounds;
+                cost = record { 0 = totals i .minutes };
+                steps = record { 0 = totals i .steps };
+              }
 
-          pub found-states : found .states ≡ foundStates u tableRoom
-          unfolding foundAnswer
-          found-states =
-              ap (λ (x : Found). x .states) found-is
-              ∙ split (isDone (searchOutcome u (byOriginal t planLevel) signer tableRoom planRoom)) (λ e. rw e refl) (λ e. rw e refl)
+        module _ (table : List Entry) (len : length table ≡ room) where
+          search-whole : isDone (outcomeOf (search-row table)) ≡ true → found ≡ foundWhole u (byOriginal t planLevel) signer
+          unfolding planFound
+          search-whole y = given-whole (searches table len) y
 
-          -- the stages of the row
-          search-stage : statesFit u tableRoom ≡ searchStage task signer whole
-          unfolding searchStage
-          search-stage = goes-on (reduceStage task planLevel signer room) _ (statesFit u tableRoom) (first .outcome) first-is z refl
+          search-refused : isDone (outcomeOf (search-row table)) ≡ false → found ≡ notFound (foundStates u (length table)) (outcomeOf (search-row table))
+          unfolding planFound
+          search-refused n = given-refused (searches table len) n
 
-          plan-stage : found .outcome ≡ planStage task signer whole
-          unfolding planStage planFound searchOutcome
-          plan-stage = found-outcome ∙ ap (λ (o : Outcome). andThen o (planFits (Option·map (byOriginal t planLevel) (firstPlan u)) signer planRoom)) search-stage
-
-          pub row-table : (minutes steps : List ℕ) → entriesIn minutes steps (found .states) ≡ cond (isDone (statesFit (taskOf file) tableRoom)) (tableOf (taskOf file)) []
-              → entriesIn minutes steps (found .states) ≡ cond (isDone (searchStage task signer whole)) (tableOf u) []
-          row-table minutes steps w =
-              w
-              ∙ ap (λ (x : Task). cond (isDone (statesFit x tableRoom)) (tableOf x) []) file-task
-              ∙ ap (λ (o : Outcome). cond (isDone o) (tableOf u) []) search-stage
-
-          -- the plan by original numbers
-          made : planMade task ≡ byOriginal t planLevel (foundPlan u)
-          unfolding planMade planFound foundPlan byOriginal
-          made = split-option (firstPlan u) (λ e. rw e refl) (λ p e. rw e refl)
-
-          pub row-plan : (new old : List ℕ) → new ≡ after (found .outcome) (planFile (byOriginFile origins (foundPlan (taskOf file))) signer) old → new ≡ plannedPlan task signer whole old
-          unfolding plannedPlan
-          row-plan new old e =
-              e
-              ∙ ap₂ (λ (x : Task) (h : List ℕ → List ℕ). after (found .outcome) (planFile (h (foundPlan x)) signer) old) file-task file-numbers
-              ∙ ap₂ (λ (o : Outcome) (p : List ℕ). after o (planFile p signer) old) plan-stage (sym made)
-
-          -- where it is done
-          module _ (y : found .outcome .number ≡ 0) where
-            stages : (statesFit u tableRoom .number ≡ 0) × (planFits (Option·map (byOriginal t planLevel) (firstPlan u)) signer planRoom .number ≡ 0)
-            unfolding searchOutcome
-            stages = both-done (statesFit u tableRoom) _ (ap (λ (o : Outcome). o .number) (sym found-outcome) ∙ y)
-
-            plan-there : (plan : List ℕ) × (firstPlan u ≡ some plan)
-            unfolding planFits
-            plan-there =
-                split-option (firstPlan u)
-                (λ e.
-                let q : planFits (Option·map (byOriginal t planLevel) none) signer planRoom .number ≡ 0 =
-                ap (λ (p : Option (List ℕ)). planFits (Option·map (byOriginal t planLevel) p) signer planRoom .number) (sym e) ∙ stages .1 in
-                absurd (let k : _≡_ {A = ℕ} 24 0 = q in omega arith))
-                (λ p e. (p, e))
-
-            valid : Valid u
-            unfolding searched
-            valid = task-valid (reducedTask t planLevel) (reduction-accepted t planLevel accepted)
-
-            found-plan : IsPlan u (foundPlan u)
-            found-plan =
-                let p = plan-there .0 in
-                let e = plan-there .1 in
-                let w : PlanFirst u (some p) = subst (PlanFirst u) e (search-least u valid .plan) in
-                subst (IsPlan u) (sym (plan-is u p e)) (w .0 .best .isPlan)
-
-            totals : totalOf t (planMade task) ≡ totalOf u (foundPlan u)
-            unfolding searched
-            totals = ap (totalOf t) made ∙ reduction-preserves t planLevel accepted .plan-back (foundPlan u) found-plan .1
-
-            filled : foundStates u tableRoom ≡ stateCount (u .variables)
-            unfolding foundStates
-            filled = rw (is-done (statesFit u tableRoom) (stages .0)) refl
-
-            found-numbers : found ≡ record { outcome = found .outcome; states = stateCount (u .variables); plan = length (planFile (byOriginal t planLevel (foundPlan u)) signer); cost = record { 0 = totalOf u (foundPlan u) .minutes }; steps = record { 0 = totalOf u (foundPlan u) .steps } }
-            unfolding foundAnswer
-            found-numbers = found-is ∙ rw (← found-outcome, is-done (found .outcome) y, filled) refl
-
-            done-answer : both-planned first found ≡ planAnswer task signer whole
-            unfolding planAnswer searchedStates
-            done-answer =
-                rw (← plan-stage, is-done (found .outcome) y)
-                (λ i.
-                record {
-                  outcome = found .outcome;
-                  «action_marks» = numbers i .«action_marks»;
-                  «fact_marks» = numbers i .«fact_marks»;
-                  reduced = numbers i .reduced;
-                  origin = numbers i .origin;
-                  table = found-numbers i .states;
-                  plan = (ap (λ (x : Found). x .plan) found-numbers ∙ ap (λ (p : List ℕ). length (planFile p signer)) (sym made)) i;
-                  rounds = numbers i .rounds;
-                  cost = record { 0 = (ap (λ (x : Found). x .cost .0) found-numbers ∙ ap (λ (x : Total). x .minutes) (sym totals)) i };
-                  steps = record { 0 = (ap (λ (x : Found). x .steps .0) found-numbers ∙ ap (λ (x : Total). x .steps) (sym totals)) i };
-                })
-
-          late-refused : isDone (found .outcome) ≡ false → unplanned (found .outcome) ≡ planAnswer task signer whole
-          unfolding planAnswer
-          late-refused e = rw (← plan-stage, e) refl
-
-          pub row-answer : (r : Run) → r ≡ bothTogether first found → (r .planned ≡ planAnswer task signer whole) × (r .states ≡ found .states)
+          answer-is : (r : Run) → r ≡ bothTogether first found → r .planned ≡ answerBy (search-row table) (planWhole task signer) unplanned
           unfolding bothTogether
-          row-answer r q =
-              split (isDone (found .outcome))
-              (λ e. (ap (λ (x : Run). x .planned) q ∙ rw e refl ∙ done-answer (done-number (found .outcome) e), ap (λ (x : Run). x .states) q))
-              (λ e. (ap (λ (x : Run). x .planned) q ∙ rw e refl ∙ late-refused e, ap (λ (x : Run). x .states) q))
+          answer-is r q =
+              split (isDone (outcomeOf (search-row table)))
+              (λ y. rw y (ap (λ (x : Run). x .planned) q ∙ ap₂ (λ (x : Reduced) (y : Found). bothTogether x y .planned) numbers (search-whole y) ∙ whole-is table y))
+              (λ n.
+              let no : found .outcome ≡ outcomeOf (search-row table) = ap (λ (x : Found). x .outcome) (search-refused n) in
+              rw n (ap (λ (x : Run). x .planned) q ∙ rw (ap isDone no ∙ n) (ap unplanned no)))
+
+          filled-states : found .states ≡ foundStates u room
+          unfolding foundStates
+          filled-states =
+              split (isDone (outcomeOf (search-row table)))
+              (λ y. ap (λ (x : Found). x .states) (search-whole y) ∙ sym (rw (ap (λ (n : ℕ). isDone (statesFit u n)) (sym len) ∙ is-done _ (stages table y .0)) refl))
+              (λ n. ap (λ (x : Found). x .states) (search-refused n) ∙ ap (foundStates u) len)
+
+        search-buffers : (table : List Entry) → length table ≡ room → searchBuffers (overwrite table entries) now ≡ leftBy (search-row table) (searchBuffers table plan)
+        unfolding planFound
+        search-buffers table len = searches table len .buffers
+
+        pub plans-late : (r : Run) → r ≡ bothTogether first found → PlansRoom task signer room before plan r after (fill (r .states)) now
+        unfolding planStages bothTogether
+        plans-late r q =
+            let states : r .states ≡ found .states = ap (λ (x : Run). x .states) q in
+            let bounded = filled-bounded u room (r .states) (states ∙ filled-states (replicate room (entry 0 0)) (length-replicate room (entry 0 0))) in
+            record {
+              plans = λ table len.
+                  by-second files-row (search-row table) _ _ before (row-done z) (searchBuffers table plan) (searchBuffers (overwrite table entries) now)
+                  (λ i. lent ((sym (k .buffers) ∙ filled) i) table plan)
+                  (λ i. lent (filled i) (overwrite table (fill (states i))) now)
+                  (record { answer = answer-is table len r q; buffers = search-buffers table len });
+              states-inside = bounded .0;
+              states-few = bounded .1;
+            }

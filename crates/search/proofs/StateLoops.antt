@@ -15,7 +15,7 @@ use Rattle.plans.specs.State.{State, apply}
 use Rattle.plans.specs.Tally.{listState}
 use Rattle.plans.proofs.RowStates.{after-none, after-some}
 use Rattle.search.specs.States.{stateNumber, stateAt}
-use Rattle.search.specs.Columns.{rowVariables, rowStates, rowWeight}
+use Rattle.search.specs.Rows.{rowVariables, rowStates, rowWeight, Counted}
 use Rattle.search.proofs.Radix.{state-past}
 use Rattle.search.proofs.RowNumbers.{RowSizes, RowInside, numberFrom, row-number, number-alike, number-from-below, states-weight, weight-most, count-from-most, row-length, state-alike}
 use Rattle.search.proofs.RowSteps.{afterRow, apply-row}
@@ -33,17 +33,14 @@ pub weight-next : (sizes : List ℕ) (v weight d : ℕ) → weight ≡ rowWeight
 unfolding rowWeight
 weight-next sizes v weight d e f = ap₂ _*_ e f ∙ sym (ap (rowWeight sizes) (add-one v))
 
-abbrev pub Counted : ℕ → List ℕ → ℕ → Type 0
-Counted n sizes r = (r ≤ 4096 → r ≡ rowStates n sizes) × (4096 < r → 4096 < rowStates n sizes)
-
 pub count-over : (sizes : List ℕ) (n v r : ℕ) → RowSizes n sizes → v < n → r ≡ rowWeight sizes (v + 1) → 4096 < r → Counted n sizes r
-count-over sizes n v r h l e over = (λ k. absurd (omega arith), λ k. omega (arith, weight-most sizes (v + 1) n h (omega arith)))
+count-over sizes n v r h l e over = record { few = λ k. absurd (omega arith); many = λ k. omega (arith, weight-most sizes (v + 1) n h (omega arith)) }
 
 pub count-end : (sizes : List ℕ) (n v r : ℕ) → v ≤ n → n ≤ v → r ≡ rowWeight sizes v → Counted n sizes r
 count-end sizes n v r a b e =
     let last : v ≡ n = omega arith in
     let is : r ≡ rowStates n sizes = e ∙ ap (rowWeight sizes) last ∙ sym (states-weight sizes n) in
-    (λ k. is, λ k. omega arith)
+    record { few = λ k. is; many = λ k. omega arith }
 
 -- numbers, from the last variable down
 module _ (sizes : List ℕ) (s : State) (n : ℕ) where

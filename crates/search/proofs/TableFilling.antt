@@ -1,19 +1,16 @@
 -- Filling a table entry by entry comes to overwriting its front.
 use Prim.Native.Nat.{ℕ, zero, suc, _+_, _≤_, _<_}
 use mathlib.Core.Path.{_≡_, refl, sym, ap, _∙_}
-use mathlib.Core.Bool.{Bool, true, false, cond}
 use mathlib.Core.List.{List, [], _∷_, _++_}
 use native.Mathlib.Nat.{add-zero, zero-add}
 use native.Mathlib.Omega.{arith}
 use lib.ListN.{length, set, drop}
 use Rattle.files.specs.Below.{tabulateFrom}
-use Rattle.files.specs.Outcome.{isDone, overwrite, after}
+use Rattle.files.specs.Outcome.{overwrite}
 use Rattle.files.proofs.Placed.{overwrite-length}
 use Rattle.files.proofs.Tabulate.{tabulateFrom-length}
 use Rattle.search.specs.declared.Entry.{Entry}
-use Rattle.search.specs.Columns.{entryIn, entriesIn}
-use Rattle.search.specs.Planner.{PlanRooms, searched, searchStage, plannedTable}
-use Rattle.search.specs.Table.{tableOf}
+use Rattle.search.specs.Entries.{entryIn, entriesIn}
 
 -- one entry more at the front of a list
 next-front : {A : Type 0} (f : ℕ → A) (k i : ℕ) (old : List A) → i < length old → set (tabulateFrom k i f ++ drop i old) i (f (k + i)) ≡ tabulateFrom k (suc i) f ++ drop (suc i) old
@@ -23,35 +20,22 @@ next-front f k (suc i) (x ∷ xs) h =
     ap (λ (n : ℕ). f k ∷ set (tabulateFrom (k + 1) i f ++ drop i xs) i (f n)) (omega arith)
     ∙ ap (λ (l : List _). f k ∷ l) (next-front f (k + 1) i xs (omega arith))
 
-module _ (old : List Entry) (minutes steps : List ℕ) where
-  entries-length : (n : ℕ) → length (entriesIn minutes steps n) ≡ n
+module _ (old : List Entry) (entries : List ℕ) where
+  entries-length : (n : ℕ) → length (entriesIn entries n) ≡ n
   unfolding entriesIn
-  entries-length n = tabulateFrom-length (entryIn minutes steps) 0 n
+  entries-length n = tabulateFrom-length (entryIn entries) 0 n
 
-  pub filled-length : (n : ℕ) → n ≤ length old → length (overwrite old (entriesIn minutes steps n)) ≡ length old
-  filled-length n h = overwrite-length old (entriesIn minutes steps n) (omega (arith, entries-length n))
+  pub filled-length : (n : ℕ) → n ≤ length old → length (overwrite old (entriesIn entries n)) ≡ length old
+  filled-length n h = overwrite-length old (entriesIn entries n) (omega (arith, entries-length n))
 
-  pub filled-none : overwrite old (entriesIn minutes steps 0) ≡ old
+  pub filled-none : overwrite old (entriesIn entries 0) ≡ old
   unfolding overwrite entriesIn
   filled-none = refl
 
-  pub filled-next : (i : ℕ) → i < length old → set (overwrite old (entriesIn minutes steps i)) i (entryIn minutes steps i) ≡ overwrite old (entriesIn minutes steps (suc i))
+  pub filled-next : (i : ℕ) → i < length old → set (overwrite old (entriesIn entries i)) i (entryIn entries i) ≡ overwrite old (entriesIn entries (suc i))
   unfolding overwrite entriesIn
   filled-next i h =
-      ap (λ (n : ℕ). set (tabulateFrom 0 i (entryIn minutes steps) ++ drop n old) i (entryIn minutes steps i)) (tabulateFrom-length (entryIn minutes steps) 0 i)
-      ∙ ap (λ (n : ℕ). set (tabulateFrom 0 i (entryIn minutes steps) ++ drop i old) i (entryIn minutes steps n)) (sym (zero-add i))
-      ∙ next-front (entryIn minutes steps) 0 i old h
-      ∙ ap (λ (n : ℕ). tabulateFrom 0 (suc i) (entryIn minutes steps) ++ drop n old) (sym (tabulateFrom-length (entryIn minutes steps) 0 (suc i)))
-
--- nothing is overwritten where there is no result
-overwrite-cond : {A : Type 0} (b : Bool) (new old : List A) → overwrite old (cond b new []) ≡ cond b (overwrite old new) old
-unfolding overwrite
-overwrite-cond true new old = refl
-overwrite-cond false new old = refl
-
--- the planner's table, filled with the entries of the search
-pub filled-planned : (task : List ℕ) (signer : ℕ) (room : PlanRooms) (old found : List Entry)
-    → found ≡ cond (isDone (searchStage task signer room)) (tableOf (searched task)) []
-    → overwrite old found ≡ plannedTable task signer room old
-unfolding plannedTable after
-filled-planned task signer room old found e = ap (overwrite old) e ∙ overwrite-cond (isDone (searchStage task signer room)) (tableOf (searched task)) old
+      ap (λ (n : ℕ). set (tabulateFrom 0 i (entryIn entries) ++ drop n old) i (entryIn entries i)) (tabulateFrom-length (entryIn entries) 0 i)
+      ∙ ap (λ (n : ℕ). set (tabulateFrom 0 i (entryIn entries) ++ drop i old) i (entryIn entries n)) (sym (zero-add i))
+      ∙ next-front (entryIn entries) 0 i old h
+      ∙ ap (λ (n : ℕ). tabulateFrom 0 (suc i) (entryIn entries) ++ drop n old) (sym (tabulateFrom-length (entryIn entries) 0 (suc i)))

@@ -3,8 +3,9 @@ pub mod States
 pub mod Table
 pub mod FirstPlan
 pub mod Least
-pub mod Columns
+pub mod Entries
 pub mod Settling
+pub mod Rows
 pub mod Planner
 pub mod Found
 pub mod Answers

@@ -19,7 +19,7 @@ use Rattle.reduction.specs.Answers.{LongEnough}
 use Rattle.search.specs.States.{stateCount}
 use Rattle.search.specs.Table.{entryOf}
 use Rattle.search.specs.Least.{startedAt}
-use Rattle.search.specs.Planner.{planLevel, PlanRooms, Lent, lentRooms, planStage}
+use Rattle.search.specs.Planner.{planLevel, Lent, Plans, planAnswer}
 use Rattle.search.specs.declared.Entry.{Entry}
 use Rattle.search.specs.declared.Planned.{Planned}
 
@@ -64,21 +64,26 @@ PlannerPromise task signer b answer now =
     → PlanLongEnough task signer b
     → PlannerRight task signer answer now
 
+-- the planner's call: by its stages, and right
+pub record PlansRight (task : List ℕ) (signer : ℕ) (b : Lent) (answer : Planned) (now : Lent) : Type 0 where
+  pub stages : Plans task signer b answer now
+  pub right : PlannerPromise task signer b answer now
+
 -- buffers of the header's largest lengths
-unfoldable pub ample : PlanRooms
-ample =
-    record {
-      reduction = record { actions = 512; facts = 2048; reduced = 65536; origin = 5520 };
-      table = 4096;
-      plan = 8206;
-    }
+pub record Ample (b : Lent) : Type 0 where
+  pub actions : length (b .buffers .actions) ≡ 512
+  pub facts : length (b .buffers .facts) ≡ 2048
+  pub reduced : length (b .buffers .reduced) ≡ 65536
+  pub origin : length (b .buffers .origin) ≡ 5520
+  pub table : length (b .table) ≡ 4096
+  pub plan : length (b .plan) ≡ 8206
 
 -- they are long enough for every accepted task that is searched
 abbrev pub AmpleSuffices : Type 0
 AmpleSuffices = (task : List ℕ) (signer : ℕ) (b : Lent) → Octets task → checkTask task ≡ done
     → stateCount (reducedTask (taskOf task) planLevel .variables) ≤ 4096
-    → lentRooms b ≡ ample → PlanLongEnough task signer b
+    → Ample b → PlanLongEnough task signer b
 
 -- and with them no file is refused with 21
 abbrev pub NeverShort : Type 0
-NeverShort = (task : List ℕ) (signer : ℕ) → Octets task → planStage task signer ample .number ≡ 21 → ⊥
+NeverShort = (task : List ℕ) (signer : ℕ) (b : Lent) → Octets task → Ample b → planAnswer task signer b .outcome .number ≡ 21 → ⊥

@@ -1,6 +1,6 @@
 // Search over the states of the reduced task, and the planner.
 // The call open to callers is plan; the module own_table serves the programs.
-mod columns;
+mod entries;
 mod first_plan;
 pub mod own_table;
 mod selection;
@@ -10,11 +10,8 @@ mod steps_to;
 mod table;
 mod work_table;
 
-ghost use mathlib.Core.Path.{_≡_};
-ghost use lib.ListN.{length};
-ghost use Rattle.reduction.specs.Reduce.{rooms};
-ghost use Rattle.search.specs.Planner.{planRooms, planAnswer, plannedActionMarks, plannedFactMarks, plannedReduced, plannedOrigin, plannedTable, plannedPlan, lentOf};
-ghost use Rattle.search.specs.PlannerRight.{PlannerPromise};
+ghost use Rattle.search.specs.Planner.{lentOf};
+ghost use Rattle.search.specs.PlannerRight.{PlansRight};
 
 // An entry of the work table: the least cost to the goal from a state, then the fewest steps at
 // that cost; 2^64 - 1 and 65,535 where the goal cannot be reached. C callers lend such tables.
@@ -51,17 +48,9 @@ pub fn plan(
     table: &mut [Entry],
     plan: &mut [u8],
 ) -> Planned
-    ensures answer { λ r. ⌜ r ≡ planAnswer (now (task .entry)) signer (planRooms (rooms (length (now (actions .entry))) (length (now (facts .entry))) (length (now (reduced .entry))) (length (now (origin .entry)))) (length (now (table .entry))) (length (now (plan .entry)))) ⌝ }
-    ensures actions { λ r. ⌜ now (actions .exit) ≡ plannedActionMarks (now (task .entry)) signer (planRooms (rooms (length (now (actions .entry))) (length (now (facts .entry))) (length (now (reduced .entry))) (length (now (origin .entry)))) (length (now (table .entry))) (length (now (plan .entry)))) (now (actions .entry)) ⌝ }
-    ensures facts { λ r. ⌜ now (facts .exit) ≡ plannedFactMarks (now (task .entry)) signer (planRooms (rooms (length (now (actions .entry))) (length (now (facts .entry))) (length (now (reduced .entry))) (length (now (origin .entry)))) (length (now (table .entry))) (length (now (plan .entry)))) (now (facts .entry)) ⌝ }
-    ensures reduced { λ r. ⌜ now (reduced .exit) ≡ plannedReduced (now (task .entry)) signer (planRooms (rooms (length (now (actions .entry))) (length (now (facts .entry))) (length (now (reduced .entry))) (length (now (origin .entry)))) (length (now (table .entry))) (length (now (plan .entry)))) (now (reduced .entry)) ⌝ }
-    ensures origin { λ r. ⌜ now (origin .exit) ≡ plannedOrigin (now (task .entry)) signer (planRooms (rooms (length (now (actions .entry))) (length (now (facts .entry))) (length (now (reduced .entry))) (length (now (origin .entry)))) (length (now (table .entry))) (length (now (plan .entry)))) (now (origin .entry)) ⌝ }
-    ensures table { λ r. ⌜ now (table .exit) ≡ plannedTable (now (task .entry)) signer (planRooms (rooms (length (now (actions .entry))) (length (now (facts .entry))) (length (now (reduced .entry))) (length (now (origin .entry)))) (length (now (table .entry))) (length (now (plan .entry)))) (now (table .entry)) ⌝ }
-    ensures plan { λ r. ⌜ now (plan .exit) ≡ plannedPlan (now (task .entry)) signer (planRooms (rooms (length (now (actions .entry))) (length (now (facts .entry))) (length (now (reduced .entry))) (length (now (origin .entry)))) (length (now (table .entry))) (length (now (plan .entry)))) (now (plan .entry)) ⌝ }
-    ensures right { λ r. ⌜ PlannerPromise (now (task .entry)) signer (lentOf (now (actions .entry)) (now (facts .entry)) (now (reduced .entry)) (now (origin .entry)) (now (table .entry)) (now (plan .entry))) r (lentOf (now (actions .exit)) (now (facts .exit)) (now (reduced .exit)) (now (origin .exit)) (now (table .exit)) (now (plan .exit))) ⌝ }
+    ensures { λ r. ⌜ PlansRight (now (task .entry)) signer (lentOf (now (actions .entry)) (now (facts .entry)) (now (reduced .entry)) (now (origin .entry)) (now (table .entry)) (now (plan .entry))) r (lentOf (now (actions .exit)) (now (facts .exit)) (now (reduced .exit)) (now (origin .exit)) (now (table .exit)) (now (plan .exit))) ⌝ }
 {
-    let mut minutes = [0u64; 4096];
-    let mut steps = [0u16; 4096];
+    let mut entries = [0u64; 8192];
     let room = table.len();
     let run = stages::plan_columns(
         task,
@@ -70,12 +59,11 @@ pub fn plan(
         facts,
         reduced,
         origin,
-        &mut minutes,
-        &mut steps,
+        &mut entries,
         room,
         plan,
     );
     let states = run.states;
-    work_table::fill(table, &minutes, &steps, states);
+    work_table::fill(table, &entries, states);
     run.planned
 }

@@ -1,10 +1,8 @@
 // The planner with a table of its own, for callers that do not look at the table.
-ghost use mathlib.Core.Path.{_≡_};
-ghost use lib.ListN.{length};
-ghost use Rattle.reduction.specs.Reduce.{rooms};
-ghost use Rattle.search.specs.Planner.{planRooms, planAnswer, plannedActionMarks, plannedFactMarks, plannedReduced, plannedOrigin, plannedPlan};
-use crate::Entry;
+ghost use Rattle.reduction.specs.Reduce.{buffers};
+ghost use Rattle.search.specs.Found.{PlansAlone};
 use crate::Planned;
+use crate::stages;
 
 // Plans as the planner does, with a table that is long enough for every task.
 pub fn plan(
@@ -16,25 +14,19 @@ pub fn plan(
     origin: &mut [u8],
     plan: &mut [u8],
 ) -> Planned
-    ensures answer { λ r. ⌜ r ≡ planAnswer (now (task .entry)) signer (planRooms (rooms (length (now (actions .entry))) (length (now (facts .entry))) (length (now (reduced .entry))) (length (now (origin .entry)))) 4096 (length (now (plan .entry)))) ⌝ }
-    ensures actions { λ r. ⌜ now (actions .exit) ≡ plannedActionMarks (now (task .entry)) signer (planRooms (rooms (length (now (actions .entry))) (length (now (facts .entry))) (length (now (reduced .entry))) (length (now (origin .entry)))) 4096 (length (now (plan .entry)))) (now (actions .entry)) ⌝ }
-    ensures facts { λ r. ⌜ now (facts .exit) ≡ plannedFactMarks (now (task .entry)) signer (planRooms (rooms (length (now (actions .entry))) (length (now (facts .entry))) (length (now (reduced .entry))) (length (now (origin .entry)))) 4096 (length (now (plan .entry)))) (now (facts .entry)) ⌝ }
-    ensures reduced { λ r. ⌜ now (reduced .exit) ≡ plannedReduced (now (task .entry)) signer (planRooms (rooms (length (now (actions .entry))) (length (now (facts .entry))) (length (now (reduced .entry))) (length (now (origin .entry)))) 4096 (length (now (plan .entry)))) (now (reduced .entry)) ⌝ }
-    ensures origin { λ r. ⌜ now (origin .exit) ≡ plannedOrigin (now (task .entry)) signer (planRooms (rooms (length (now (actions .entry))) (length (now (facts .entry))) (length (now (reduced .entry))) (length (now (origin .entry)))) 4096 (length (now (plan .entry)))) (now (origin .entry)) ⌝ }
-    ensures plan { λ r. ⌜ now (plan .exit) ≡ plannedPlan (now (task .entry)) signer (planRooms (rooms (length (now (actions .entry))) (length (now (facts .entry))) (length (now (reduced .entry))) (length (now (origin .entry)))) 4096 (length (now (plan .entry)))) (now (plan .entry)) ⌝ }
+    ensures { λ r. ⌜ PlansAlone (now (task .entry)) signer (buffers (now (actions .entry)) (now (facts .entry)) (now (reduced .entry)) (now (origin .entry))) (now (plan .entry)) r (buffers (now (actions .exit)) (now (facts .exit)) (now (reduced .exit)) (now (origin .exit))) (now (plan .exit)) ⌝ }
 {
-    let mut table = [Entry {
-        minutes: 0,
-        steps: 0,
-    }; 4096];
-    crate::plan(
+    let mut entries = [0u64; 8192];
+    let run = stages::plan_columns(
         task,
         signer,
         actions,
         facts,
         reduced,
         origin,
-        &mut table,
+        &mut entries,
+        4096,
         plan,
-    )
+    );
+    run.planned
 }

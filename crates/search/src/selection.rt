@@ -1,15 +1,12 @@
 // The state to settle next. The least state of each block of 64 states is remembered, and found anew
 // where the block has changed.
-ghost use mathlib.Core.List.{List};
-ghost use Prim.Native.Nat.{ℕ, _+_, _*_, _<_, _≤_};
-ghost use lib.ListN.{length, getD};
-ghost use Rattle.search.specs.Settling.{Picked, Known};
-use crate::columns;
+ghost use Rattle.search.specs.Settling.{Picked, TwoStates, Lesser, BestSoFar, Better, Stretch, Block, BlockEnd, Blocks, BlockOf, Refreshed, Selected};
+use crate::entries;
 
 // Of two states, or `count` for none, the one with the lesser entry; the first where they are alike.
-fn lesser(minutes: &[u64], steps: &[u16], count: usize, first: usize, second: usize) -> usize
-    requires { ⌜ (first ≤ count) × (second ≤ count) × (count ≤ length (now minutes)) × (count ≤ length (now steps)) ⌝ }
-    ensures { λ r. ⌜ (r ≤ count) × ((settled : List ℕ) (from middle limit : ℕ) → from ≤ middle → middle ≤ limit → Picked (now (minutes .entry)) (now (steps .entry)) settled count from middle first → Picked (now (minutes .entry)) (now (steps .entry)) settled count middle limit second → Picked (now (minutes .entry)) (now (steps .entry)) settled count from limit r) ⌝ }
+fn lesser(entries: &[u64], count: usize, first: usize, second: usize) -> usize
+    requires { ⌜ TwoStates (now entries) count first second ⌝ }
+    ensures { λ r. ⌜ Lesser (now (entries .entry)) count first second r ⌝ }
 {
     if second == count {
         return first;
@@ -17,49 +14,38 @@ fn lesser(minutes: &[u64], steps: &[u16], count: usize, first: usize, second: us
     if first == count {
         return second;
     }
-    if columns::less(minutes[second], steps[second], minutes[first], steps[first]) {
+    if entries::less(
+        entries::entry_at(entries, second),
+        entries::entry_at(entries, first),
+    ) {
         return second;
     }
     first
 }
 
 // Of the best state so far, or `count`, and state s the better: one that is open and has an entry.
-fn better(
-    minutes: &[u64],
-    steps: &[u16],
-    settled: &[u8],
-    count: usize,
-    best: usize,
-    s: usize,
-) -> usize
-    requires { ⌜ (best ≤ count) × (s < count) × (count ≤ length (now minutes)) × (count ≤ length (now steps)) × (count ≤ length (now settled)) ⌝ }
-    ensures { λ r. ⌜ (r ≤ count) × ((from : ℕ) → from ≤ s → Picked (now (minutes .entry)) (now (steps .entry)) (now (settled .entry)) count from s best → Picked (now (minutes .entry)) (now (steps .entry)) (now (settled .entry)) count from (s + 1) r) ⌝ }
+fn better(entries: &[u64], settled: &[u8], count: usize, best: usize, s: usize) -> usize
+    requires { ⌜ BestSoFar (now entries) (now settled) count best s ⌝ }
+    ensures { λ r. ⌜ Better (now (entries .entry)) (now (settled .entry)) count best s r ⌝ }
 {
     if settled[s] != 0 {
         return best;
     }
-    if minutes[s] == 18446744073709551615 {
+    if entries::is_none(entries::entry_at(entries, s)) {
         return best;
     }
-    lesser(minutes, steps, count, best, s)
+    lesser(entries, count, best, s)
 }
 
 // The best of the open states from `from` on below `limit`, or `count` where none has an entry.
-fn pick(
-    minutes: &[u64],
-    steps: &[u16],
-    settled: &[u8],
-    count: usize,
-    from: usize,
-    limit: usize,
-) -> usize
-    requires { ⌜ (from ≤ limit) × (limit ≤ count) × (count ≤ length (now minutes)) × (count ≤ length (now steps)) × (count ≤ length (now settled)) ⌝ }
-    ensures { λ r. ⌜ Picked (now (minutes .entry)) (now (steps .entry)) (now (settled .entry)) count from limit r ⌝ }
+fn pick(entries: &[u64], settled: &[u8], count: usize, from: usize, limit: usize) -> usize
+    requires { ⌜ Stretch (now entries) (now settled) count from limit ⌝ }
+    ensures { λ r. ⌜ Picked (now (entries .entry)) (now (settled .entry)) count from limit r ⌝ }
 {
     let mut best = count;
     let mut s = from;
     while s < limit {
-        best = better(minutes, steps, settled, count, best, s);
+        best = better(entries, settled, count, best, s);
         s += 1;
     }
     best
@@ -67,8 +53,8 @@ fn pick(
 
 // Where block `b` ends.
 fn block_end(count: usize, b: usize) -> usize
-    requires { ⌜ (64 * b < count) × (count ≤ 4096) ⌝ }
-    ensures { λ r. ⌜ (64 * b ≤ r) × (r ≤ count) × (r ≤ 64 * b + 64) × (r < 64 * b + 64 → count ≤ r) ⌝ }
+    requires { ⌜ Block count b ⌝ }
+    ensures { λ r. ⌜ BlockEnd count b r ⌝ }
 {
     let end = 64 * b + 64;
     if end < count {
@@ -79,40 +65,38 @@ fn block_end(count: usize, b: usize) -> usize
 
 // Finds the least state of block `b` anew where the block has changed.
 fn refresh(
-    minutes: &[u64],
-    steps: &[u16],
+    entries: &[u64],
     settled: &[u8],
     changed: &mut [u8],
     least: &mut [usize],
     count: usize,
     b: usize,
 )
-    requires { ⌜ (64 * b < count) × (count ≤ 4096) × (count ≤ length (now minutes)) × (count ≤ length (now steps)) × (count ≤ length (now settled)) × (64 ≤ length (now changed)) × (64 ≤ length (now least)) × Known (now minutes) (now steps) (now settled) count (now changed) (now least) ⌝ }
-    ensures { λ r. ⌜ Known (now (minutes .entry)) (now (steps .entry)) (now (settled .entry)) count (now (changed .exit)) (now (least .exit)) × Picked (now (minutes .entry)) (now (steps .entry)) (now (settled .entry)) count (64 * b) (64 * b + 64) (getD (now (least .exit)) b 0) ⌝ }
+    requires { ⌜ BlockOf (now entries) (now settled) count (now changed) (now least) b ⌝ }
+    ensures { λ r. ⌜ Refreshed (now (entries .entry)) (now (settled .entry)) count (now (changed .exit)) (now (least .exit)) b ⌝ }
 {
     if changed[b] != 0 {
-        least[b] = pick(minutes, steps, settled, count, 64 * b, block_end(count, b));
+        least[b] = pick(entries, settled, count, 64 * b, block_end(count, b));
         changed[b] = 0;
     }
 }
 
 // The open state with the least entry, or `count` where no open state has one.
 pub fn select(
-    minutes: &[u64],
-    steps: &[u16],
+    entries: &[u64],
     settled: &[u8],
     changed: &mut [u8],
     least: &mut [usize],
     count: usize,
 ) -> usize
-    requires { ⌜ (count ≤ 4096) × (count ≤ length (now minutes)) × (count ≤ length (now steps)) × (count ≤ length (now settled)) × (64 ≤ length (now changed)) × (64 ≤ length (now least)) × Known (now minutes) (now steps) (now settled) count (now changed) (now least) ⌝ }
-    ensures { λ r. ⌜ Picked (now (minutes .entry)) (now (steps .entry)) (now (settled .entry)) count 0 count r × Known (now (minutes .entry)) (now (steps .entry)) (now (settled .entry)) count (now (changed .exit)) (now (least .exit)) ⌝ }
+    requires { ⌜ Blocks (now entries) (now settled) count (now changed) (now least) ⌝ }
+    ensures { λ r. ⌜ Selected (now (entries .entry)) (now (settled .entry)) count (now (changed .exit)) (now (least .exit)) r ⌝ }
 {
     let mut best = count;
     let mut b: usize = 0;
     while 64 * b < count {
-        refresh(minutes, steps, settled, changed, least, count, b);
-        best = lesser(minutes, steps, count, best, least[b]);
+        refresh(entries, settled, changed, least, count, b);
+        best = lesser(entries, count, best, least[b]);
         b += 1;
     }
     best

@@ -1,23 +1,21 @@
-// The planner's stages, with the work table as two columns.
+// The planner's stages, with the work table as a slice of numbers.
 ghost use mathlib.Core.Path.{_≡_};
-ghost use mathlib.Core.Bool.{true, cond};
-ghost use mathlib.Core.List.{[]};
+ghost use mathlib.Core.Bool.{true};
 ghost use Prim.Native.Nat.{_≤_};
 ghost use lib.ListN.{length};
 ghost use Rattle.files.specs.Accepted.{acceptedTask};
 ghost use Rattle.files.specs.Dense.{held, arrays};
 ghost use Rattle.files.specs.OriginFile.{originOf};
-ghost use Rattle.files.specs.Outcome.{done, isDone, after};
-ghost use Rattle.files.specs.PlanFile.{planFile};
+ghost use Rattle.files.specs.Outcome.{done};
 ghost use Rattle.files.specs.Task.{actionCount};
 ghost use Rattle.files.specs.TaskFile.{checkTask, taskOf};
 ghost use Rattle.reduction.specs.Preserved.{byOriginFile};
-ghost use Rattle.reduction.specs.Reduce.{rooms};
-ghost use Rattle.search.specs.Table.{tableOf};
-ghost use Rattle.search.specs.Columns.{entriesIn};
-ghost use Rattle.search.specs.Planner.{planRooms, statesFit, searched, searchStage, planAnswer, unplanned, plannedActionMarks, plannedFactMarks, plannedReduced, plannedOrigin, plannedPlan};
-ghost use Rattle.search.specs.Found.{foundPlan, notFound, foundAnswer, bothTogether};
+ghost use Rattle.reduction.specs.Reduce.{buffers};
+ghost use Rattle.search.specs.Entries.{Holds, entriesIn};
+ghost use Rattle.search.specs.Planner.{unplanned};
+ghost use Rattle.search.specs.Found.{notFound, bothTogether, SearchesRoom, PlansRoom};
 use crate::Planned;
+use crate::entries;
 use crate::first_plan;
 use crate::states;
 use crate::table;
@@ -46,7 +44,7 @@ pub struct Run {
 
 // A refusal with so many entries filled.
 fn not_found(outcome: files::Outcome, states: usize) -> Found
-    ensures { λ r. ⌜ r ≡ notFound outcome states ⌝ }
+    ensures { λ r. ⌜ r ≡ notFound states outcome ⌝ }
 {
     Found {
         outcome: outcome,
@@ -59,8 +57,7 @@ fn not_found(outcome: files::Outcome, states: usize) -> Found
 
 // Searches the task that arrays hold, and writes its plan by the numbers in the origin file.
 fn search_task(
-    minutes: &mut [u64],
-    steps: &mut [u16],
+    entries: &mut [u64],
     room: usize,
     plan: &mut [u8],
     signer: u32,
@@ -74,10 +71,8 @@ fn search_task(
     conditions: &[u8; 32768],
     effects: &[u8; 32768],
 ) -> Found
-    requires { ⌜ (acceptedTask (held (arrays variables actions (now sizes) (now starts) (now goal) (now costs) (now conditions) (now effects))) ≡ true) × (4096 ≤ length (now minutes)) × (4096 ≤ length (now steps)) × (actions ≤ length (originOf (now origin) .actions)) ⌝ }
-    ensures answer { λ r. ⌜ r ≡ foundAnswer (held (arrays variables actions (now (sizes .entry)) (now (starts .entry)) (now (goal .entry)) (now (costs .entry)) (now (conditions .entry)) (now (effects .entry)))) (byOriginFile (now (origin .entry))) signer room (length (now (plan .entry))) ⌝ }
-    ensures table { λ r. ⌜ entriesIn (now (minutes .exit)) (now (steps .exit)) (r .states) ≡ cond (isDone (statesFit (held (arrays variables actions (now (sizes .entry)) (now (starts .entry)) (now (goal .entry)) (now (costs .entry)) (now (conditions .entry)) (now (effects .entry)))) room)) (tableOf (held (arrays variables actions (now (sizes .entry)) (now (starts .entry)) (now (goal .entry)) (now (costs .entry)) (now (conditions .entry)) (now (effects .entry))))) [] ⌝ }
-    ensures plan { λ r. ⌜ now (plan .exit) ≡ after (r .outcome) (planFile (byOriginFile (now (origin .entry)) (foundPlan (held (arrays variables actions (now (sizes .entry)) (now (starts .entry)) (now (goal .entry)) (now (costs .entry)) (now (conditions .entry)) (now (effects .entry)))))) signer) (now (plan .entry)) ⌝ }
+    requires { ⌜ (acceptedTask (held (arrays variables actions (now sizes) (now starts) (now goal) (now costs) (now conditions) (now effects))) ≡ true) × Holds (now entries) 4096 × (actions ≤ length (originOf (now origin) .actions)) ⌝ }
+    ensures { λ r. ⌜ SearchesRoom (held (arrays variables actions (now (sizes .entry)) (now (starts .entry)) (now (goal .entry)) (now (costs .entry)) (now (conditions .entry)) (now (effects .entry)))) (byOriginFile (now (origin .entry))) signer room (now (plan .entry)) r (entriesIn (now (entries .exit)) (r .states)) (now (plan .exit)) ⌝ }
 {
     let count = states::count(sizes, variables);
     if 4096 < count {
@@ -87,8 +82,7 @@ fn search_task(
         return not_found(outcomes::refuse(21, count), 0);
     }
     let start = table::search(
-        minutes,
-        steps,
+        entries,
         count,
         variables,
         actions,
@@ -99,12 +93,11 @@ fn search_task(
         conditions,
         effects,
     );
-    let cost = minutes[start];
-    if cost == 18446744073709551615 {
+    let entry = entries::entry_at(entries, start);
+    if entries::is_none(entry) {
         return not_found(outcomes::refuse(24, 0), count);
     }
-    let fewest = steps[start];
-    let needed = files::plan::needed(fewest as usize);
+    let needed = files::plan::needed(entry.steps as usize);
     if plan.len() < needed {
         return not_found(outcomes::refuse(21, needed), count);
     }
@@ -112,8 +105,7 @@ fn search_task(
         plan,
         signer,
         origin,
-        minutes,
-        steps,
+        entries,
         variables,
         actions,
         sizes,
@@ -127,25 +119,22 @@ fn search_task(
         outcome: outcomes::done(),
         states: count,
         plan: needed,
-        cost: Minutes(cost),
-        steps: Steps(fewest),
+        cost: Minutes(entry.minutes),
+        steps: Steps(entry.steps),
     }
 }
 
 // Searches the task of an accepted file.
 fn search_file(
-    minutes: &mut [u64],
-    steps: &mut [u16],
+    entries: &mut [u64],
     room: usize,
     plan: &mut [u8],
     signer: u32,
     origin: &[u8],
     reduced: &[u8],
 ) -> Found
-    requires { ⌜ (checkTask (now reduced) ≡ done) × (4096 ≤ length (now minutes)) × (4096 ≤ length (now steps)) × (actionCount (taskOf (now reduced)) ≤ length (originOf (now origin) .actions)) ⌝ }
-    ensures answer { λ r. ⌜ r ≡ foundAnswer (taskOf (now (reduced .entry))) (byOriginFile (now (origin .entry))) signer room (length (now (plan .entry))) ⌝ }
-    ensures table { λ r. ⌜ entriesIn (now (minutes .exit)) (now (steps .exit)) (r .states) ≡ cond (isDone (statesFit (taskOf (now (reduced .entry))) room)) (tableOf (taskOf (now (reduced .entry)))) [] ⌝ }
-    ensures plan { λ r. ⌜ now (plan .exit) ≡ after (r .outcome) (planFile (byOriginFile (now (origin .entry)) (foundPlan (taskOf (now (reduced .entry))))) signer) (now (plan .entry)) ⌝ }
+    requires { ⌜ (checkTask (now reduced) ≡ done) × Holds (now entries) 4096 × (actionCount (taskOf (now reduced)) ≤ length (originOf (now origin) .actions)) ⌝ }
+    ensures { λ r. ⌜ SearchesRoom (taskOf (now (reduced .entry))) (byOriginFile (now (origin .entry))) signer room (now (plan .entry)) r (entriesIn (now (entries .exit)) (r .states)) (now (plan .exit)) ⌝ }
 {
     let mut sizes = [0u8; 64];
     let mut starts = [0u8; 64];
@@ -165,8 +154,7 @@ fn search_file(
     let variables = files::task::variables_in(reduced);
     let actions = files::task::actions_in(reduced);
     search_task(
-        minutes,
-        steps,
+        entries,
         room,
         plan,
         signer,
@@ -239,19 +227,12 @@ pub fn plan_columns(
     facts: &mut [u8],
     reduced: &mut [u8],
     origin: &mut [u8],
-    minutes: &mut [u64],
-    steps: &mut [u16],
+    entries: &mut [u64],
     room: usize,
     plan: &mut [u8],
 ) -> Run
-    requires { ⌜ (4096 ≤ length (now minutes)) × (4096 ≤ length (now steps)) ⌝ }
-    ensures answer { λ r. ⌜ r .planned ≡ planAnswer (now (task .entry)) signer (planRooms (rooms (length (now (actions .entry))) (length (now (facts .entry))) (length (now (reduced .entry))) (length (now (origin .entry)))) room (length (now (plan .entry)))) ⌝ }
-    ensures actions { λ r. ⌜ now (actions .exit) ≡ plannedActionMarks (now (task .entry)) signer (planRooms (rooms (length (now (actions .entry))) (length (now (facts .entry))) (length (now (reduced .entry))) (length (now (origin .entry)))) room (length (now (plan .entry)))) (now (actions .entry)) ⌝ }
-    ensures facts { λ r. ⌜ now (facts .exit) ≡ plannedFactMarks (now (task .entry)) signer (planRooms (rooms (length (now (actions .entry))) (length (now (facts .entry))) (length (now (reduced .entry))) (length (now (origin .entry)))) room (length (now (plan .entry)))) (now (facts .entry)) ⌝ }
-    ensures reduced { λ r. ⌜ now (reduced .exit) ≡ plannedReduced (now (task .entry)) signer (planRooms (rooms (length (now (actions .entry))) (length (now (facts .entry))) (length (now (reduced .entry))) (length (now (origin .entry)))) room (length (now (plan .entry)))) (now (reduced .entry)) ⌝ }
-    ensures origin { λ r. ⌜ now (origin .exit) ≡ plannedOrigin (now (task .entry)) signer (planRooms (rooms (length (now (actions .entry))) (length (now (facts .entry))) (length (now (reduced .entry))) (length (now (origin .entry)))) room (length (now (plan .entry)))) (now (origin .entry)) ⌝ }
-    ensures plan { λ r. ⌜ now (plan .exit) ≡ plannedPlan (now (task .entry)) signer (planRooms (rooms (length (now (actions .entry))) (length (now (facts .entry))) (length (now (reduced .entry))) (length (now (origin .entry)))) room (length (now (plan .entry)))) (now (plan .entry)) ⌝ }
-    ensures table { λ r. ⌜ (entriesIn (now (minutes .exit)) (now (steps .exit)) (r .states) ≡ cond (isDone (searchStage (now (task .entry)) signer (planRooms (rooms (length (now (actions .entry))) (length (now (facts .entry))) (length (now (reduced .entry))) (length (now (origin .entry)))) room (length (now (plan .entry)))))) (tableOf (searched (now (task .entry)))) []) × (r .states ≤ room) × (r .states ≤ 4096) ⌝ }
+    requires { ⌜ Holds (now entries) 4096 ⌝ }
+    ensures { λ r. ⌜ PlansRoom (now (task .entry)) signer room (buffers (now (actions .entry)) (now (facts .entry)) (now (reduced .entry)) (now (origin .entry))) (now (plan .entry)) r (buffers (now (actions .exit)) (now (facts .exit)) (now (reduced .exit)) (now (origin .exit))) (entriesIn (now (entries .exit)) (r .states)) (now (plan .exit)) ⌝ }
 {
     let first = reduction::reduce(task, LEVEL, signer, actions, facts, reduced, origin);
     let outcome = first.outcome;
@@ -264,8 +245,7 @@ pub fn plan_columns(
     let written = first.reduced;
     let named = first.origin;
     let found = search_file(
-        minutes,
-        steps,
+        entries,
         room,
         plan,
         signer,

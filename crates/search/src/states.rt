@@ -1,21 +1,20 @@
 // States of the task that arrays hold, numbered in mixed radix.
 ghost use mathlib.Core.Path.{_≡_};
 ghost use mathlib.Core.List.{List};
-ghost use Prim.Native.Nat.{ℕ, _+_, _<_, _≤_};
-ghost use lib.ListN.{length, getD};
+ghost use Prim.Native.Nat.{ℕ, _<_};
+ghost use lib.ListN.{getD};
 ghost use Rattle.files.specs.Dense.{rowPairs};
-ghost use Rattle.files.specs.Task.{Action};
-ghost use Rattle.plans.specs.State.{allHold, apply};
+ghost use Rattle.plans.specs.State.{allHold};
 ghost use Rattle.plans.specs.Tally.{listState};
 ghost use Rattle.search.specs.States.{stateNumber, stateAt};
-ghost use Rattle.search.specs.Columns.{rowVariables, rowStates, rowWeight};
+ghost use Rattle.search.specs.Rows.{rowVariables, rowWeight, Sized, FewStates, Counted, ValuesInside, RowIn, EffectsOn, NumberAfter};
 use files::bytes;
 use plans::rows;
 
 // The count of states, or a number above 4,096 where they are more than that.
 pub fn count(sizes: &[u8; 64], variables: usize) -> usize
-    requires { ⌜ (variables ≤ 64) × ((v : ℕ) → v < variables → 1 ≤ getD (now sizes) v 0) ⌝ }
-    ensures { λ r. ⌜ (r ≤ 4096 → r ≡ rowStates variables (now (sizes .entry))) × (4096 < r → 4096 < rowStates variables (now (sizes .entry))) ⌝ }
+    requires { ⌜ Sized variables (now sizes) ⌝ }
+    ensures { λ r. ⌜ Counted variables (now (sizes .entry)) r ⌝ }
 {
     let mut states: usize = 1;
     let mut v: usize = 0;
@@ -31,7 +30,7 @@ pub fn count(sizes: &[u8; 64], variables: usize) -> usize
 
 // The number of the start state.
 pub fn start_number(sizes: &[u8; 64], starts: &[u8; 64], variables: usize) -> usize
-    requires { ⌜ (variables ≤ 64) × (rowStates variables (now sizes) ≤ 4096) × ((v : ℕ) → v < variables → getD (now starts) v 0 < getD (now sizes) v 0) ⌝ }
+    requires { ⌜ ValuesInside variables (now sizes) (now starts) ⌝ }
     ensures { λ r. ⌜ r ≡ stateNumber (rowVariables variables (now (sizes .entry)) (now (starts .entry))) (listState (now (starts .entry))) ⌝ }
 {
     let mut number: usize = 0;
@@ -45,7 +44,7 @@ pub fn start_number(sizes: &[u8; 64], starts: &[u8; 64], variables: usize) -> us
 
 // The values of the variables in a state; 0 past the last variable.
 pub fn values_of(sizes: &[u8; 64], variables: usize, state: usize) -> [u8; 64]
-    requires { ⌜ (variables ≤ 64) × ((v : ℕ) → v < variables → 1 ≤ getD (now sizes) v 0) ⌝ }
+    requires { ⌜ Sized variables (now sizes) ⌝ }
     ensures { λ r. ⌜ ((starts : List ℕ) → listState r ≡ stateAt (rowVariables variables (now (sizes .entry)) starts) state) ⌝ }
 {
     let mut values = [0u8; 64];
@@ -62,7 +61,7 @@ pub fn values_of(sizes: &[u8; 64], variables: usize, state: usize) -> [u8; 64]
 
 // Whether the conditions of the row at `base` hold for values.
 pub fn all_hold(row: &[u8], base: usize, variables: usize, values: &[u8; 64]) -> bool
-    requires { ⌜ (variables ≤ 64) × (base + variables ≤ length (now row)) ⌝ }
+    requires { ⌜ RowIn variables base (now row) ⌝ }
     ensures { λ r. ⌜ r ≡ allHold (rowPairs (now (row .entry)) base 0 variables) (listState (now (values .entry))) ⌝ }
 {
     let mut v: usize = 0;
@@ -85,8 +84,8 @@ pub fn number_after(
     variables: usize,
     values: &[u8; 64],
 ) -> usize
-    requires { ⌜ (variables ≤ 64) × (base + variables ≤ length (now effects)) × (rowStates variables (now sizes) ≤ 4096) × ((v : ℕ) → v < variables → getD (now values) v 0 < getD (now sizes) v 0) × ((v : ℕ) → v < variables → (getD (now effects) (base + v) 0 ≡ 255 → ⊥) → getD (now effects) (base + v) 0 < getD (now sizes) v 0) ⌝ }
-    ensures { λ r. ⌜ ((starts : List ℕ) (a : Action) → a .effects ≡ rowPairs (now (effects .entry)) base 0 variables → r ≡ stateNumber (rowVariables variables (now (sizes .entry)) starts) (apply a (listState (now (values .entry))))) × (r < rowStates variables (now (sizes .entry))) ⌝ }
+    requires { ⌜ EffectsOn variables base (now sizes) (now effects) (now values) ⌝ }
+    ensures { λ r. ⌜ NumberAfter variables base (now (sizes .entry)) (now (effects .entry)) (now (values .entry)) r ⌝ }
 {
     let mut number: usize = 0;
     let mut v = variables;
@@ -100,7 +99,7 @@ pub fn number_after(
 
 // What a change of one in the value of each variable adds to the number of a state.
 pub fn weights(sizes: &[u8; 64], variables: usize) -> [usize; 64]
-    requires { ⌜ (variables ≤ 64) × (rowStates variables (now sizes) ≤ 4096) × ((v : ℕ) → v < variables → 1 ≤ getD (now sizes) v 0) ⌝ }
+    requires { ⌜ FewStates variables (now sizes) ⌝ }
     ensures { λ r. ⌜ ((v : ℕ) → v < variables → getD r v 0 ≡ rowWeight (now (sizes .entry)) v) ⌝ }
 {
     let mut weights = [0usize; 64];

@@ -47,7 +47,7 @@ use Rattle.search.specs.Planner.{PlanRooms, planRooms, planAnswer, plannedActio
 use Rattle.search.specs.PlannerRight.{PlannerPromise}
 use Rattle.search.proofs.Planned as P₀
 use Rattle.search.proofs.Planned.Laws as P′
-use Rattle.search.proofs.Entries.{R}
+use Rattle.search.proofs.EntrySlices.{R}
 use Rattle.search.proofs.Hand.{told, ref}
 use Rattle.search.proofs.plan as p
 use Rattle.search.proofs.plan.Symbol as p-def

@@ -48,7 +48,7 @@ use Rattle.files.specs.Outcome.{isDone, overwrite}
 use Rattle.reduction.specs.Reduce.{rooms}
 use Rattle.search.specs.declared.Entry.{Entry}
 use Rattle.search.specs.declared.stages.Run.{Run}
-use Rattle.search.specs.Columns.{entriesIn}
+use Rattle.search.specs.Entries.{entriesIn}
 use Rattle.search.specs.Planner.{PlanRooms, planRooms, searched, searchStage, planAnswer, plannedActionMarks, plannedFactMarks, plannedReduced, plannedOrigin, plannedTable, plannedPlan, Lent, lentOf}
 use Rattle.search.specs.PlannerRight.{PlannerPromise}
 use Rattle.search.specs.Table.{tableOf}
@@ -56,7 +56,7 @@ use Rattle.search.proofs.Planned as P₀
 use Rattle.search.proofs.Planned.Laws as P′
 use Rattle.search.proofs.stages.Run as O₀
 use Rattle.search.proofs.stages.Run.Laws as O′
-use Rattle.search.proofs.Entries.{R}
+use Rattle.search.proofs.EntrySlices.{R}
 use Rattle.search.proofs.TableFilling.{filled-planned}
 use Rattle.search.proofs.PlannerRight.{promise-kept}
 use Rattle.search.proofs.Hand.{told, big-lit, ref, lend-array, array-home, lend-array-mut, array-mut-home}

@@ -1,113 +1,87 @@
 -- The state has its entry by way of the action where the entry of the next state with the step in front is the same.
-use Prim.Native.Nat.{_<_}
-use mathlib.Core.Path.{_≡_}
+use mathlib.Core.Path.{sym, ap, subst, _∙_}
 use denote.Ref.{now}
 use native.Mathlib.Omega.{arith}
-use lib.ListN.{getD}
 use borrow.Author.Needs.{needs}
 use borrow.Author.Tests.{not-true, not-false}
+use Rattle.search.specs.Entries.{isNone, Low}
 use Rattle.search.proofs.FirstPlanLaws.{values-inside, leads-not, leads-far, leads-near}
 use Rattle.search.proofs.first_plan.leads_on.Statement.{statement}
 use Rattle.search.proofs.first_plan.leads_on.Tie as tie
-
-abbrev to-next : tie.After-price → tie.After-number-after
-to-next c = c .before .before .before
-
-abbrev to-start : tie.After-number-after → tie.Start
-to-start c = c .before .before .before .before .before .before .before
 
 mul-base : tie.Need-mul-base
 mul-base c = search needs
 
 all-hold-requires : tie.Need-all-hold-requires
-all-hold-requires c κs = search needs
+all-hold-requires c κs =
+    let pre = c .before .before .pre in
+    record { few = pre .here .asked .variables-few; room = omega (arith, pre .here .asked .variables-few, pre .here .asked .actions-few, pre .action, c .all-hold-arg .given) }
 
 returns : tie.Need-returns
 returns c =
-    let start = c .before .before .before .before .before in
-    let pre = start .pre in
-    λ t tabled. leads-not _ _ _ _ _ _ _ _ _ _ _ (pre .2) (pre .5) t tabled (pre .3) (pre .4) _ (c .before .all-hold .ensures) (not-true _ (c .if1 .taken))
+    let pre = c .before .before .before .before .pre in
+    let here = pre .here in
+    λ t tabled. leads-not _ _ _ _ _ _ _ _ _ _ (pre .action) (here .values-are) t tabled (here .below) (here .reached) _ (c .before .all-hold .ensures) (not-true _ (c .if1 .taken))
 
 number-after-requires : tie.Need-number-after-requires
 number-after-requires c κs =
-    let start = c .before .before .before .before .before .before in
-    let pre = start .pre in
-    let args = start .args in (
-      pre .0 .variables-few,
-      omega (arith, pre .0 .variables-few, pre .0 .actions-few, c .number-after-arg .given),
-      pre .0 .states-few,
-      values-inside (args .variables) (now (args .sizes)) (now (args .values)) (args .s) (pre .0 .size-least) (pre .5),
-      λ v l d. pre .0 .effect-inside (args .a) v (pre .2) l d,
-    )
+    let pre = c .before .before .before .before .before .pre in
+    let asked = pre .here .asked in
+    let args = c .before .before .before .before .before .args in
+    record {
+      row = record { few = asked .variables-few; room = omega (arith, asked .variables-few, asked .actions-few, pre .action, c .number-after-arg .given) };
+      inside =
+          record {
+            few = asked .variables-few;
+            states = asked .states-few;
+            inside = values-inside (args .variables) (now (args .sizes)) (now (args .values)) (args .s) (asked .size-least) (pre .here .values-are);
+          };
+      effect-inside = λ v l d. asked .effect-inside (args .a) v (pre .action) l d;
+    }
 
--- the entry of the next state, where it is one
-few : (c : tie.After-number-after) → (getD (now (to-start c .args .minutes)) (c .number-after .result) 0 ≡ 18446744073709551615 → ⊥)
-    → (getD (now (to-start c .args .minutes)) (c .number-after .result) 0 < 18446744073000000000) × (getD (now (to-start c .args .steps)) (c .number-after .result) 0 < 65535)
-few c h =
-    let start = to-start c in
-    let next = c .number-after .result in
-    start .pre .1 .low next (c .number-after .ensures .1) (omega (arith, h, c .before .before .before .before .before .before .shared-slice-known .given next))
+entry-at-requires : tie.Need-entry-at-requires
+entry-at-requires c κs = omega (arith, c .number-after .ensures .below, c .before .before .before .before .before .before .pre .here .bounded .room)
 
-mul-cost : tie.Need-mul-cost
-mul-cost c = search needs
-
-shared-slice-read-cost : tie.Need-shared-slice-read-cost
-shared-slice-read-cost c = search needs
+is-none-requires : tie.Need-is-none-requires
+is-none-requires c κs = search needs
 
 returns-2 : tie.Need-returns-2
 returns-2 c =
-    let found = c .before .before in
-    let pre = to-start found .pre in
+    let pre = c .before .before .before .before .before .before .before .before .before .pre in
+    let here = pre .here in
     λ t tabled.
-    leads-far _ _ _ _ _ _ _ _ _ _ _ (pre .2) (pre .5) t tabled (pre .3) (pre .4) _ (found .before .before .before .all-hold .ensures) (not-false _ (found .before .before .if1 .left)) _
-    (found .number-after .ensures .0) (found .number-after .ensures .1) (c .if2 .taken)
+    leads-far _ _ _ _ _ _ _ _ _ _ (pre .action) (here .values-are) t tabled (here .below) (here .reached) _ (c .before .before .before .before .before .before .all-hold .ensures) (not-false _ (c .before .before .before .before .before .if1 .left)) _ (c .before .before .before .number-after .ensures) _ (c .before .before .entry-at .ensures) _ (c .before .is-none .ensures)
+    (here .bounded .low _ (here .below) (here .reached)) (c .if2 .taken)
 
-mul-price : tie.Need-mul-price
-mul-price c = search needs
+mul-after-step : tie.Need-mul-after-step
+mul-after-step c = search needs
 
-element-copy-out-price : tie.Need-element-copy-out-price
-element-copy-out-price c = search needs
+element-copy-out-after-step : tie.Need-element-copy-out-after-step
+element-copy-out-after-step c = omega (arith, c .before .before .before .before .before .before .before .before .before .pre .action, c .before .before .before .before .before .before .before .before .before .pre .here .asked .actions-few)
 
-cast-price : tie.Need-cast-price
-cast-price c = let pre = to-start (to-next c) .pre in omega (arith, pre .0 .cost-most (to-start (to-next c) .args .a) (pre .2))
+after-step-requires : tie.Need-after-step-requires
+after-step-requires c κs =
+    let pre = c .before .before .before .before .before .before .before .before .before .before .pre in
+    let read = c .before .before .before .entry-at .ensures in
+    let some-there = ap isNone (sym read) ∙ sym (c .before .before .is-none .ensures) ∙ c .before .if2 .left in
+    record {
+      low = subst Low (sym read) (pre .here .bounded .low _ (c .before .before .before .before .number-after .ensures .below) some-there);
+      cost-most = pre .here .asked .cost-most (c .before .before .before .before .before .before .before .before .before .before .args .a) (pre .action);
+    }
 
-add-same : tie.Need-add-same
-add-same c =
-    let pre = to-start (to-next c) .pre in
-    omega (arith, pre .0 .cost-most (to-start (to-next c) .args .a) (pre .2), few (to-next c) (c .before .if2 .left) .0)
-
-mul-same : tie.Need-mul-same
-mul-same c = search needs
-
-shared-slice-read-same : tie.Need-shared-slice-read-same
-shared-slice-read-same c = search needs
-
-add-same-2 : tie.Need-add-same-2
-add-same-2 c = omega (arith, few (to-next (c .before)) (c .before .before .if2 .left) .1)
-
-mul-same-2 : tie.Need-mul-same-2
-mul-same-2 c = search needs
-
-shared-slice-read-same-2 : tie.Need-shared-slice-read-same-2
-shared-slice-read-same-2 c = search needs
-
-mul-same-3 : tie.Need-mul-same-3
-mul-same-3 c = search needs
-
-shared-slice-read-same-3 : tie.Need-shared-slice-read-same-3
-shared-slice-read-same-3 c = search needs
+entry-at-requires-2 : tie.Need-entry-at-requires-2
+entry-at-requires-2 c κs = omega (arith, c .before .before .before .before .before .before .before .before .before .before .before .pre .here .below, c .before .before .before .before .before .before .before .before .before .before .before .pre .here .bounded .room)
 
 same-requires : tie.Need-same-requires
 same-requires c κs = search needs
 
 returns-3 : tie.Need-returns-3
 returns-3 c =
-    let price = c .before .before .before .before in
-    let found = to-next price in
-    let pre = to-start found .pre in
+    let pre = c .before .before .before .before .before .before .before .before .before .before .before .before .before .pre in
+    let here = pre .here in
     λ t tabled.
-    leads-near _ _ _ _ _ _ _ _ _ _ _ (pre .2) (pre .5) t tabled (pre .3) (pre .4) _ (found .before .before .before .all-hold .ensures) (not-false _ (found .before .before .if1 .left)) _
-    (found .number-after .ensures .0) (found .number-after .ensures .1) (omega (arith, few found (price .before .if2 .left) .0)) _ (c .same .ensures)
+    leads-near _ _ _ _ _ _ _ _ _ _ (pre .action) (here .values-are) t tabled (here .below) (here .reached) _ (c .before .before .before .before .before .before .before .before .before .before .all-hold .ensures) (not-false _ (c .before .before .before .before .before .before .before .before .before .if1 .left)) _ (c .before .before .before .before .before .before .before .number-after .ensures) _ (c .before .before .before .before .before .before .entry-at .ensures) _ (c .before .before .before .before .before .is-none .ensures)
+    (c .before .before .before .before .if2 .left) _ _ _ (c .before .before .after-step .ensures) (c .before .entry-at2 .ensures) (c .same .ensures)
 
 pub leads-on-spec : {M : Type 1} → statement M
 leads-on-spec =
@@ -117,19 +91,12 @@ leads-on-spec =
     all-hold-requires
     returns
     number-after-requires
-    mul-cost
-    shared-slice-read-cost
+    entry-at-requires
+    is-none-requires
     returns-2
-    mul-price
-    element-copy-out-price
-    cast-price
-    add-same
-    mul-same
-    shared-slice-read-same
-    add-same-2
-    mul-same-2
-    shared-slice-read-same-2
-    mul-same-3
-    shared-slice-read-same-3
+    mul-after-step
+    element-copy-out-after-step
+    after-step-requires
+    entry-at-requires-2
     same-requires
     returns-3)

@@ -36,8 +36,8 @@ returns c =
     let count = bodyLength s (originActionsPlace s) / 2 in
     let i = args .action .0 in
     c .u16-at .ensures .is
-    ∙ ap (λ (n : ℕ). u16At s (n + 2 * i)) (pre .0)
-    ∙ sym (numbers-entry s at count i (omega (arith, pre .2, numbers-length s at count)))
+    ∙ ap (λ (n : ℕ). u16At s (n + 2 * i)) (pre .place-is)
+    ∙ sym (numbers-entry s at count i (omega (arith, pre .inside, numbers-length s at count)))
 
 pub original-spec : {M : Type 1} → statement M
 original-spec =

@@ -1,5 +1,7 @@
 -- The state alone is a stretch of its own.
-use mathlib.Core.Path.{refl}
+use mathlib.Core.Path.{refl, sym, ap, _∙_}
+use Rattle.files.proofs.Logic.{clash}
+use Rattle.search.specs.Entries.{isNone}
 use native.Mathlib.Omega.{arith}
 use borrow.Author.Needs.{needs}
 use Rattle.search.proofs.Picking.{pick-one, pick-not, join-first}
@@ -11,19 +13,20 @@ shared-slice-read-if1 c = search needs
 
 returns : tie.Need-returns
 returns c =
-    let s = c .before .before .before .before .before in
-    (s .pre .0, λ from h p. join-first _ _ _ _ from _ _ _ _ h (omega arith) p (pick-not _ _ _ _ _ (λ z w. c .if1 .taken z)) refl)
+    let s = c .before .before .before .before in
+    record { range = s .pre .most; picks = λ from h p. join-first _ _ _ from _ _ _ _ h (omega arith) p (pick-not _ _ _ _ (λ z w. c .if1 .taken z)) refl }
 
-mul-if2 : tie.Need-mul-if2
-mul-if2 c = search needs
+entry-at-requires : tie.Need-entry-at-requires
+entry-at-requires c κs = search needs
 
-shared-slice-read-if2 : tie.Need-shared-slice-read-if2
-shared-slice-read-if2 c = search needs
+is-none-requires : tie.Need-is-none-requires
+is-none-requires c κs = search needs
 
 returns-2 : tie.Need-returns-2
 returns-2 c =
     let s = c .before .before .before .before .before .before .before in
-    (s .pre .0, λ from h p. join-first _ _ _ _ from _ _ _ _ h (omega arith) p (pick-not _ _ _ _ _ (λ z w. omega (arith, c .if2 .taken))) refl)
+    let none = ap isNone (sym (c .before .before .entry-at .ensures)) ∙ sym (c .before .is-none .ensures) in
+    record { range = s .pre .most; picks = λ from h p. join-first _ _ _ from _ _ _ _ h (omega arith) p (pick-not _ _ _ _ (λ z w. clash (none ∙ c .if2 .taken) w)) refl }
 
 lesser-requires : tie.Need-lesser-requires
 lesser-requires c κs = search needs
@@ -31,10 +34,11 @@ lesser-requires c κs = search needs
 returns-3 : tie.Need-returns-3
 returns-3 c =
     let s = c .before .before .before .before .before .before .before .before in
-    let known = c .before .before .shared-slice-known5 .given (s .args .s) in (
-      c .lesser .ensures .0,
-      λ from h p. c .lesser .ensures .1 _ from _ _ h (omega arith) p (pick-one _ _ _ _ _ (s .pre .1) (c .before .before .before .if1 .left) (omega (arith, c .before .if2 .left, known))),
-    )
+    let none = ap isNone (sym (c .before .before .before .entry-at .ensures)) ∙ sym (c .before .before .is-none .ensures) in
+    record {
+      range = c .lesser .ensures .range;
+      picks = λ from h p. c .lesser .ensures .joins _ from _ _ h (omega arith) p (pick-one _ _ _ _ (s .pre .below) (c .before .before .before .before .if1 .left) (none ∙ c .before .if2 .left));
+    }
 
 pub better-spec : {M : Type 1} → statement M
 better-spec =
@@ -42,8 +46,8 @@ better-spec =
     (tie.spec
     shared-slice-read-if1
     returns
-    mul-if2
-    shared-slice-read-if2
+    entry-at-requires
+    is-none-requires
     returns-2
     lesser-requires
     returns-3)

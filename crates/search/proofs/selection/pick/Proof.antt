@@ -7,18 +7,18 @@ use Rattle.search.proofs.selection.pick.Statement.{statement}
 use Rattle.search.proofs.selection.pick.Tie as tie
 
 abbrev Inv-loop : tie.InvT-loop
-Inv-loop minutes steps settled count from limit best₀ s₀ best s = Picked minutes steps settled count from s best × (from ≤ s) × (s ≤ limit)
+Inv-loop entries settled count from limit best₀ s₀ best s = Picked entries settled count from s best × (from ≤ s) × (s ≤ limit)
 
 abbrev μ-loop : tie.MeasureT-loop
-μ-loop minutes steps settled count from limit best₀ s₀ best s = limit - s
+μ-loop entries settled count from limit best₀ s₀ best s = limit - s
 
 loop-holds : tie.Need-loop-holds Inv-loop μ-loop
-loop-holds c = (pick-none _ _ _ _ _, omega arith, c .before .before .before .pre .0)
+loop-holds c = (pick-none _ _ _ _, omega arith, c .before .before .pre .order)
 
 better-requires : tie.Need-better-requires Inv-loop μ-loop
 better-requires c κs =
-    let s = c .before .before .before .before .before in
-    (c .before .loop .inv .0 .range, omega (arith, c .loop-test .taken, s .pre .1), s .pre .2, s .pre .3, s .pre .4)
+    let pre = c .before .before .before .before .pre in
+    record { room = pre .room; marks = pre .marks; most = c .before .loop .inv .0 .range; below = omega (arith, c .loop-test .taken, pre .inside) }
 
 add-s : tie.Need-add-s Inv-loop μ-loop
 add-s c = omega (arith, c .before .loop-test .taken)
@@ -29,10 +29,10 @@ loop-less c = omega (arith, c .before .loop-test .taken)
 loop-again : tie.Need-loop-again Inv-loop μ-loop
 loop-again c =
     let i = c .before .before .loop .inv in
-    (c .better .ensures .1 _ (i .1) (i .0), omega (arith, i .1), omega (arith, c .before .loop-test .taken))
+    (c .better .ensures .picks _ (i .1) (i .0), omega (arith, i .1), omega (arith, c .before .loop-test .taken))
 
 returns : tie.Need-returns Inv-loop μ-loop
-returns c = let i = c .before .loop .inv in pick-to _ _ _ _ _ _ _ _ (i .2) (λ h. absurd (omega (arith, c .loop-test .left))) (i .0)
+returns c = let i = c .before .loop .inv in pick-to _ _ _ _ _ _ _ (i .2) (λ h. absurd (omega (arith, c .loop-test .left))) (i .0)
 
 pub pick-spec : {M : Type 1} → statement M
 pick-spec =

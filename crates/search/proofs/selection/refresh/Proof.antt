@@ -41,16 +41,18 @@ same-length-2 c = search needs
 
 returns : tie.Need-returns
 returns c =
-    let s = c .before .before .before .before .before .before .before .before .before in
+    let s = c .before .before .before .before .before .before .before .before in
     let end = c .before .block-end .ensures in
-    let p = pick-to _ _ _ _ _ _ _ _ (end .2) (end .3) (c .pick .ensures) in
-    let inside : s .args .b < length (now (s .args .least)) = omega (arith, s .pre .0, s .pre .1, s .pre .6) in (
-      known-found _ _ _ _ (now (s .args .changed)) (now (s .args .least)) _ _ (omega (arith, s .pre .0, s .pre .1, s .pre .5)) inside (s .pre .7) p,
-      subst (Picked _ _ _ _ _ _) (sym (getD-set-same (now (s .args .least)) _ _ 0 inside)) p,
-    )
+    let p = pick-to _ _ _ _ _ _ _ (end .most) (end .last) (c .pick .ensures) in
+    let blocks = s .pre .blocks in
+    let inside : s .args .b < length (now (s .args .least)) = omega (arith, s .pre .begins, blocks .few, blocks .least-long) in
+    record {
+      known = known-found _ _ _ (now (s .args .changed)) (now (s .args .least)) _ _ (omega (arith, s .pre .begins, blocks .few, blocks .changed-long)) inside (blocks .known) p;
+      picked = subst (Picked _ _ _ _ _) (sym (getD-set-same (now (s .args .least)) _ _ 0 inside)) p;
+    }
 
 returns-2 : tie.Need-returns-2
-returns-2 c = let s = c .before .before .before .before .before .before .before in (s .pre .7, s .pre .7 _ (s .pre .0) (c .if1 .left))
+returns-2 c = let s = c .before .before .before .before .before .before in record { known = s .pre .blocks .known; picked = s .pre .blocks .known _ (s .pre .begins) (c .if1 .left) }
 
 pub refresh-spec : {M : Type 1} → statement M
 refresh-spec =

@@ -9,37 +9,52 @@ use Rattle.search.proofs.selection.select.Statement.{statement}
 use Rattle.search.proofs.selection.select.Tie as tie
 
 abbrev Inv-loop : tie.InvT-loop
-Inv-loop minutes steps settled changed₀ least₀ count best₀ b₀ changed least best b =
-    Known minutes steps settled count changed least × Picked minutes steps settled count 0 (64 * b) best × (length changed ≡ length changed₀) × (length least ≡ length least₀) × (b ≤ 64)
+Inv-loop entries settled changed₀ least₀ count best₀ b₀ changed least best b =
+    Known entries settled count changed least × Picked entries settled count 0 (64 * b) best × (length changed ≡ length changed₀) × (length least ≡ length least₀) × (b ≤ 64)
 
 abbrev μ-loop : tie.MeasureT-loop
-μ-loop minutes steps settled changed₀ least₀ count best₀ b₀ changed least best b = count - 64 * b
+μ-loop entries settled changed₀ least₀ count best₀ b₀ changed least best b = count - 64 * b
 
 loop-holds : tie.Need-loop-holds Inv-loop μ-loop
-loop-holds c = (c .before .before .before .before .before .pre .6, pick-none _ _ _ _ _, refl, refl, omega arith)
+loop-holds c = (c .before .before .before .before .pre .known, pick-none _ _ _ _, refl, refl, omega arith)
 
 mul-loop : tie.Need-mul-loop Inv-loop μ-loop
 mul-loop c = omega (arith, c .loop .inv .4)
 
 refresh-requires : tie.Need-refresh-requires Inv-loop μ-loop
 refresh-requires c κs =
-    let s = c .before .before .before .before .before .before .before .before .before in
+    let s = c .before .before .before .before .before .before .before .before in
     let i = c .before .before .before .loop .inv in
-    (c .before .before .loop-test .taken, s .pre .0, s .pre .1, s .pre .2, s .pre .3, omega (arith, i .2, s .pre .4), omega (arith, i .3, s .pre .5), i .0)
+    record {
+      blocks =
+          record {
+            few = s .pre .few;
+            room = s .pre .room;
+            marks = s .pre .marks;
+            changed-long = omega (arith, i .2, s .pre .changed-long);
+            least-long = omega (arith, i .3, s .pre .least-long);
+            known = i .0;
+          };
+      begins = c .before .before .loop-test .taken;
+    }
 
 mul-lesser : tie.Need-mul-lesser Inv-loop μ-loop
 mul-lesser c = omega (arith, c .before .before .before .before .before .before .before .before .loop .inv .4)
 
 slice-read-lesser : tie.Need-slice-read-lesser Inv-loop μ-loop
 slice-read-lesser c =
-    let s = c .before .before .before .before .before .before .before .before .before .before .before .before .before .before .before in
+    let s = c .before .before .before .before .before .before .before .before .before .before .before .before .before .before in
     let i = c .before .before .before .before .before .before .before .before .before .loop .inv in
-    omega (arith, c .before .before .before .before .before .before .before .before .loop-test .taken, s .pre .0, s .pre .5, c .before .before .before .before .before .refresh .kept .1 .1 .1 .1 .0, i .3)
+    omega (arith, c .before .before .before .before .before .before .before .before .loop-test .taken, s .pre .few, s .pre .least-long, c .before .before .before .before .before .refresh .kept .1 .1 .1 .0, i .3)
 
 lesser-requires : tie.Need-lesser-requires Inv-loop μ-loop
 lesser-requires c κs =
-    let s = c .before .before .before .before .before .before .before .before .before .before .before .before .before .before .before in
-    (c .before .before .before .before .before .before .before .before .before .loop .inv .1 .range, c .before .before .before .before .before .refresh .ensures .1 .range, s .pre .1, s .pre .2)
+    let s = c .before .before .before .before .before .before .before .before .before .before .before .before .before .before in
+    record {
+      room = s .pre .room;
+      first-most = c .before .before .before .before .before .before .before .before .before .loop .inv .1 .range;
+      second-most = c .before .before .before .before .before .refresh .ensures .picked .range;
+    }
 
 add-b : tie.Need-add-b Inv-loop μ-loop
 add-b c = omega (arith, c .before .before .before .before .before .before .before .before .before .before .loop .inv .4)
@@ -49,14 +64,14 @@ loop-less c = omega (arith, c .before .before .before .before .before .before .b
 
 loop-again : tie.Need-loop-again Inv-loop μ-loop
 loop-again c =
-    let s = c .before .before .before .before .before .before .before .before .before .before .before .before .before .before .before .before in
+    let s = c .before .before .before .before .before .before .before .before .before .before .before .before .before .before .before in
     let i = c .before .before .before .before .before .before .before .before .before .before .loop .inv in
     let r = c .before .before .before .before .before .before .refresh in (
-      r .ensures .0,
-      pick-block _ _ _ _ _ _ (c .lesser .ensures .1 _ 0 _ _ (omega arith) (omega arith) (i .1) (r .ensures .1)),
-      r .kept .1 .1 .1 .0 ∙ i .2,
-      r .kept .1 .1 .1 .1 .0 ∙ i .3,
-      omega (arith, c .before .before .before .before .before .before .before .before .before .loop-test .taken, s .pre .0),
+      r .ensures .known,
+      pick-block _ _ _ _ _ (c .lesser .ensures .joins _ 0 _ _ (omega arith) (omega arith) (i .1) (r .ensures .picked)),
+      r .kept .1 .1 .0 ∙ i .2,
+      r .kept .1 .1 .1 .0 ∙ i .3,
+      omega (arith, c .before .before .before .before .before .before .before .before .before .loop-test .taken, s .pre .few),
     )
 
 same-length : tie.Need-same-length Inv-loop μ-loop
@@ -66,7 +81,7 @@ same-length-2 : tie.Need-same-length-2 Inv-loop μ-loop
 same-length-2 c = c .before .loop .inv .3
 
 returns : tie.Need-returns Inv-loop μ-loop
-returns c = let i = c .before .loop .inv in (pick-all _ _ _ _ _ _ (c .loop-test .left) (i .1), i .0)
+returns c = let i = c .before .loop .inv in record { picked = pick-all _ _ _ _ _ (c .loop-test .left) (i .1); known = i .0 }
 
 pub select-spec : {M : Type 1} → statement M
 select-spec =

@@ -1,24 +1,23 @@
 -- Reduction refuses, or its files say the reduced task and its origins, and the search of them is the row's.
 use Prim.Native.Nat.{_^_, _<_}
-use mathlib.Core.Path.{ap, _∙_}
 use native.Mathlib.Omega.{arith}
 use denote.Ref.{now}
 use Rattle.files.specs.Bytes.{Octets}
-use Rattle.search.specs.Columns.{entriesIn}
-use Rattle.search.proofs.StageLaws.{action-marks, fact-marks, reduced-file, origin-file, early-answer, early-plan, early-table, reduced-part, origin-part, reduced-fits, origin-fits, file-checked, enough-numbers, found-states, filled-bounded, row-table, row-plan, row-answer}
+use Rattle.search.specs.Entries.{entriesIn}
+use Rattle.search.proofs.StageLaws.{plans-early, reduced-part, origin-part, reduced-fits, origin-fits, file-checked, enough-numbers, plans-late}
 use borrow.Author.Needs.{needs}
 use Rattle.search.proofs.stages.plan_columns.Statement.{statement}
 use Rattle.search.proofs.stages.plan_columns.Tie as tie
 
 -- from each call to the one before it
 abbrev to-start : tie.After-reduce → tie.Start
-to-start c = c .before .before .before .before .before .before .before .before .before .before .before .before .before
+to-start c = c .before .before .before .before .before .before .before .before .before .before .before .before
 
 abbrev to-reduce : tie.After-search-file → tie.After-reduce
-to-reduce c = c .before .before .before .before .before .before .before .before .before .before .before .before .before .before .before .before .before .before .before
+to-reduce c = c .before .before .before .before .before .before .before .before .before .before .before .before .before .before .before .before .before .before
 
 octets : (k : tie.After-reduce) → Octets (now (to-start k .args .task))
-octets k i = omega (arith, k .before .before .before .before .before .before .before .before .before .before .before .before .shared-slice-known .given i)
+octets k i = omega (arith, k .before .before .before .before .before .before .before .before .before .before .before .shared-slice-known .given i)
 
 small : (k : tie.After-reduce) → to-start k .args .signer < 2 ^ 32
 small k = omega (arith, to-start k .fits)
@@ -44,23 +43,7 @@ same-length-4 c = search needs
 returns : tie.Need-returns
 returns c =
     let k = c .before .before .before .before .before .before .before .before .before .before .before .before in
-    let a = k .reduce .ensures .0 in
-    let d = c .before .if1 .taken in (
-      early-answer _ _ _ _ _ _ a d _ (c .refused .ensures),
-      (
-        action-marks _ _ _ _ _ _ _ (k .reduce .ensures .1 .0),
-        (
-          fact-marks _ _ _ _ _ _ _ (k .reduce .ensures .1 .1 .0),
-          (
-            reduced-file _ _ _ _ _ _ _ (k .reduce .ensures .1 .1 .1 .0),
-            (
-              origin-file _ _ _ _ _ _ _ (k .reduce .ensures .1 .1 .1 .1),
-              (early-plan _ _ _ _ _ _ a d _, (early-table _ _ _ _ _ _ a d _ _, omega arith, omega arith)),
-            ),
-          ),
-        ),
-      ),
-    )
+    plans-early _ _ _ _ _ (k .reduce .ensures) (c .before .if1 .taken) _ _ _ (c .refused .ensures) _
 
 sub-search-file : tie.Need-sub-search-file
 sub-search-file c = search needs
@@ -69,7 +52,9 @@ part-search-file-start : tie.Need-part-search-file-start
 part-search-file-start c = search needs
 
 part-search-file-end : tie.Need-part-search-file-end
-part-search-file-end c = origin-fits _ _ _ 0 0 _ (c .before .before .before .before .before .before .before .before .before .before .before .before .before .before .before .reduce .ensures .0) (c .before .before .before .before .if1 .left) (octets (c .before .before .before .before .before .before .before .before .before .before .before .before .before .before .before)) (small (c .before .before .before .before .before .before .before .before .before .before .before .before .before .before .before)) _ _ (c .before .before .before .before .before .before .before .before .before .before .before .before .before .before .before .reduce .ensures .1 .1 .1 .1)
+part-search-file-end c =
+    let k = c .before .before .before .before .before .before .before .before .before .before .before .before .before .before in
+    origin-fits _ _ _ _ _ (k .reduce .ensures) (c .before .before .before .if1 .left) (octets k) (small k)
 
 sub-search-file-2 : tie.Need-sub-search-file-2
 sub-search-file-2 c = search needs
@@ -78,36 +63,36 @@ part-search-file-start-2 : tie.Need-part-search-file-start-2
 part-search-file-start-2 c = search needs
 
 part-search-file-end-2 : tie.Need-part-search-file-end-2
-part-search-file-end-2 c = reduced-fits _ _ _ 0 0 _ (c .before .before .before .before .before .before .before .before .before .before .before .before .before .before .before .before .before .reduce .ensures .0) (c .before .before .before .before .before .before .if1 .left) (octets (c .before .before .before .before .before .before .before .before .before .before .before .before .before .before .before .before .before)) (small (c .before .before .before .before .before .before .before .before .before .before .before .before .before .before .before .before .before)) _ _ (c .before .before .before .before .before .before .before .before .before .before .before .before .before .before .before .before .before .reduce .ensures .1 .1 .1 .0)
+part-search-file-end-2 c =
+    let k = c .before .before .before .before .before .before .before .before .before .before .before .before .before .before .before .before in
+    reduced-fits _ _ _ _ _ (k .reduce .ensures) (c .before .before .before .before .before .if1 .left) (octets k) (small k)
 
 search-file-requires : tie.Need-search-file-requires
 search-file-requires c κs =
-    let k = c .before .before .before .before .before .before .before .before .before .before .before .before .before .before .before .before .before .before in
+    let k = c .before .before .before .before .before .before .before .before .before .before .before .before .before .before .before .before .before in
     let s = to-start k in
-    let a = k .reduce .ensures .0 in
-    let z = c .before .before .before .before .before .before .before .if1 .left in
-    let f = reduced-part _ _ _ 0 0 _ a z (octets k) (small k) _ _ (k .reduce .ensures .1 .1 .1 .0) in
-    let g = origin-part _ _ _ 0 0 _ a z (octets k) (small k) _ _ (k .reduce .ensures .1 .1 .1 .1) in (
-      file-checked _ _ _ 0 0 _ a z (octets k) (small k) _ _ f g,
-      s .pre .0,
-      s .pre .1,
-      enough-numbers _ _ _ 0 0 _ a z (octets k) (small k) _ _ f g,
+    let z = c .before .before .before .before .before .before .if1 .left in
+    let f = reduced-part _ _ _ _ _ (k .reduce .ensures) z (octets k) (small k) in
+    let g = origin-part _ _ _ _ _ (k .reduce .ensures) z (octets k) (small k) in (
+      file-checked _ _ _ _ _ (k .reduce .ensures) z (octets k) (small k) _ _ f g,
+      s .pre,
+      enough-numbers _ _ _ _ _ (k .reduce .ensures) z (octets k) (small k) _ _ f g,
     )
 
 together-requires : tie.Need-together-requires
 together-requires c κs = search needs
 
 same-length-5 : tie.Need-same-length-5
-same-length-5 c = c .before .before .before .before .before .before .before .before .before .before .before .before .before .before .before .before .before .before .before .before .before .before .before .before .before .before .reduce .kept .1 .1 .1 .0
+same-length-5 c = c .before .before .before .before .before .before .before .before .before .before .before .before .before .before .before .before .before .before .before .before .before .before .before .reduce .kept .1 .1 .1 .0
 
 same-length-6 : tie.Need-same-length-6
-same-length-6 c = c .before .before .before .before .before .before .before .before .before .before .before .before .before .before .before .before .before .before .before .before .before .before .before .before .before .before .reduce .kept .1 .1 .1 .1 .0
+same-length-6 c = c .before .before .before .before .before .before .before .before .before .before .before .before .before .before .before .before .before .before .before .before .before .before .before .reduce .kept .1 .1 .1 .1 .0
 
 same-length-7 : tie.Need-same-length-7
-same-length-7 c = c .before .before .before .before .before .before .before .before .before .before .before .before .before .before .before .before .before .before .before .before .before .before .before .before .before .before .reduce .kept .1 .1 .1 .1 .1 .0
+same-length-7 c = c .before .before .before .before .before .before .before .before .before .before .before .before .before .before .before .before .before .before .before .before .before .before .before .reduce .kept .1 .1 .1 .1 .1 .0
 
 same-length-8 : tie.Need-same-length-8
-same-length-8 c = c .before .before .before .before .before .before .before .before .before .before .before .before .before .before .before .before .before .before .before .before .before .before .before .before .before .before .reduce .kept .1 .1 .1 .1 .1 .1 .0
+same-length-8 c = c .before .before .before .before .before .before .before .before .before .before .before .before .before .before .before .before .before .before .before .before .before .before .before .reduce .kept .1 .1 .1 .1 .1 .1 .0
 
 same-length-9 : tie.Need-same-length-9
 same-length-9 c = search needs
@@ -115,38 +100,14 @@ same-length-9 c = search needs
 same-length-10 : tie.Need-same-length-10
 same-length-10 c = search needs
 
-same-length-11 : tie.Need-same-length-11
-same-length-11 c = search needs
-
 returns-2 : tie.Need-returns-2
 returns-2 c =
-    let h = c .before .before .before .before .before .before .before in
+    let h = c .before .before .before .before .before in
     let k = to-reduce h in
-    let a = k .reduce .ensures .0 in
-    let z = h .before .before .before .before .before .before .before .before .if1 .left in
-    let f = reduced-part _ _ _ 0 0 _ a z (octets k) (small k) _ _ (k .reduce .ensures .1 .1 .1 .0) in
-    let g = origin-part _ _ _ 0 0 _ a z (octets k) (small k) _ _ (k .reduce .ensures .1 .1 .1 .1) in
-    let found = h .search-file .ensures .0 in
-    let answer = row-answer _ _ _ _ _ _ a z (octets k) (small k) _ _ f g _ found _ (c .together .ensures) in
-    let bounded = filled-bounded _ _ _ (answer .1 ∙ found-states _ _ _ _ _ _ a z (octets k) (small k) _ _ f g _ found) in (
-      answer .0,
-      (
-        action-marks _ _ _ _ _ _ _ (k .reduce .ensures .1 .0),
-        (
-          fact-marks _ _ _ _ _ _ _ (k .reduce .ensures .1 .1 .0),
-          (
-            reduced-file _ _ _ _ _ _ _ (k .reduce .ensures .1 .1 .1 .0),
-            (
-              origin-file _ _ _ _ _ _ _ (k .reduce .ensures .1 .1 .1 .1),
-              (
-                row-plan _ _ _ _ _ _ a z (octets k) (small k) _ _ f g _ found _ _ (h .search-file .ensures .1 .1),
-                (ap (entriesIn _ _) (answer .1) ∙ row-table _ _ _ _ _ _ a z (octets k) (small k) _ _ f g _ found _ _ (h .search-file .ensures .1 .0), bounded .0, bounded .1),
-              ),
-            ),
-          ),
-        ),
-      ),
-    )
+    let z = h .before .before .before .before .before .before .before .if1 .left in
+    let f = reduced-part _ _ _ _ _ (k .reduce .ensures) z (octets k) (small k) in
+    let g = origin-part _ _ _ _ _ (k .reduce .ensures) z (octets k) (small k) in
+    plans-late _ _ _ _ _ (k .reduce .ensures) z (octets k) (small k) _ _ f g _ _ _ (entriesIn _) _ (h .search-file .ensures) _ (c .together .ensures)
 
 pub plan-columns-spec : {M : Type 1} → statement M
 plan-columns-spec =
@@ -173,5 +134,4 @@ plan-columns-spec =
     same-length-8
     same-length-9
     same-length-10
-    same-length-11
     returns-2)

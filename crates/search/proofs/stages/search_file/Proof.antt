@@ -8,14 +8,14 @@ use Rattle.files.specs.Bytes.{Octets}
 use Rattle.files.specs.TaskFile.{checkTask}
 use Rattle.files.proofs.TaskChecked.{action-count, task-accepted}
 use Rattle.files.proofs.HeldTask.{held-by}
-use Rattle.search.proofs.FoundLaws.{answer-alike, table-alike, plan-alike}
+use Rattle.search.proofs.FoundLaws.{searches-alike}
 use borrow.Author.Needs.{needs}
 use Rattle.search.proofs.stages.search_file.Statement.{statement}
 use Rattle.search.proofs.stages.search_file.Tie as tie
 
 -- from each call to the one before it
 abbrev to-start : tie.After-read-task → tie.Start
-to-start c = c .before .before .before .before .before .before .before .before .before .before .before .before
+to-start c = c .before .before .before .before .before .before .before .before .before .before .before
 
 abbrev to-read : tie.After-actions-in → tie.After-read-task
 to-read c = c .before .before
@@ -34,7 +34,7 @@ actions-in-requires c κs = search needs
 
 search-task-requires : tie.Need-search-task-requires
 search-task-requires c κs =
-    let a = c .before .before .before .before .before .before .before .before .before in
+    let a = c .before .before .before .before .before .before .before .before in
     let s = to-start (to-read a) in
     let file = now (s .args .reduced) in
     let octets : Octets file = λ i. omega (arith, to-read a .before .before .before .before .before .before .before .shared-slice-known2 .given i) in
@@ -42,8 +42,7 @@ search-task-requires c κs =
     let is = held-by _ _ _ _ _ _ _ _ _ _ _ (a .before .variables-in .ensures .is) (a .actions-in .ensures .is) (to-read a .read-task .ensures .task (passes (to-read a))) in (
       ap acceptedTask is ∙ task-accepted file octets checked,
       s .pre .1,
-      s .pre .2,
-      omega (arith, s .pre .3, a .actions-in .ensures .is, action-count file),
+      omega (arith, s .pre .2, a .actions-in .ensures .is, action-count file),
     )
 
 same-length : tie.Need-same-length
@@ -52,17 +51,12 @@ same-length c = search needs
 same-length-2 : tie.Need-same-length-2
 same-length-2 c = search needs
 
-same-length-3 : tie.Need-same-length-3
-same-length-3 c = search needs
-
 returns : tie.Need-returns
 returns c =
-    let k = c .before .before .before .before .before .before in
-    let a = k .before .before .before .before .before .before .before .before .before .before in
-    let is = held-by _ _ _ _ _ _ _ _ _ _ _ (a .before .variables-in .ensures .is) (a .actions-in .ensures .is) (to-read a .read-task .ensures .task (passes (to-read a))) in (
-      answer-alike _ _ is _ _ _ _ _ (k .search-task .ensures .0),
-      (table-alike _ _ is _ _ (k .search-task .ensures .1 .0), plan-alike _ _ is _ _ _ _ _ (k .search-task .ensures .1 .1)),
-    )
+    let k = c .before .before .before .before in
+    let a = k .before .before .before .before .before .before .before .before .before in
+    let is = held-by _ _ _ _ _ _ _ _ _ _ _ (a .before .variables-in .ensures .is) (a .actions-in .ensures .is) (to-read a .read-task .ensures .task (passes (to-read a))) in
+    searches-alike _ _ is _ _ _ _ _ _ _ (k .search-task .ensures)
 
 pub search-file-spec : {M : Type 1} → statement M
 search-file-spec =
@@ -74,5 +68,4 @@ search-file-spec =
     search-task-requires
     same-length
     same-length-2
-    same-length-3
     returns)

@@ -1,22 +1,24 @@
 -- The answers in the order of the refusals: too many states, the table's room, no plan, the plan's room, the plan.
-use Prim.Native.Nat.{ℕ, _+_, _*_, _≤_, _<_}
+use Prim.Native.Nat.{ℕ, _≤_, _<_}
 use mathlib.Core.Path.{_≡_, sym, ap, _∙_}
+use mathlib.Core.List.{List}
 use native.Mathlib.Omega.{arith}
 use denote.Ref.{now}
 use borrow.Author.Needs.{needs}
 use Rattle.files.specs.Dense.{Arrays, held, arrays}
-use Rattle.files.specs.declared.Outcome.{Outcome}
-use Rattle.files.specs.Outcome.{done, refusal}
+use Rattle.files.specs.Outcome.{done, refusal, overwrite}
+use Rattle.files.specs.PlanFile.{planFile}
 use Rattle.plans.specs.Plan.{Total}
 use Rattle.files.proofs.Valid.{Valid}
 use Rattle.files.proofs.Guards.{refusal-number}
-use Rattle.search.specs.declared.stages.Found.{Found}
+use Rattle.search.specs.declared.Entry.{Entry}
 use Rattle.search.specs.States.{stateCount}
 use Rattle.search.specs.Planner.{statesFit}
 use Rattle.search.proofs.HeldStates.{held-states, held-valid, held-sizes, held-few}
+use Rattle.search.proofs.EntryLaws.{steps-fit}
 use Rattle.search.proofs.Radix.{start-below}
-use Rattle.search.proofs.TableEntries.{at-count, start-none, start-some, start-distance, start-low, start-steps}
-use Rattle.search.proofs.FoundLaws.{states-many, table-short, states-fit, early-answer, early-table, full-table, refused-plan, late-answer, done-answer, no-plan, plan-short, plan-fits, read-plan, read-total, read-needed, read-length, plan-written}
+use Rattle.search.proofs.TableEntries.{at-count, start-none, start-reached, start-distance, start-steps}
+use Rattle.search.proofs.FoundLaws.{states-many, table-short, states-fit, search-early, search-late, search-done, no-plan, plan-short, plan-fits, read-plan, read-total, read-needed, read-length, plan-made}
 use Rattle.search.proofs.stages.search_task.Statement.{statement}
 use Rattle.search.proofs.stages.search_task.Tie as tie
 
@@ -25,23 +27,23 @@ task-of s = arrays (s .args .variables) (s .args .actions) (now (s .args .sizes)
 
 -- from each call to the one before it
 abbrev to-start : tie.After-count → tie.Start
-to-start c = c .before .before .before .before .before
+to-start c = c .before .before .before .before
 
 abbrev to-count : tie.After-search → tie.After-count
-to-count c = c .before .before .before .before .before
+to-count c = c .before .before .before .before
 
 abbrev to-search : tie.After-needed → tie.After-search
 to-search c = c .before .before .before .before .before .before .before .before
 
 abbrev to-needed : tie.After-done → tie.After-needed
-to-needed c = c .before .before .before .before .before .before .before .before
+to-needed c = c .before .before .before .before .before .before .before
 
 states-of : (k : tie.After-count) → k .count .result ≤ 4096 → k .count .result ≡ stateCount (held (task-of (to-start k)) .variables)
-states-of k h = k .count .ensures .0 h ∙ sym (held-states (task-of (to-start k)))
+states-of k h = k .count .ensures .few h ∙ sym (held-states (task-of (to-start k)))
 
 -- what is known once the search was run
 few : (k : tie.After-search) → to-count k .count .result ≤ 4096
-few k = k .before .before .before .before .if1 .left
+few k = k .before .before .before .if1 .left
 
 states-are : (k : tie.After-search) → to-count k .count .result ≡ stateCount (held (task-of (to-start (to-count k))) .variables)
 states-are k = states-of (to-count k) (few k)
@@ -50,13 +52,15 @@ valid : (s : tie.Start) → Valid (held (task-of s))
 valid s = held-valid (task-of s) (s .pre .0)
 
 inside : (k : tie.After-search) → k .search .result < to-count k .count .result
-inside k = omega (arith, start-below _ (valid (to-start (to-count k))), k .search .ensures .0, states-are k)
+inside k = omega (arith, start-below _ (valid (to-start (to-count k))), k .search .ensures .start, states-are k)
 
 fit : (k : tie.After-search) → done ≡ statesFit (held (task-of (to-start (to-count k)))) (to-start (to-count k) .args .room)
-fit k = states-fit _ _ (omega (arith, few k, states-are k)) (omega (arith, k .before .before .before .if2 .left, states-are k))
+fit k = states-fit _ _ (omega (arith, few k, states-are k)) (omega (arith, k .before .before .if2 .left, states-are k))
 
 count-requires : tie.Need-count-requires
-count-requires c κs = (held-few (task-of (c .before .before .before .before)) (c .before .before .before .before .pre .0), held-sizes (task-of (c .before .before .before .before)) (c .before .before .before .before .pre .0))
+count-requires c κs =
+    let s = c .before .before .before in
+    record { few = held-few (task-of s) (s .pre .0); least = held-sizes (task-of s) (s .pre .0) }
 
 refuse-requires : tie.Need-refuse-requires
 refuse-requires c κs = search needs
@@ -68,12 +72,9 @@ returns : tie.Need-returns
 returns c =
     let k = c .before .before .before in
     let t = held (task-of (to-start k)) in
-    let many : 4096 < stateCount (t .variables) = omega (arith, held-states (task-of (to-start k)), k .count .ensures .1 (c .before .before .if1 .taken)) in
+    let many : 4096 < stateCount (t .variables) = omega (arith, held-states (task-of (to-start k)), k .count .ensures .many (c .before .before .if1 .taken)) in
     let fit = states-many t _ _ many (c .before .refuse .ensures) in
-    let refused = refusal-number _ 25 _ (omega arith) (c .before .refuse .ensures) in (
-      early-answer t _ _ _ _ _ fit refused _ (c .not-found .ensures),
-      (early-table t _ _ fit refused _ (c .not-found .ensures) _ _, refused-plan _ _ _ (c .not-found .ensures) refused _ _),
-    )
+    search-early t _ _ _ _ _ fit (refusal-number _ 25 _ (omega arith) (c .before .refuse .ensures)) _ (c .not-found .ensures) _
 
 refuse-requires-2 : tie.Need-refuse-requires-2
 refuse-requires-2 c κs = search needs
@@ -89,23 +90,29 @@ returns-2 c =
     let few : stateCount (t .variables) ≤ 4096 = omega (arith, c .before .before .before .if1 .left) in
     let short : to-start k .args .room < stateCount (t .variables) = omega (arith, c .before .before .if2 .taken) in
     let fit = table-short t _ _ few short (c .before .refuse2 .ensures ∙ ap (refusal 21) s) in
-    let refused = refusal-number _ 21 _ (omega arith) (c .before .refuse2 .ensures) in (
-      early-answer t _ _ _ _ _ fit refused _ (c .not-found2 .ensures),
-      (early-table t _ _ fit refused _ (c .not-found2 .ensures) _ _, refused-plan _ _ _ (c .not-found2 .ensures) refused _ _),
-    )
+    search-early t _ _ _ _ _ fit (refusal-number _ 21 _ (omega arith) (c .before .refuse2 .ensures)) _ (c .not-found2 .ensures) _
 
 search-requires : tie.Need-search-requires
 search-requires c κs =
-    let k = c .before .before .before .before in
-    let l = c .before .before .before .if1 .left in
+    let k = c .before .before .before in
+    let l = c .before .before .if1 .left in
     let s = to-start k in
-    (s .pre .0, states-of k l, l, omega (arith, s .pre .1), omega (arith, s .pre .2))
+    record { accepted = s .pre .0; states = states-of k l; few = l; room = omega (arith, s .pre .1) }
 
-mul-cost : tie.Need-mul-cost
-mul-cost c = omega (arith, inside (c .before .before .before .before), few (c .before .before .before .before))
+-- the entry of the start state
+abbrev to-found : tie.After-entry-at → tie.After-search
+to-found c = c .before .before .before .before
 
-slice-read-cost : tie.Need-slice-read-cost
-slice-read-cost c = omega (arith, inside (c .before .before .before .before .before), few (c .before .before .before .before .before), to-start (to-count (c .before .before .before .before .before)) .pre .1)
+entry-at-requires : tie.Need-entry-at-requires
+entry-at-requires c κs =
+    let k = c .before .before .before in
+    omega (arith, inside k, few k, to-start (to-count k) .pre .1, k .search .kept .0)
+
+is-none-requires : tie.Need-is-none-requires
+is-none-requires c κs = search needs
+
+few-steps : (c : tie.After-entry-at) → c .entry-at .result .steps < 65536
+few-steps c = omega (arith, ap (λ (e : Entry). e .steps) (c .entry-at .ensures), steps-fit (to-found c .search .last .0) (to-found c .search .result))
 
 refuse-requires-3 : tie.Need-refuse-requires-3
 refuse-requires-3 c κs = search needs
@@ -116,32 +123,20 @@ not-found-requires-3 c κs = search needs
 same-length : tie.Need-same-length
 same-length c = search needs
 
-same-length-2 : tie.Need-same-length-2
-same-length-2 c = search needs
-
 returns-3 : tie.Need-returns-3
 returns-3 c =
     let k = c .before .before .before .before .before .before .before .before in
     let t = held (task-of (to-start (to-count k))) in
-    let table = at-count t _ _ _ _ (states-are k) (k .search .ensures .1) in
-    let none-found = start-none t _ _ table (valid (to-start (to-count k))) _ (k .search .ensures .0) (omega (arith, few k, states-are k)) (c .before .before .if3 .taken) in
+    let table = at-count t _ _ _ (states-are k) (k .search .ensures .table) in
+    let none-found = start-none t _ table (valid (to-start (to-count k))) _ (k .search .ensures .start) _ (c .before .before .before .before .entry-at .ensures) _ (c .before .before .before .is-none .ensures) (c .before .before .if3 .taken) (omega (arith, few k, states-are k)) in
     let p = no-plan t _ _ _ _ none-found (c .before .refuse3 .ensures) in
-    let refused = refusal-number _ 24 _ (omega arith) (c .before .refuse3 .ensures) in (
-      late-answer t _ _ _ _ (fit k) _ p refused _ _ (states-are k) (c .not-found3 .ensures),
-      (full-table t _ (fit k) _ _ _ (ap (λ (x : Found). x .states) (c .not-found3 .ensures) ∙ states-are k) table, refused-plan _ _ _ (c .not-found3 .ensures) refused _ _),
-    )
-
-mul-fewest : tie.Need-mul-fewest
-mul-fewest c = omega (arith, inside (c .before .before .before .before .before .before), few (c .before .before .before .before .before .before))
-
-slice-read-fewest : tie.Need-slice-read-fewest
-slice-read-fewest c = omega (arith, inside (c .before .before .before .before .before .before .before), few (c .before .before .before .before .before .before .before), to-start (to-count (c .before .before .before .before .before .before .before)) .pre .2)
+    search-late t _ _ _ _ (fit k) _ table _ p (refusal-number _ 24 _ (omega arith) (c .before .refuse3 .ensures)) _ (states-are k) _ (c .not-found3 .ensures)
 
 cast-needed : tie.Need-cast-needed
-cast-needed c = omega (arith, c .slice-known7 .given (c .before .before .before .before .before .before .before .search .result))
+cast-needed c = omega (arith, few-steps (c .before .before .before))
 
 needed-requires : tie.Need-needed-requires
-needed-requires c κs = omega (arith, c .slice-known7 .given (c .before .before .before .before .before .before .before .search .result))
+needed-requires c κs = omega (arith, few-steps (c .before .before .before))
 
 refuse-requires-4 : tie.Need-refuse-requires-4
 refuse-requires-4 c κs = search needs
@@ -149,11 +144,8 @@ refuse-requires-4 c κs = search needs
 not-found-requires-4 : tie.Need-not-found-requires-4
 not-found-requires-4 c κs = search needs
 
-same-length-3 : tie.Need-same-length-3
-same-length-3 c = search needs
-
-same-length-4 : tie.Need-same-length-4
-same-length-4 c = search needs
+same-length-2 : tie.Need-same-length-2
+same-length-2 c = search needs
 
 returns-4 : tie.Need-returns-4
 returns-4 c =
@@ -161,64 +153,55 @@ returns-4 c =
     let k = to-search n in
     let t = held (task-of (to-start (to-count k))) in
     let ok = valid (to-start (to-count k)) in
-    let table = at-count t _ _ _ _ (states-are k) (k .search .ensures .1) in
-    let x = start-some t _ _ table ok _ (k .search .ensures .0) (n .before .before .if3 .left) in
-    let e = start-distance t _ _ table ok _ (k .search .ensures .0) _ (x .distance) in
-    let needed = read-needed t ok _ e _ _ _ (n .needed .ensures ∙ ap (λ (m : ℕ). 16 + 2 * m) (x .steps-are)) in
+    let table = at-count t _ _ _ (states-are k) (k .search .ensures .table) in
+    let e = start-distance t _ table ok _ (k .search .ensures .start) _ (n .before .before .before .before .entry-at .ensures) _ (n .before .before .before .is-none .ensures) (n .before .before .if3 .left) in
+    let needed = read-needed t ok _ e _ _ _ (n .needed .ensures) in
     let p = plan-short t _ _ _ _ (read-plan t ok _ e) _ _ needed (c .before .before .if4 .taken) (c .before .refuse4 .ensures) in
-    let refused = refusal-number _ 21 _ (omega arith) (c .before .refuse4 .ensures) in (
-      late-answer t _ _ _ _ (fit k) _ p refused _ _ (states-are k) (c .not-found4 .ensures),
-      (full-table t _ (fit k) _ _ _ (ap (λ (x : Found). x .states) (c .not-found4 .ensures) ∙ states-are k) table, refused-plan _ _ _ (c .not-found4 .ensures) refused _ _),
-    )
+    search-late t _ _ _ _ (fit k) _ table _ p (refusal-number _ 21 _ (omega arith) (c .before .refuse4 .ensures)) _ (states-are k) _ (c .not-found4 .ensures)
 
 write-plan-requires : tie.Need-write-plan-requires
 write-plan-requires c κs =
-    let n = c .before .before .before .before in
+    let n = c .before .before .before in
     let k = to-search n in
     let s = to-start (to-count k) in
     let t = held (task-of s) in
-    let table = at-count t _ _ _ _ (states-are k) (k .search .ensures .1) in
-    let e = k .search .ensures .0 in
-    let small : stateCount (t .variables) ≤ 4096 = omega (arith, few k, states-are k) in (
-      s .pre .0,
-      small,
-      omega (arith, s .pre .1),
-      omega (arith, s .pre .2),
-      table,
-      start-low t _ _ table (valid s) _ e small (n .before .before .if3 .left),
-      omega (arith, start-steps t _ _ table (valid s) _ e, n .needed .ensures, c .before .before .before .if4 .left),
-      s .pre .3,
-    )
+    let table = at-count t _ _ _ (states-are k) (k .search .ensures .table) in
+    let e = k .search .ensures .start in
+    let small : stateCount (t .variables) ≤ 4096 = omega (arith, few k, states-are k) in
+    record {
+      accepted = s .pre .0;
+      few = small;
+      room = omega (arith, s .pre .1, k .search .kept .0);
+      table = table;
+      reached = start-reached t _ table (valid s) _ e _ (n .before .before .before .before .entry-at .ensures) _ (n .before .before .before .is-none .ensures) (n .before .before .if3 .left);
+      plan-room = omega (arith, start-steps t _ table (valid s) _ e _ (n .before .before .before .before .entry-at .ensures), n .needed .ensures, c .before .before .if4 .left);
+      numbers = s .pre .2;
+    }
 
 done-requires : tie.Need-done-requires
 done-requires c κs = search needs
 
-same-length-5 : tie.Need-same-length-5
-same-length-5 c = search needs
+same-length-3 : tie.Need-same-length-3
+same-length-3 c = search needs
 
-same-length-6 : tie.Need-same-length-6
-same-length-6 c = search needs
-
-same-length-7 : tie.Need-same-length-7
-same-length-7 c = search needs
+same-length-4 : tie.Need-same-length-4
+same-length-4 c = search needs
 
 returns-5 : tie.Need-returns-5
 returns-5 c =
     let n = to-needed c in
     let k = to-search n in
-    let t = held (task-of (to-start (to-count k))) in
-    let ok = valid (to-start (to-count k)) in
-    let table = at-count t _ _ _ _ (states-are k) (k .search .ensures .1) in
-    let x = start-some t _ _ table ok _ (k .search .ensures .0) (n .before .before .if3 .left) in
-    let e = start-distance t _ _ table ok _ (k .search .ensures .0) _ (x .distance) in
-    let needed = read-needed t ok _ e _ _ _ (n .needed .ensures ∙ ap (λ (m : ℕ). 16 + 2 * m) (x .steps-are)) in
-    let p = c .done .ensures ∙ plan-fits t _ _ _ _ (read-plan t ok _ e) _ needed (c .before .before .before .before .before .before .before .if4 .left) in
-    let z = ap (λ (o : Outcome). o .number) (c .done .ensures) in
-    let whole = read-length t ok _ e _ _ _ (n .needed .ensures ∙ ap (λ (m : ℕ). 16 + 2 * m) (x .steps-are)) in
-    let total = read-total t ok _ e in (
-      done-answer t _ _ _ _ (fit k) _ p z _ _ _ _ (states-are k) whole (x .minutes-are ∙ ap (λ (y : Total). y .minutes) (sym total)) (x .steps-are ∙ ap (λ (y : Total). y .steps) (sym total)),
-      (full-table t _ (fit k) _ _ _ (states-are k) table, plan-written t _ _ _ _ _ z (c .before .before .before .write-plan .ensures)),
-    )
+    let s = to-start (to-count k) in
+    let t = held (task-of s) in
+    let ok = valid s in
+    let table = at-count t _ _ _ (states-are k) (k .search .ensures .table) in
+    let e = start-distance t _ table ok _ (k .search .ensures .start) _ (n .before .before .before .before .entry-at .ensures) _ (n .before .before .before .is-none .ensures) (n .before .before .if3 .left) in
+    let read = read-plan t ok _ e in
+    let p = plan-fits t _ _ _ _ read _ (read-needed t ok _ e _ _ _ (n .needed .ensures)) (c .before .before .before .before .before .before .if4 .left) in
+    let total = read-total t ok _ e in
+    let written = c .before .before .before .write-plan .ensures ∙ ap (λ (l : List ℕ). overwrite (now (s .args .plan)) (planFile l (s .args .signer))) (sym (plan-made t _ _ read)) in
+    search-done t _ _ _ _ (fit k) _ table p _ (c .done .ensures) _ _ _ _ (states-are k) (read-length t ok _ e _ _ _ (n .needed .ensures))
+    (ap (λ (y : Total). y .minutes) (sym total)) (ap (λ (y : Total). y .steps) (sym total)) _ written
 
 pub search-task-spec : {M : Type 1} → statement M
 search-task-spec =
@@ -232,25 +215,20 @@ search-task-spec =
     not-found-requires-2
     returns-2
     search-requires
-    mul-cost
-    slice-read-cost
+    entry-at-requires
+    is-none-requires
     refuse-requires-3
     not-found-requires-3
     same-length
-    same-length-2
     returns-3
-    mul-fewest
-    slice-read-fewest
     cast-needed
     needed-requires
     refuse-requires-4
     not-found-requires-4
-    same-length-3
-    same-length-4
+    same-length-2
     returns-4
     write-plan-requires
     done-requires
-    same-length-5
-    same-length-6
-    same-length-7
+    same-length-3
+    same-length-4
     returns-5)

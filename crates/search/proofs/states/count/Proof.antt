@@ -2,7 +2,7 @@
 use Prim.Native.Nat.{_-_, _≤_}
 use mathlib.Core.Path.{_≡_}
 use native.Mathlib.Omega.{arith}
-use Rattle.search.specs.Columns.{rowWeight}
+use Rattle.search.specs.Rows.{rowWeight}
 use Rattle.search.proofs.StateLoops.{product-most, weight-first, weight-next, count-over, count-end}
 use denote.Ref.{now}
 use borrow.Author.Needs.{needs}
@@ -30,7 +30,7 @@ returns c =
     let l = c .before .before .before .before .loop in
     let start = c .before .before .before .before .before in
     let sizes = now (start .args .sizes) in
-    count-over sizes _ _ _ (start .pre .1) (c .before .before .before .loop-test .taken) (weight-next sizes _ _ _ (l .inv .0) (c .before .byte-at .ensures .is)) (c .if1 .taken)
+    count-over sizes _ _ _ (start .pre .least) (c .before .before .before .loop-test .taken) (weight-next sizes _ _ _ (l .inv .0) (c .before .byte-at .ensures .is)) (c .if1 .taken)
 
 add-v : tie.Need-add-v Inv-loop μ-loop
 add-v c = search needs

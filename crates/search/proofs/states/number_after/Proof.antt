@@ -49,8 +49,8 @@ unfolding listState
 mul-number c =
     let l = c .before .before .before .before .before .before .loop in
     let start = c .before .before .before .before .before .before .before .before in
-    let inside = after-inside (now (start .args .sizes)) (now (start .args .effects)) (start .args .base) (start .args .variables) (listState (now (start .args .values))) (start .pre .3) (start .pre .4) in
-    let few = number-few (now (start .args .sizes)) (afterRow (now (start .args .effects)) (start .args .base) (listState (now (start .args .values)))) (start .args .variables) inside (l .v) (l .number) (l .inv .1) (l .inv .0) (start .pre .2) in
+    let inside = after-inside (now (start .args .sizes)) (now (start .args .effects)) (start .args .base) (start .args .variables) (listState (now (start .args .values))) (start .pre .inside .inside) (start .pre .effect-inside) in
+    let few = number-few (now (start .args .sizes)) (afterRow (now (start .args .effects)) (start .args .base) (listState (now (start .args .values)))) (start .args .variables) inside (l .v) (l .number) (l .inv .1) (l .inv .0) (start .pre .inside .states) in
     omega (arith, product-most _ _ few (c .byte-at .ensures .below), mul-comm (l .number) (c .byte-at .result))
 
 add-number : tie.Need-add-number Inv-loop μ-loop
@@ -58,8 +58,8 @@ unfolding listState
 add-number c =
     let l = c .before .before .before .before .before .before .loop in
     let start = c .before .before .before .before .before .before .before .before in
-    let inside = after-inside (now (start .args .sizes)) (now (start .args .effects)) (start .args .base) (start .args .variables) (listState (now (start .args .values))) (start .pre .3) (start .pre .4) in
-    let few = number-few (now (start .args .sizes)) (afterRow (now (start .args .effects)) (start .args .base) (listState (now (start .args .values)))) (start .args .variables) inside (l .v) (l .number) (l .inv .1) (l .inv .0) (start .pre .2) in
+    let inside = after-inside (now (start .args .sizes)) (now (start .args .effects)) (start .args .base) (start .args .variables) (listState (now (start .args .values))) (start .pre .inside .inside) (start .pre .effect-inside) in
+    let few = number-few (now (start .args .sizes)) (afterRow (now (start .args .effects)) (start .args .base) (listState (now (start .args .values)))) (start .args .variables) inside (l .v) (l .number) (l .inv .1) (l .inv .0) (start .pre .inside .states) in
     omega (arith, product-most _ _ few (c .byte-at .ensures .below), mul-comm (l .number) (c .byte-at .result))
 
 loop-less : tie.Need-loop-less Inv-loop μ-loop
@@ -81,10 +81,14 @@ returns c =
     let sizes = now (start .args .sizes) in
     let effects = now (start .args .effects) in
     let values = listState (now (start .args .values)) in
-    let inside = after-inside sizes effects (start .args .base) (start .args .variables) values (start .pre .3) (start .pre .4) in (
-      λ starts a is. after-number sizes effects (start .args .base) (start .args .variables) values starts a _ is (number-end sizes (afterRow effects (start .args .base) values) (start .args .variables) starts (l .v) (l .number) (c .loop-test .left) (l .inv .0)),
-      number-last-below sizes (afterRow effects (start .args .base) values) (start .args .variables) inside (l .v) (l .number) (c .loop-test .left) (l .inv .0),
-    )
+    let inside = after-inside sizes effects (start .args .base) (start .args .variables) values (start .pre .inside .inside) (start .pre .effect-inside) in
+    record {
+      is =
+          λ starts a is.
+          after-number sizes effects (start .args .base) (start .args .variables) values starts a _ is
+          (number-end sizes (afterRow effects (start .args .base) values) (start .args .variables) starts (l .v) (l .number) (c .loop-test .left) (l .inv .0));
+      below = number-last-below sizes (afterRow effects (start .args .base) values) (start .args .variables) inside (l .v) (l .number) (c .loop-test .left) (l .inv .0);
+    }
 
 pub number-after-spec : {M : Type 1} → statement M
 number-after-spec =

@@ -35,7 +35,7 @@ unfolding listState
 mul-number c =
     let l = c .before .before .before .before .before .loop in
     let start = c .before .before .before .before .before .before in
-    let few = number-few (now (start .args .sizes)) (listState (now (start .args .starts))) (start .args .variables) (start .pre .2) (l .v) (l .number) (l .inv .1) (l .inv .0) (start .pre .1) in
+    let few = number-few (now (start .args .sizes)) (listState (now (start .args .starts))) (start .args .variables) (start .pre .inside) (l .v) (l .number) (l .inv .1) (l .inv .0) (start .pre .states) in
     omega (arith, product-most _ _ few (c .byte-at2 .ensures .below), mul-comm (l .number) (c .byte-at2 .result))
 
 add-number : tie.Need-add-number Inv-loop μ-loop
@@ -43,7 +43,7 @@ unfolding listState
 add-number c =
     let l = c .before .before .before .before .before .loop in
     let start = c .before .before .before .before .before .before in
-    let few = number-few (now (start .args .sizes)) (listState (now (start .args .starts))) (start .args .variables) (start .pre .2) (l .v) (l .number) (l .inv .1) (l .inv .0) (start .pre .1) in
+    let few = number-few (now (start .args .sizes)) (listState (now (start .args .starts))) (start .args .variables) (start .pre .inside) (l .v) (l .number) (l .inv .1) (l .inv .0) (start .pre .states) in
     omega (arith, product-most _ _ few (c .byte-at2 .ensures .below), mul-comm (l .number) (c .byte-at2 .result), c .before .before .byte-at .ensures .below)
 
 loop-less : tie.Need-loop-less Inv-loop μ-loop

@@ -23,19 +23,19 @@ byte-at-requires : tie.Need-byte-at-requires Inv-loop μ-loop
 byte-at-requires c κs = search needs
 
 rem-values : tie.Need-rem-values Inv-loop μ-loop
-rem-values c = omega (arith, c .byte-at .ensures .is, c .before .before .before .before .pre .1 (c .before .before .before .loop .v) (c .before .before .loop-test .taken))
+rem-values c = omega (arith, c .byte-at .ensures .is, c .before .before .before .before .pre .least (c .before .before .before .loop .v) (c .before .before .loop-test .taken))
 
 cast-values : tie.Need-cast-values Inv-loop μ-loop
 cast-values c =
     let l = c .before .before .before .loop in
     let start = c .before .before .before .before in
-    omega (arith, digit-below (now (start .args .sizes)) (start .args .variables) (l .rest) (l .v) (c .byte-at .result) (start .pre .1) (c .before .before .loop-test .taken) (c .byte-at .ensures .is) (c .byte-at .ensures .below))
+    omega (arith, digit-below (now (start .args .sizes)) (start .args .variables) (l .rest) (l .v) (c .byte-at .result) (start .pre .least) (c .before .before .loop-test .taken) (c .byte-at .ensures .is) (c .byte-at .ensures .below))
 
 array-write-values : tie.Need-array-write-values Inv-loop μ-loop
-array-write-values c = omega (arith, c .before .before .before .before .pre .0, c .before .before .loop-test .taken)
+array-write-values c = omega (arith, c .before .before .before .before .pre .few, c .before .before .loop-test .taken)
 
 div-rest : tie.Need-div-rest Inv-loop μ-loop
-div-rest c = omega (arith, c .byte-at .ensures .is, c .before .before .before .before .pre .1 (c .before .before .before .loop .v) (c .before .before .loop-test .taken))
+div-rest c = omega (arith, c .byte-at .ensures .is, c .before .before .before .before .pre .least (c .before .before .before .loop .v) (c .before .before .loop-test .taken))
 
 add-v : tie.Need-add-v Inv-loop μ-loop
 add-v c = search needs
@@ -47,7 +47,7 @@ loop-again : tie.Need-loop-again Inv-loop μ-loop
 loop-again c =
     let l = c .before .before .before .loop in
     let start = c .before .before .before .before in
-    decode-next (now (start .args .sizes)) _ _ (l .values) _ _ _ (l .inv) (c .before .before .loop-test .taken) (start .pre .0) (c .byte-at .ensures .is)
+    decode-next (now (start .args .sizes)) _ _ (l .values) _ _ _ (l .inv) (c .before .before .loop-test .taken) (start .pre .few) (c .byte-at .ensures .is)
 
 returns : tie.Need-returns Inv-loop μ-loop
 returns c = decode-end _ _ _ _ _ _ (c .before .loop .inv) (c .loop-test .left)

@@ -4,7 +4,7 @@ use mathlib.Core.Path.{_≡_, refl, _∙_}
 use native.Mathlib.Omega.{arith}
 use lib.ListN.{length, length-set, getD}
 use Rattle.files.proofs.Filling.{filled-before}
-use Rattle.search.specs.Columns.{rowWeight}
+use Rattle.search.specs.Rows.{rowWeight}
 use Rattle.search.proofs.RowNumbers.{weight-most}
 use Rattle.search.proofs.StateLoops.{product-most, weight-first, weight-next}
 use denote.Ref.{now}
@@ -35,7 +35,7 @@ mul-weight : tie.Need-mul-weight Inv-loop μ-loop
 mul-weight c =
     let l = c .before .before .before .loop in
     let start = c .before .before .before .before in
-    let below : l .weight ≤ 4096 = omega (arith, weight-most (now (start .args .sizes)) (l .v) (start .args .variables) (start .pre .2) (l .inv .2)) in
+    let below : l .weight ≤ 4096 = omega (arith, weight-most (now (start .args .sizes)) (l .v) (start .args .variables) (start .pre .sized .least) (l .inv .2), start .pre .states) in
     omega (arith, product-most _ _ below (c .byte-at .ensures .below))
 
 add-v : tie.Need-add-v Inv-loop μ-loop

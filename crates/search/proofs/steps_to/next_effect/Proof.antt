@@ -17,7 +17,7 @@ abbrev μ-loop : tie.MeasureT-loop
 μ-loop effects base from variables v₀ v = variables - v
 
 loop-holds : tie.Need-loop-holds Inv-loop μ-loop
-loop-holds c = (omega arith, c .pre .0, λ u a b. absurd (omega arith))
+loop-holds c = (omega arith, c .pre .start, λ u a b. absurd (omega arith))
 
 add-byte-at : tie.Need-add-byte-at Inv-loop μ-loop
 add-byte-at c = search needs
@@ -28,7 +28,7 @@ byte-at-requires c κs = search needs
 returns : tie.Need-returns Inv-loop μ-loop
 returns c =
     let l = c .before .before .before .before .loop in
-    (l .inv .0, l .inv .1, l .inv .2, λ h e. c .if1 .taken (c .before .byte-at .ensures .is ∙ e))
+    record { first = l .inv .0; last = l .inv .1; between = l .inv .2; there = λ h e. c .if1 .taken (c .before .byte-at .ensures .is ∙ e) }
 
 add-v : tie.Need-add-v Inv-loop μ-loop
 add-v c = search needs
@@ -53,7 +53,7 @@ loop-again c =
 returns-2 : tie.Need-returns-2 Inv-loop μ-loop
 returns-2 c =
     let l = c .before .loop in
-    (l .inv .0, l .inv .1, l .inv .2, λ h e. absurd (omega arith))
+    record { first = l .inv .0; last = l .inv .1; between = l .inv .2; there = λ h e. absurd (omega arith) }
 
 pub next-effect-spec : {M : Type 1} → statement M
 next-effect-spec =

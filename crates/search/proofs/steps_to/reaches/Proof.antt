@@ -5,7 +5,7 @@ use mathlib.Core.Bool.{true}
 use native.Mathlib.Omega.{arith}
 use Rattle.files.specs.Below.{allBelow}
 use Rattle.plans.specs.Tally.{listState}
-use Rattle.search.specs.Columns.{canHave}
+use Rattle.search.specs.Rows.{canHave}
 use Rattle.search.proofs.Predecessors.{reachAt, reach-next, reach-stop, reach-end}
 use denote.Ref.{now}
 use borrow.Author.Tests.{not-true, not-false}

@@ -2,68 +2,55 @@
 use Prim.Native.Nat.{_-_}
 use mathlib.Core.Path.{_≡_, refl, _∙_}
 use native.Mathlib.Omega.{arith}
+use mathlib.Core.List.{[]}
 use lib.ListN.{length}
 use Rattle.search.specs.Settling.{Unchanged}
 use Rattle.search.proofs.Blocks.{unchanged-none, unchanged-next}
-use Rattle.search.proofs.OfferActions.{Actions, price-few, state-values, action-row, actions-begin, actions-next, actions-end}
+use Rattle.search.proofs.OfferActions.{Actions, step-on, state-values, action-row, actions-begin, actions-next, actions-end}
 use borrow.Author.Needs.{needs}
 use Rattle.search.proofs.steps_to.settle.Statement.{statement}
 use Rattle.search.proofs.steps_to.settle.Tie as tie
 
 abbrev Inv-loop : tie.InvT-loop
-Inv-loop minutes₀ steps₀ changed₀ sizes weights costs conditions effects variables actions x cost count values a₀ minutes steps changed a =
-    Actions sizes weights costs conditions effects variables actions x minutes₀ steps₀ cost count minutes steps a
-    × Unchanged changed₀ minutes₀ steps₀ changed minutes steps
+Inv-loop entries₀ changed₀ sizes weights costs conditions effects variables actions x entry values a₀ entries changed a =
+    Actions sizes weights costs conditions effects variables actions x entries₀ entries a
+    × Unchanged changed₀ entries₀ changed entries
     × (length changed ≡ length changed₀)
 
 abbrev μ-loop : tie.MeasureT-loop
-μ-loop minutes₀ steps₀ changed₀ sizes weights costs conditions effects variables actions x cost count values a₀ minutes steps changed a = actions - a
+μ-loop entries₀ changed₀ sizes weights costs conditions effects variables actions x entry values a₀ entries changed a = actions - a
 
-mul-cost : tie.Need-mul-cost Inv-loop μ-loop
-mul-cost c = search needs
-
-slice-read-cost : tie.Need-slice-read-cost Inv-loop μ-loop
-slice-read-cost c = search needs
-
-mul-count : tie.Need-mul-count Inv-loop μ-loop
-mul-count c = search needs
-
-slice-read-count : tie.Need-slice-read-count Inv-loop μ-loop
-slice-read-count c = search needs
-
-add-count : tie.Need-add-count Inv-loop μ-loop
-add-count c = search needs
+entry-at-requires : tie.Need-entry-at-requires Inv-loop μ-loop
+entry-at-requires c κs = search needs
 
 values-of-requires : tie.Need-values-of-requires Inv-loop μ-loop
-values-of-requires c κs = search needs
+values-of-requires c κs =
+    let pre = c .before .before .before .before .pre in
+    record { few = pre .asked .variables-few; least = pre .asked .size-least }
 
 loop-holds : tie.Need-loop-holds Inv-loop μ-loop
-loop-holds c =
-    let start = c .before .before .before .before .before .before in
-    (actions-begin _ _ _ _ _ _ _ _ _ _ _ _ (start .pre .0) (start .pre .1) (start .pre .2) (start .pre .3) (start .pre .4) refl (start .pre .5) refl, unchanged-none _ _ _, refl)
+loop-holds c = (actions-begin _ _ _ _ _ _ _ _ _ _ (c .before .before .before .before .before .pre), unchanged-none _ _, refl)
 
-mul-price : tie.Need-mul-price Inv-loop μ-loop
-mul-price c = search needs
+mul-after-step : tie.Need-mul-after-step Inv-loop μ-loop
+mul-after-step c = search needs
 
-element-copy-out-price : tie.Need-element-copy-out-price Inv-loop μ-loop
-element-copy-out-price c = search needs
+element-copy-out-after-step : tie.Need-element-copy-out-after-step Inv-loop μ-loop
+element-copy-out-after-step c = omega (arith, c .before .before .before .loop-test .taken, c .before .before .before .before .loop .inv .0 .asked .actions-few)
 
-cast-price : tie.Need-cast-price Inv-loop μ-loop
-cast-price c = omega (arith, price-few _ _ _ _ _ _ _ _ _ _ _ _ _ _ _ (c .before .before .loop .inv .0) (c .before .loop-test .taken))
-
-add-offer-action : tie.Need-add-offer-action Inv-loop μ-loop
-add-offer-action c = omega (arith, price-few _ _ _ _ _ _ _ _ _ _ _ _ _ _ _ (c .before .before .before .before .before .before .loop .inv .0) (c .before .before .before .before .before .loop-test .taken), c .before .before .before .before .before .before .loop .inv .0 .cost-few)
+after-step-requires : tie.Need-after-step-requires Inv-loop μ-loop
+after-step-requires c κs = step-on _ _ _ _ _ _ _ _ _ _ _ (c .before .before .before .before .before .loop .inv .0) _ _ (c .before .before .before .before .loop-test .taken) (c .before .before .before .before .before .before .before .entry-at .ensures) refl
 
 offer-action-requires : tie.Need-offer-action-requires Inv-loop μ-loop
 offer-action-requires c κs =
-    let l = c .before .before .before .before .before .before .loop .inv .0 in (
-      action-row _ _ _ _ _ _ _ _ _ _ _ _ _ _ _ l (c .before .before .before .before .before .loop-test .taken),
-      omega (arith, l .minutes-long, l .minutes-same),
-      omega (arith, l .steps-long, l .steps-same),
-      l .below,
-      state-values _ _ _ _ _ _ _ _ _ _ _ _ _ _ _ l _ (c .before .before .before .before .before .before .before .values-of .ensures),
-      omega (arith, c .before .before .before .before .before .before .loop .inv .2, c .before .before .before .before .before .before .before .before .before .before .before .before .before .pre .7),
-    )
+    let inv = c .before .before .before .before .before .before .loop .inv in
+    let l = inv .0 in
+    record {
+      row = action-row _ _ _ _ _ _ _ _ _ _ _ l (c .before .before .before .before .before .loop-test .taken);
+      room = omega (arith, l .room, l .same);
+      below = l .below;
+      values-are = state-values _ _ _ _ _ _ _ _ _ _ _ l _ (c .before .before .before .before .before .before .before .values-of .ensures);
+      marks = omega (arith, inv .2, c .before .before .before .before .before .before .before .before .before .before .before .before .pre .marks);
+    }
 
 add-a : tie.Need-add-a Inv-loop μ-loop
 add-a c = search needs
@@ -73,21 +60,23 @@ loop-less c = search needs
 
 loop-again : tie.Need-loop-again Inv-loop μ-loop
 loop-again c =
-    let l = c .before .before .before .before .before .before .before .before .before .before .before .before .before .loop .inv in
-    let turn = c .before .before .before .before .before .before .offer-action in
-    (actions-next _ _ _ _ _ _ _ _ _ _ _ _ _ _ _ (l .0) _ _ _ (c .before .before .before .before .before .before .before .before .before .before .before .before .loop-test .taken) refl (turn .kept .0) (turn .kept .1 .0) (turn .ensures .0), unchanged-next _ _ _ _ _ _ _ _ _ (l .1) (turn .ensures .1), turn .kept .1 .1 .0 ∙ l .2)
+    let inv = c .before .before .before .before .before .before .before .before .before .before .before .loop .inv in
+    let turn = c .before .before .before .before .offer-action in (
+      actions-next _ _ _ _ _ _ _ _ _ _ _ (inv .0) _ _ _ (c .before .before .before .before .before .before .before .before .before .before .before .before .before .entry-at .ensures) (c .before .before .before .before .before .after-step .ensures) (c .before .before .before .before .before .before .before .before .before .before .loop-test .taken) (turn .kept .0) (λ starts costs. turn .ensures starts costs .offered),
+      unchanged-next _ _ _ _ _ _ (inv .1) (turn .ensures [] [] .unchanged),
+      turn .kept .1 .0 ∙ inv .2,
+    )
 
 same-length : tie.Need-same-length Inv-loop μ-loop
-same-length c = c .before .loop .inv .0 .minutes-same
+same-length c = c .before .loop .inv .0 .same
 
 same-length-2 : tie.Need-same-length-2 Inv-loop μ-loop
-same-length-2 c = c .before .loop .inv .0 .steps-same
-
-same-length-3 : tie.Need-same-length-3 Inv-loop μ-loop
-same-length-3 c = c .before .loop .inv .2
+same-length-2 c = c .before .loop .inv .2
 
 returns : tie.Need-returns Inv-loop μ-loop
-returns c = (actions-end _ _ _ _ _ _ _ _ _ _ _ _ _ _ _ (c .before .loop .inv .0) (c .loop-test .left), c .before .loop .inv .1)
+returns c =
+    let inv = c .before .loop .inv in
+    record { offers = actions-end _ _ _ _ _ _ _ _ _ _ _ (inv .0) (c .loop-test .left); unchanged = inv .1 }
 
 pub settle-spec : {M : Type 1} → statement M
 settle-spec =
@@ -95,22 +84,16 @@ settle-spec =
     (tie.spec
     Inv-loop
     μ-loop
-    mul-cost
-    slice-read-cost
-    mul-count
-    slice-read-count
-    add-count
+    entry-at-requires
     values-of-requires
     loop-holds
-    mul-price
-    element-copy-out-price
-    cast-price
-    add-offer-action
+    mul-after-step
+    element-copy-out-after-step
+    after-step-requires
     offer-action-requires
     add-a
     loop-less
     loop-again
     same-length
     same-length-2
-    same-length-3
     returns)

@@ -7,13 +7,13 @@ use Rattle.search.proofs.table.begin.Statement.{statement}
 use Rattle.search.proofs.table.begin.Tie as tie
 
 abbrev Inv-loop : tie.InvT-loop
-Inv-loop minutes₀ steps₀ sizes goal variables count s₀ minutes steps s = Begun sizes goal variables count minutes₀ steps₀ minutes steps s
+Inv-loop entries₀ sizes goal variables count s₀ entries s = Begun sizes goal variables count entries₀ entries s
 
 abbrev μ-loop : tie.MeasureT-loop
-μ-loop minutes₀ steps₀ sizes goal variables count s₀ minutes steps s = count - s
+μ-loop entries₀ sizes goal variables count s₀ entries s = count - s
 
 loop-holds : tie.Need-loop-holds Inv-loop μ-loop
-loop-holds c = begun-none _ _ _ _ _ _
+loop-holds c = begun-none _ _ _ _ _
 
 values-of-requires : tie.Need-values-of-requires Inv-loop μ-loop
 values-of-requires c κs = search needs
@@ -21,33 +21,31 @@ values-of-requires c κs = search needs
 all-hold-requires : tie.Need-all-hold-requires Inv-loop μ-loop
 all-hold-requires c κs = search needs
 
-store-requires : tie.Need-store-requires Inv-loop μ-loop
-store-requires c κs =
-    let s = c .before .before .before .before .before .before .before .before .before .before in
-    let inv = c .before .before .before .before .before .before .before .loop .inv in
-    let below = c .before .before .before .before .before .before .loop-test .taken in
-    (omega (arith, inv .minutes-same, s .pre .2), omega (arith, inv .steps-same, s .pre .3))
+first-requires : tie.Need-first-requires Inv-loop μ-loop
+first-requires c κs = search needs
+
+put-entry-requires : tie.Need-put-entry-requires Inv-loop μ-loop
+put-entry-requires c κs =
+    let s = c .before .before .before .before .before .before .before .before .before in
+    omega (arith, c .before .before .before .before .before .before .before .loop .inv .same, s .pre .room, c .before .before .before .before .before .before .loop-test .taken)
 
 add-s : tie.Need-add-s Inv-loop μ-loop
-add-s c = omega (arith, c .before .before .before .before .before .before .before .before .before .before .before .loop-test .taken)
+add-s c = omega (arith, c .before .before .before .before .before .before .before .before .before .loop-test .taken)
 
 loop-less : tie.Need-loop-less Inv-loop μ-loop
-loop-less c = omega (arith, c .before .before .before .before .before .before .before .before .before .before .before .loop-test .taken)
+loop-less c = omega (arith, c .before .before .before .before .before .before .before .before .before .loop-test .taken)
 
 loop-again : tie.Need-loop-again Inv-loop μ-loop
 loop-again c =
-    let stored = c .before .before .before .before .store in
-    let turn = c .before .before .before .before .before .before .before .before .before .before .before in
-    begun-next _ _ _ _ _ _ _ _ _ _ _ _ _ (turn .before .loop .inv) (turn .loop-test .taken) (stored .kept .0) (stored .kept .1 .0) (c .before .before .before .before .before .before .before .before .before .before .values-of .ensures) (c .before .before .before .before .before .all-hold .ensures) (stored .ensures)
+    let put = c .before .before .put-entry in
+    begun-next _ _ _ _ _ _ _ _ _ _ (c .before .before .before .before .before .before .before .before .before .before .loop .inv) (c .before .before .before .before .before .before .before .before .before .loop-test .taken) (put .kept .0) (c .before .before .before .before .before .before .before .before .values-of .ensures) (c .before .before .before .before .before .all-hold .ensures)
+    _ (c .before .before .before .first .ensures) (put .ensures)
 
 same-length : tie.Need-same-length Inv-loop μ-loop
-same-length c = c .before .loop .inv .minutes-same
-
-same-length-2 : tie.Need-same-length-2 Inv-loop μ-loop
-same-length-2 c = c .before .loop .inv .steps-same
+same-length c = c .before .loop .inv .same
 
 returns : tie.Need-returns Inv-loop μ-loop
-returns c = begun-all _ _ _ _ _ _ _ _ _ (c .before .loop .inv) (c .loop-test .left)
+returns c = begun-all _ _ _ _ _ _ _ (c .before .loop .inv) (c .loop-test .left)
 
 pub begin-spec : {M : Type 1} → statement M
 begin-spec =
@@ -58,10 +56,10 @@ begin-spec =
     loop-holds
     values-of-requires
     all-hold-requires
-    store-requires
+    first-requires
+    put-entry-requires
     add-s
     loop-less
     loop-again
     same-length
-    same-length-2
     returns)

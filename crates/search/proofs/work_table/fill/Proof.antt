@@ -44,11 +44,11 @@ use denote.Triple.Walked.{says, needs, Stays, stay-none, stay-slice, stay-none-s
 use denote.Exit.{yes}
 use Rattle.files.specs.Outcome.{overwrite}
 use Rattle.search.specs.declared.Entry.{Entry}
-use Rattle.search.specs.Columns.{entryIn, entriesIn}
+use Rattle.search.specs.Entries.{entryIn, entriesIn}
 use Rattle.search.specs.Table.{entry}
 use Rattle.search.proofs.Entry as T₀
 use Rattle.search.proofs.Entry.Laws as T′
-use Rattle.search.proofs.Entries.{R, vals, tells, is-entry, place-entry, place-fits, holds, fails}
+use Rattle.search.proofs.EntrySlices.{R, vals, tells, is-entry, place-entry, place-fits, holds, fails}
 use Rattle.search.proofs.TableFilling.{filled-length, filled-none, filled-next}
 use Rattle.search.proofs.Hand.{ref, see, unsee, take, put-in}
 use Rattle.search.proofs.work_table.fill.Key.{name as #search·work-table·fill}

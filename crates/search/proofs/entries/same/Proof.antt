@@ -1,8 +1,8 @@
 -- Neither is less than the other.
+use Rattle.search.proofs.EntryLaws.{less-not-same, not-less-same}
 use borrow.Author.Needs.{needs}
-use Rattle.search.proofs.EntryDistances.{less-not-same, not-less-same}
-use Rattle.search.proofs.first_plan.same.Statement.{statement}
-use Rattle.search.proofs.first_plan.same.Tie as tie
+use Rattle.search.proofs.entries.same.Statement.{statement}
+use Rattle.search.proofs.entries.same.Tie as tie
 
 less-requires : tie.Need-less-requires
 less-requires c κs = search needs

@@ -1,0 +1,106 @@
+// Entries: their order, one step more, none; and the entries of the states in a slice of numbers, two
+// a state, which is read and written here alone.
+ghost use mathlib.Core.Path.{_≡_};
+ghost use Prim.Native.Nat.{ℕ, _+_};
+ghost use lib.Dec.{eqb};
+ghost use Rattle.files.specs.Task.{Action};
+ghost use Rattle.search.specs.Entries.{noEntry, isNone, firstEntry, lessEntry, sameEntry, afterStep, StepOn, Holds, entryIn, Put};
+ghost use Rattle.search.specs.Settling.{CanLower};
+ghost use Rattle.search.specs.Rows.{Offers};
+use crate::Entry;
+
+// The entry of a state from which the goal cannot be reached.
+fn none() -> Entry
+    ensures { λ r. ⌜ r ≡ noEntry ⌝ }
+{
+    Entry {
+        minutes: 18446744073709551615,
+        steps: 65535,
+    }
+}
+
+// Whether an entry is that of none.
+pub fn is_none(entry: Entry) -> bool
+    ensures { λ r. ⌜ r ≡ isNone entry ⌝ }
+{
+    let far = none();
+    entry.minutes == far.minutes
+}
+
+// The entry of a state before any step: nothing where the goal holds, else none.
+pub fn first(reached: bool) -> Entry
+    ensures { λ r. ⌜ r ≡ firstEntry reached ⌝ }
+{
+    if reached {
+        return Entry {
+            minutes: 0,
+            steps: 0,
+        };
+    }
+    none()
+}
+
+// Whether an entry is less than another.
+pub fn less(first: Entry, second: Entry) -> bool
+    ensures { λ r. ⌜ r ≡ lessEntry first second ⌝ }
+{
+    if first.minutes < second.minutes {
+        return true;
+    }
+    if first.minutes == second.minutes {
+        return first.steps < second.steps;
+    }
+    false
+}
+
+// Whether two entries are alike.
+pub fn same(first: Entry, second: Entry) -> bool
+    ensures { λ r. ⌜ r ≡ sameEntry first second ⌝ }
+{
+    if less(first, second) {
+        return false;
+    }
+    !less(second, first)
+}
+
+// An entry with one step more in front, by an action of this cost.
+pub fn after_step(entry: Entry, cost: u32) -> Entry
+    requires { ⌜ StepOn entry cost ⌝ }
+    ensures { λ r. ⌜ ((a : Action) → a .cost ≡ cost → r ≡ afterStep a entry) ⌝ }
+{
+    Entry {
+        minutes: cost as u64 + entry.minutes,
+        steps: entry.steps + 1,
+    }
+}
+
+// The entry of a state.
+pub fn entry_at(entries: &[u64], state: usize) -> Entry
+    requires { ⌜ Holds (now entries) (state + 1) ⌝ }
+    ensures { λ r. ⌜ r ≡ entryIn (now (entries .entry)) state ⌝ }
+{
+    Entry {
+        minutes: entries[2 * state],
+        steps: (entries[2 * state + 1] % 65536) as u16,
+    }
+}
+
+// Writes the entry of a state.
+pub fn put_entry(entries: &mut [u64], state: usize, entry: Entry)
+    requires { ⌜ Holds (now entries) (state + 1) ⌝ }
+    ensures { λ r. ⌜ Put (now (entries .entry)) state entry (now (entries .exit)) ⌝ }
+{
+    entries[2 * state] = entry.minutes;
+    entries[2 * state + 1] = entry.steps as u64;
+}
+
+// Offers a state an entry; its block is marked as changed where it takes it.
+pub fn lower(entries: &mut [u64], changed: &mut [u8], state: usize, entry: Entry)
+    requires { ⌜ CanLower (now entries) (now changed) state ⌝ }
+    ensures { λ r. ⌜ ((count : ℕ) → Offers (λ s. eqb s state) count entry (now (entries .entry)) (now (changed .entry)) (now (entries .exit)) (now (changed .exit))) ⌝ }
+{
+    if less(entry, entry_at(entries, state)) {
+        put_entry(entries, state, entry);
+        changed[state / 64] = 1;
+    }
+}
