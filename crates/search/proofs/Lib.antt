@@ -12,7 +12,6 @@ pub mod TableEntries
 pub mod FoundLaws
 pub mod StageLaws
 pub mod RowNumbers
-pub mod RowSteps
 pub mod StateLoops
 pub mod OneChange
 pub mod Predecessors

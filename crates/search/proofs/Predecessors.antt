@@ -16,12 +16,11 @@ use Rattle.files.proofs.BelowLaws.{allBelow-intro, allBelow-elim}
 use Rattle.files.proofs.Logic.{clash, split, split-le, and-split, and-join}
 use Rattle.plans.specs.State.{State, allHold, applicable, apply}
 use Rattle.plans.specs.Tally.{meetsCell}
-use Rattle.plans.proofs.RowStates.{meets-none, meets-some, after-none, after-some}
+use Rattle.plans.proofs.RowStates.{meets-none, meets-some, after-none, after-some, meetsAt, hold-below, apply-row, apply-behind}
 use Rattle.files.proofs.Truth.{same-truth}
 use Rattle.search.specs.States.{stateNumber, stateAt}
 use Rattle.search.specs.Rows.{rowVariables, rowStates, rowState, canHave, canReach, differsOnly, leadsTo, Spanned}
 use Rattle.search.proofs.RowNumbers.{RowSizes, RowInside, weighted, number-sum, state-alike}
-use Rattle.search.proofs.RowSteps.{meetsAt, hold-below, apply-row, apply-behind}
 use Rattle.search.proofs.StateLoops.{after-inside}
 use Rattle.search.proofs.OneChange.{weighted-alike, state-inside, state-behind, number-weights, weights-state}
 

@@ -13,12 +13,11 @@ use Rattle.files.proofs.Filling.{filled-before, filled-after}
 use Rattle.files.proofs.Logic.{split-le}
 use Rattle.plans.specs.State.{State, apply}
 use Rattle.plans.specs.Tally.{listState}
-use Rattle.plans.proofs.RowStates.{after-none, after-some}
+use Rattle.plans.proofs.RowStates.{after-none, after-some, afterRow, apply-row}
 use Rattle.search.specs.States.{stateNumber, stateAt}
 use Rattle.search.specs.Rows.{rowVariables, rowStates, rowWeight, Counted}
 use Rattle.search.proofs.Radix.{state-past}
 use Rattle.search.proofs.RowNumbers.{RowSizes, RowInside, numberFrom, row-number, number-alike, number-from-below, states-weight, weight-most, count-from-most, row-length, state-alike}
-use Rattle.search.proofs.RowSteps.{afterRow, apply-row}
 
 -- a product that fits
 pub product-most : (a b : ℕ) → a ≤ 4096 → b < 256 → a * b ≤ 1048576

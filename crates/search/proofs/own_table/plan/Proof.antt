@@ -25,7 +25,7 @@ same-length-5 : tie.Need-same-length-5
 same-length-5 c = search needs
 
 returns : tie.Need-returns
-returns c table len = (_, c .before .before .before .before .before .plan-columns .ensures .plans table len)
+returns c table len = (_, c .before .before .before .before .before .before .before .before .before .before .before .before .plan-columns .ensures .plans table len)
 
 pub plan-spec : {M : Type 1} → statement M
 plan-spec =

@@ -1,11 +1,11 @@
--- The loop's invariant: the conditions of the entries that are left hold exactly where all do.
+-- The loop's invariant: the conditions of the cells that are left hold exactly where all do.
 use Prim.Native.Nat.{_+_}
 use mathlib.Core.Path.{_≡_}
 use native.Mathlib.Omega.{arith}
 use Rattle.files.specs.Dense.{rowPairs}
 use Rattle.plans.specs.State.{allHold}
 use Rattle.plans.specs.Tally.{listState}
-use Rattle.search.proofs.RowSteps.{hold-next, hold-stop, hold-none}
+use Rattle.plans.proofs.RowStates.{row-next, row-stop, row-none}
 use borrow.Author.Tests.{not-true, not-false}
 use denote.Ref.{now}
 use borrow.Author.Needs.{needs}
@@ -39,7 +39,7 @@ unfolding listState
 returns c =
     let l = c .before .before .before .before .before .loop in
     let start = c .before .before .before .before .before .before .before in
-    hold-stop (now (start .args .row)) _ (listState (now (start .args .values))) _ _ _ _ (l .inv .0) (c .before .before .before .before .loop-test .taken) (c .before .meets .ensures) (not-true _ (c .if1 .taken))
+    row-stop (now (start .args .row)) _ (listState (now (start .args .values))) _ _ _ _ (l .inv .0) (c .before .before .before .before .loop-test .taken) (c .before .meets .ensures) (not-true _ (c .if1 .taken))
 
 add-v : tie.Need-add-v Inv-loop μ-loop
 add-v c = search needs
@@ -55,11 +55,11 @@ unfolding listState
 loop-again c =
     let l = c .before .before .before .before .before .loop in
     let start = c .before .before .before .before .before .before .before in
-    let next = hold-next (now (start .args .row)) (start .args .base) (listState (now (start .args .values))) (l .v) (l .left) _ _ (l .inv .0) (c .before .before .before .before .loop-test .taken) (c .before .meets .ensures) (not-false _ (c .if1 .left)) in
+    let next = row-next (now (start .args .row)) (start .args .base) (listState (now (start .args .values))) (l .v) (l .left) _ _ (l .inv .0) (c .before .before .before .before .loop-test .taken) (c .before .meets .ensures) (not-false _ (c .if1 .left)) in
     (next, omega arith)
 
 returns-2 : tie.Need-returns-2 Inv-loop μ-loop
-returns-2 c = search hold-none
+returns-2 c = search row-none
 
 pub all-hold-spec : {M : Type 1} → statement M
 all-hold-spec =

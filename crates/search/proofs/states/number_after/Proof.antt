@@ -5,7 +5,7 @@ use native.Mathlib.Omega.{arith}
 use native.Mathlib.Nat.{mul-comm}
 use Rattle.plans.specs.Tally.{listState}
 use Rattle.search.proofs.RowNumbers.{numberFrom}
-use Rattle.search.proofs.RowSteps.{afterRow}
+use Rattle.plans.proofs.RowStates.{afterRow}
 use Rattle.search.proofs.StateLoops.{product-most, number-begin, number-next, number-few, number-last-below, number-end, after-inside, after-number}
 use denote.Ref.{now}
 use borrow.Author.Needs.{needs}
