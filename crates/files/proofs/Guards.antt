@@ -74,6 +74,10 @@ both-done a b e = go (isDone a) refl e
     go true q z = (done-number a q, z)
     go false q z = absurd (let d = is-done a z in let x : _≡_ {A = ℕ} 0 1 = cc in omega arith)
 
+-- a refusal has a number
+pub refusal-number : (o : Outcome) (n place : ℕ) → 0 < n → o ≡ refusal n place → o .number ≡ 0 → ⊥
+refusal-number o n place h e z = omega (arith, ap (λ (x : Outcome). x .number) e)
+
 -- a buffer after a stage
 pub after-done : {A : Type 0} (o : Outcome) (new old : List A) → o .number ≡ 0 → after o new old ≡ overwrite old new
 unfolding after

@@ -11,6 +11,7 @@ pub mod Distinct
 pub mod Tabulate
 pub mod Filling
 pub mod Countdown
+pub mod LoopCounts
 -- outcomes: which way a test goes, rows of stages, and outcomes that are listed
 pub mod Guards
 pub mod Done
@@ -51,4 +52,5 @@ pub mod TaskRoundTrip
 pub mod OriginRoundTrip
 pub mod PlanRoundTrip
 pub mod KindsRight
+pub mod HeldTask
 pub mod HeldLaws

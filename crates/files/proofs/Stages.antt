@@ -1,14 +1,14 @@
 -- Laws of rows of stages: which way a stage goes, a row in two parts, a buffer after a stage, and an answer by its row.
-use Prim.Native.Nat.{ℕ, _≤_}
+use Prim.Native.Nat.{ℕ, _≤_, _<_}
 use mathlib.Core.Path.{_≡_, refl, sym, ap, ap₂, _∙_}
 use mathlib.Core.Bool.{true, false, cond}
 use mathlib.Core.List.{List, [], _∷_, _++_, map}
 use lib.Dec.{leb}
 use borrow.Author.Tests.{le-leb}
 use Rattle.files.specs.declared.Outcome.{Outcome}
-use Rattle.files.specs.Outcome.{done, isDone, andThen, fits, overwrite, after}
+use Rattle.files.specs.Outcome.{done, refusal, isDone, andThen, fits, overwrite, after}
 use Rattle.files.specs.Stages.{Stage, stage, beside, outcomeOf, leftBy, ByStages}
-use Rattle.files.proofs.Guards.{guard-passes, is-done}
+use Rattle.files.proofs.Guards.{goes-le, stops-le, guard-passes, is-done}
 use Rattle.files.proofs.Logic.{split, clash}
 
 pub is-yes : (o : Outcome) → o ≡ done → isDone o ≡ true
@@ -18,6 +18,24 @@ is-yes o q = is-done o (ap (λ (x : Outcome). x .number) q)
 pub fits-in : (needed room : ℕ) (rest : Outcome) → needed ≤ room → fits needed room rest ≡ rest
 unfolding fits
 fits-in needed room rest h = sym (guard-passes (leb needed room) 21 needed rest rest (le-leb needed room h) refl)
+
+-- room for two results, the first before the second
+module _ (needed other room rest first second : ℕ) (a : first ≡ needed) (b : second ≡ other) where
+  pub first-short : (o : Outcome) → room < first → o ≡ refusal 21 first → o ≡ fits needed room (fits other rest done)
+  unfolding fits
+  first-short o h e = stops-le needed room 21 needed _ o first room a refl h (e ∙ ap (refusal 21) a)
+
+  pub second-short : (o : Outcome) → first ≤ room → rest < second → o ≡ refusal 21 second → o ≡ fits needed room (fits other rest done)
+  unfolding fits
+  second-short o h k e =
+      goes-le needed room 21 needed _ o first room a refl h
+      (stops-le other rest 21 other _ o second rest b refl k (e ∙ ap (refusal 21) b))
+
+  pub both-fit : (o : Outcome) → first ≤ room → second ≤ rest → o ≡ done → o ≡ fits needed room (fits other rest done)
+  unfolding fits
+  both-fit o h k e =
+      goes-le needed room 21 needed _ o first room a refl h
+      (goes-le other rest 21 other _ o second rest b refl k e)
 
 pub both-yes : (a b : Outcome) → isDone a ≡ true → andThen a b ≡ b
 unfolding andThen

@@ -2,6 +2,7 @@
 use mathlib.Core.Bool.{Bool, true, false, cond, _&&_, _||_}
 use mathlib.Core.List.{List, [], _∷_, _++_}
 use Prim.Native.Nat.{ℕ, zero, suc, _+_}
+use lib.ListN.{getD}
 
 -- f at each of n numbers from i on
 abbrev pub tabulateFrom : {A : Type 0} → ℕ → ℕ → (ℕ → A) → List A
@@ -34,6 +35,10 @@ countBelow (suc n) f = bit (f n) + countBelow n f
 abbrev pub sumBelow : ℕ → (ℕ → ℕ) → ℕ
 sumBelow zero f = 0
 sumBelow (suc n) f = f n + sumBelow n f
+
+-- the sum of the first `count` numbers
+unfoldable pub sumOf : List ℕ → ℕ → ℕ
+sumOf numbers count = sumBelow count (λ i. getD numbers i 0)
 
 -- the numbers below n that pass, rising
 abbrev pub chosenBelow : ℕ → (ℕ → Bool) → List ℕ

@@ -17,10 +17,9 @@ pub mod MarkingClosed
 pub mod RowTests
 pub mod SetWhere
 pub mod Places
-pub mod LoopCounts
 pub mod CoverSearch
 pub mod ResultLaws
-pub mod HeldTask
+pub mod HeldMarks
 pub mod Progress
 pub mod RoundLinks
 pub mod RoundActions

@@ -5,49 +5,25 @@ use mathlib.Core.Bool.{false}
 use mathlib.Core.List.{List, map, _++_}
 use native.Mathlib.Omega.{arith}
 use lib.ListN.{length, getD, length-map}
-use Rattle.files.specs.declared.Outcome.{Outcome}
-use Rattle.files.specs.Below.{tabulate, bit, joinBelow, sumBelow}
+use Rattle.files.specs.Below.{tabulate, bit, joinBelow, sumBelow, sumOf}
 use Rattle.files.specs.Bytes.{placed}
-use Rattle.files.specs.Dense.{Arrays, held, arrays}
-use Rattle.files.specs.Outcome.{done, refusal, fits, overwrite}
-use Rattle.files.specs.Task.{Task, variableCount, actionCount, factCount, sizeOf}
+use Rattle.files.specs.Dense.{Arrays, held}
+use Rattle.files.specs.Outcome.{overwrite}
+use Rattle.files.specs.Task.{variableCount, actionCount, factCount, sizeOf}
 use Rattle.files.proofs.BelowLaws.{map-entry}
-use Rattle.files.proofs.Guards.{goes-le, stops-le}
 use Rattle.files.proofs.Placed.{placed-overwrite}
 use Rattle.files.proofs.Tabulate.{tabulateFrom-length, tabulate-is}
 use Rattle.files.proofs.Valid.{Valid}
 use Rattle.marking.specs.Marks.{Marks}
 use Rattle.marking.specs.Rounds.{nextActions, marking}
 use Rattle.marking.specs.Mark.{actionMarksOf, factMark, factMarksOf}
-use Rattle.marking.specs.Dense.{sumOf, factByte, factBytes, Final}
-use Rattle.marking.proofs.HeldTask.{variables-held, actions-held, size-held}
+use Rattle.marking.specs.Dense.{factByte, factBytes, Final}
+use Rattle.files.proofs.HeldTask.{variables-held, actions-held, size-held}
 use Rattle.marking.proofs.MarkTables.{tabulate-same}
 use Rattle.marking.proofs.ResultLaws.{joined-length}
 use Rattle.marking.proofs.RoundBound.{marking-fixed}
 use Rattle.marking.proofs.RoundCount.{sum-alike}
 use Rattle.marking.proofs.RoundLaws.{round-actions}
-
--- a refusal has a number
-pub refusal-number : (o : Outcome) (n place : ℕ) → 0 < n → o ≡ refusal n place → o .number ≡ 0 → ⊥
-refusal-number o n place h e z = omega (arith, ap (λ (x : Outcome). x .number) e)
-
--- room for two results, the first before the second
-module _ (needed other room rest first second : ℕ) (a : first ≡ needed) (b : second ≡ other) where
-  pub first-short : (o : Outcome) → room < first → o ≡ refusal 21 first → o ≡ fits needed room (fits other rest done)
-  unfolding fits
-  first-short o h e = stops-le needed room 21 needed _ o first room a refl h (e ∙ ap (refusal 21) a)
-
-  pub second-short : (o : Outcome) → first ≤ room → rest < second → o ≡ refusal 21 second → o ≡ fits needed room (fits other rest done)
-  unfolding fits
-  second-short o h k e =
-      goes-le needed room 21 needed _ o first room a refl h
-      (stops-le other rest 21 other _ o second rest b refl k (e ∙ ap (refusal 21) b))
-
-  pub both-fit : (o : Outcome) → first ≤ room → second ≤ rest → o ≡ done → o ≡ fits needed room (fits other rest done)
-  unfolding fits
-  both-fit o h k e =
-      goes-le needed room 21 needed _ o first room a refl h
-      (goes-le other rest 21 other _ o second rest b refl k e)
 
 -- the bytes that are written
 joined-same : (n : ℕ) (f g : ℕ → List ℕ) → ((v : ℕ) → v < n → f v ≡ g v) → joinBelow n f ≡ joinBelow n g
@@ -105,7 +81,3 @@ module _ (d : Arrays) (ok : Valid (held d)) (level : ℕ) where
 
     pub facts-written : factCount (held d) ≤ length old → (bytes : List ℕ) → bytes ≡ factMarksOf (held d) level → new ≡ placed old 0 bytes → new ≡ overwrite old (factMarksOf (held d) level)
     facts-written h bytes b e = e ∙ ap (placed old 0) b ∙ placed-overwrite old (factMarksOf (held d) level) (omega (arith, fact-marks-long))
-
--- the task that arrays hold, by counts that are read again
-pub held-by : (v w n k : ℕ) (sizes starts goal costs conditions effects : List ℕ) (t : Task) → v ≡ w → n ≡ k → held (arrays w k sizes starts goal costs conditions effects) ≡ t → held (arrays v n sizes starts goal costs conditions effects) ≡ t
-held-by v w n k sizes starts goal costs conditions effects t a b e = ap₂ (λ (x y : ℕ). held (arrays x y sizes starts goal costs conditions effects)) a b ∙ e

@@ -11,7 +11,8 @@ use Rattle.files.specs.Task.{actionOf, sizeOf}
 use Rattle.marking.specs.Marks.{names}
 use Rattle.marking.specs.Links.{threatened, unlinked}
 use Rattle.marking.specs.Dense.{isMarked}
-use Rattle.marking.proofs.HeldTask.{heldMarks, effectAt}
+use Rattle.marking.proofs.HeldMarks.{heldMarks}
+use Rattle.files.proofs.HeldTask.{effectAt}
 
 -- actions and facts are the marks; of the actions in `noted` the threats are marked, of those in `named` the conditions are
 -- among the facts, and of the facts in `before` the actions that achieve them are kept

@@ -5,12 +5,12 @@ use mathlib.Core.List.{List, [], _∷_}
 use native.Mathlib.Omega.{arith}
 use native.Mathlib.Numerals.{add-one}
 use lib.ListN.{length, getD, set, length-append}
-use Rattle.files.specs.Below.{tabulateFrom, joinBelow, sumBelow}
+use Rattle.files.specs.Below.{tabulateFrom, joinBelow, sumBelow, sumOf}
 use Rattle.files.specs.Bytes.{placed}
 use Rattle.files.proofs.Placed.{placed-then}
 use Rattle.files.proofs.Tabulate.{tabulateFrom-length}
 use Rattle.files.proofs.Writing.{placed-none, placed-next}
-use Rattle.marking.specs.Dense.{sumOf, factByte, factBytes}
+use Rattle.marking.specs.Dense.{factByte, factBytes}
 
 -- a loop that writes a byte a turn
 module _ (f : ℕ → ℕ) (b : List ℕ) (at i left : ℕ) where

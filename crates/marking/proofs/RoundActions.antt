@@ -18,7 +18,8 @@ use Rattle.plans.specs.State.{hasFact}
 use Rattle.marking.specs.Marks.{Marks, kept, relevant}
 use Rattle.marking.specs.Links.{linked, unlinked, hasRelevant, gainsAction}
 use Rattle.marking.specs.Dense.{SetWhere, isMarked, differ, sets, achieves}
-use Rattle.marking.proofs.HeldTask.{heldMarks, actions-held, effectAt, effects-held, effect-valid, kept-held, relevant-held, relevant-inside}
+use Rattle.marking.proofs.HeldMarks.{heldMarks, kept-held, relevant-held, relevant-inside}
+use Rattle.files.proofs.HeldTask.{actions-held, effectAt, effects-held, effect-valid}
 use Rattle.marking.proofs.LinkLaws.{unlinked-intro, gainsAction-intro}
 use Rattle.marking.proofs.Progress.{Progress}
 use Rattle.marking.proofs.RoundLinks.{differ-new, new-differs}

@@ -6,14 +6,15 @@ use mathlib.Core.List.{List}
 use native.Mathlib.Omega.{arith}
 use lib.Dec.{eqb}
 use lib.ListN.{length, getD}
-use Rattle.files.specs.Below.{bit, sumBelow}
+use Rattle.files.specs.Below.{bit, sumBelow, sumOf}
 use Rattle.files.specs.Dense.{Arrays, held}
 use Rattle.files.specs.Task.{sizeOf}
 use Rattle.files.proofs.Valid.{Valid}
 use Rattle.marking.specs.Marks.{Marks, kept, relevant}
-use Rattle.marking.specs.Dense.{SetWhere, isMarked, sumOf}
+use Rattle.marking.specs.Dense.{SetWhere, isMarked}
 use Rattle.files.proofs.CountOrder.{sum-order, sum-same}
-use Rattle.marking.proofs.HeldTask.{heldMarks, actions-held, factAt, marks-held, kept-held, relevant-held}
+use Rattle.marking.proofs.HeldMarks.{heldMarks, factAt, marks-held, kept-held, relevant-held}
+use Rattle.files.proofs.HeldTask.{actions-held}
 use Rattle.marking.proofs.MarkTables.{marksOf-same}
 use Rattle.marking.proofs.Progress.{Progress}
 use Rattle.files.proofs.Truth.{same-truth, marked-bit}

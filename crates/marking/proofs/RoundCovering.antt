@@ -18,7 +18,7 @@ use Rattle.marking.specs.Links.{tracked}
 use Rattle.marking.specs.Covering.{sameEffect, couldCover, covers, covered}
 use Rattle.marking.specs.Rounds.{marked, nextActions, trackedMarks, countedActions}
 use Rattle.marking.specs.Dense.{isMarked, askedBy, unlike, coversAt, coveredAt, countedAt}
-use Rattle.marking.proofs.HeldTask.{variables-held, actions-held, cost-held, conditions-held, effectAt, effects-held}
+use Rattle.files.proofs.HeldTask.{variables-held, actions-held, cost-held, conditions-held, effectAt, effects-held}
 use Rattle.marking.proofs.CoverRows.{could-same}
 use Rattle.marking.proofs.RoundLaws.{trackedMarks-at}
 use Rattle.files.proofs.Truth.{any-same, all-any, count-none, bit-marked}

@@ -18,7 +18,8 @@ use Rattle.plans.specs.State.{hasFact}
 use Rattle.marking.specs.Marks.{Marks, relevant, names}
 use Rattle.marking.specs.Rounds.{marked, gainsFact}
 use Rattle.marking.specs.Dense.{SetWhere, isMarked, differ, namesAt, rowNames, namesAnew}
-use Rattle.marking.proofs.HeldTask.{heldMarks, variables-held, actions-held, size-held, conditions-held, condition-valid, relevant-held}
+use Rattle.marking.proofs.HeldMarks.{heldMarks, relevant-held}
+use Rattle.files.proofs.HeldTask.{variables-held, actions-held, size-held, conditions-held, condition-valid}
 use Rattle.marking.proofs.Progress.{Progress}
 use Rattle.marking.proofs.RoundLinks.{differ-new, new-differs}
 use Rattle.marking.proofs.RowTests.{row-fact, row-mentions}

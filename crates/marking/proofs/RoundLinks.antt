@@ -17,7 +17,8 @@ use Rattle.files.proofs.Valid.{Valid}
 use Rattle.marking.specs.Marks.{Marks, kept, relevant}
 use Rattle.marking.specs.Links.{threatened, linked, unlinked, tracked}
 use Rattle.marking.specs.Dense.{SetWhere, isMarked, differ, otherThan, threatens, threatensAnew, linkedCell, unlinkedAt, trackedAt}
-use Rattle.marking.proofs.HeldTask.{heldMarks, variables-held, start-held, effectAt, threatened-held, kept-held, relevant-held, relevant-inside}
+use Rattle.marking.proofs.HeldMarks.{heldMarks, threatened-held, kept-held, relevant-held, relevant-inside}
+use Rattle.files.proofs.HeldTask.{variables-held, start-held, effectAt}
 use Rattle.marking.proofs.Progress.{Progress}
 use Rattle.files.proofs.Truth.{same-truth, any-same, any-bound, bit-marked, bit-empty, marked-bit, cond-bit}
 

@@ -19,7 +19,8 @@ use Rattle.marking.specs.Links.{setsOther, threatened, linked, unlinked,
 use Rattle.marking.specs.Rounds.{marked, nextActions, trackedMarks, countedActions, gainsFact, nextMarks}
 use Rattle.marking.specs.Covering.{couldCover}
 use Rattle.marking.specs.Dense.{SetWhere, isMarked, threatensAnew, unlinkedAt, achieves, trackedAt, askedBy, coveredAt, countedAt, namesAnew}
-use Rattle.marking.proofs.HeldTask.{heldMarks, variables-held, actions-held, effectAt, effect-valid, factAt, marks-held, kept-held, relevant-held}
+use Rattle.marking.proofs.HeldMarks.{heldMarks, factAt, marks-held, kept-held, relevant-held}
+use Rattle.files.proofs.HeldTask.{variables-held, actions-held, effectAt, effect-valid}
 use Rattle.marking.proofs.MarkCount.{Among}
 use Rattle.marking.proofs.MarkTables.{marksOf-same}
 use Rattle.marking.proofs.Progress.{Progress}

@@ -7,7 +7,7 @@ use mathlib.Core.List.{List}
 use native.Mathlib.Omega.{arith}
 use lib.Dec.{eqb}
 use lib.ListN.{getD, replicate, length-replicate}
-use Rattle.files.specs.Below.{bit, sumBelow, anyBelow}
+use Rattle.files.specs.Below.{bit, sumBelow, anyBelow, sumOf}
 use Rattle.files.specs.Dense.{Arrays, held}
 use Rattle.files.specs.Task.{Task, actionCount, variableCount, factCount, sizeOf}
 use Rattle.files.proofs.BelowLaws.{bit-most}
@@ -19,8 +19,9 @@ use Rattle.marking.specs.Marks.{Marks, kept, relevant, names, firstMarks
 use Rattle.marking.specs.Links.{threatened, linked, unlinked}
 use Rattle.marking.specs.Rounds.{nextMarks, Marking, markFrom, marking}
 use Rattle.marking.specs.Mark.{factMark}
-use Rattle.marking.specs.Dense.{SetWhere, isMarked, otherThan, rowNames, sumOf, factByte, Final}
-use Rattle.marking.proofs.HeldTask.{heldMarks, variables-held, actions-held, goal-held, goal-valid, factAt, marks-held, kept-held, relevant-held, held-shaped, effectAt, threatened-held}
+use Rattle.marking.specs.Dense.{SetWhere, isMarked, otherThan, rowNames, factByte, Final}
+use Rattle.marking.proofs.HeldMarks.{heldMarks, factAt, marks-held, kept-held, relevant-held, held-shaped, threatened-held}
+use Rattle.files.proofs.HeldTask.{variables-held, actions-held, goal-held, goal-valid, effectAt}
 use Rattle.files.proofs.CountOrder.{sum-order}
 use Rattle.marking.proofs.MarkCount.{markCount, markCount-most}
 use Rattle.marking.proofs.MarkTables.{marksOf-same}

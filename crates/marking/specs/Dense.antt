@@ -5,7 +5,7 @@ use mathlib.Core.Bool.{Bool, not, cond, _&&_, _||_}
 use mathlib.Core.List.{List, []}
 use lib.Dec.{eqb, leb, ltb}
 use lib.ListN.{length, getD}
-use Rattle.files.specs.Below.{tabulate, anyBelow, bit, countBelow, sumBelow}
+use Rattle.files.specs.Below.{tabulate, anyBelow, bit, countBelow}
 use Rattle.files.specs.Dense.{rowPairs}
 use Rattle.files.specs.Task.{Action, Task, action, variableCount, actionCount, sizeOf}
 use Rattle.marking.specs.Marks.{kept}
@@ -97,10 +97,6 @@ rowNames whole row base sizes count i = anyBelow count (λ v. namesAt whole v (g
 -- the facts that actions name which are counted and were not before, of the first `count`
 unfoldable pub namesAnew : Bool → List ℕ → List ℕ → ℕ → List ℕ → List ℕ → ℕ → ℕ → Bool
 namesAnew whole conditions sizes variables counted countedBefore count i = anyBelow count (λ a. differ counted countedBefore a && rowNames whole conditions (64 * a) sizes variables i)
-
--- the sum of the first `count` numbers
-unfoldable pub sumOf : List ℕ → ℕ → ℕ
-sumOf numbers count = sumBelow count (λ i. getD numbers i 0)
 
 -- a fact's byte, from its two cells
 unfoldable pub factByte : ℕ → ℕ → ℕ

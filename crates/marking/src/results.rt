@@ -2,11 +2,11 @@
 ghost use mathlib.Core.Path.{_≡_};
 ghost use Prim.Native.Nat.{_+_, _*_, _≤_};
 ghost use lib.ListN.{getD};
-ghost use Rattle.files.specs.Below.{tabulate, joinBelow};
+ghost use Rattle.files.specs.Below.{tabulate, joinBelow, sumOf};
 ghost use Rattle.files.specs.Bytes.{placed};
 ghost use Rattle.files.specs.Contracts.{IsAtMost, Writable};
 ghost use Rattle.marking.specs.Contracts.{Summable, ValuesWithin, SizesWithin};
-ghost use Rattle.marking.specs.Dense.{sumOf, factByte, factBytes};
+ghost use Rattle.marking.specs.Dense.{factByte, factBytes};
 use files::limits;
 
 // The sum of the first `count` bytes.

@@ -10,8 +10,8 @@ use lib.Seq.{drop-cons}
 use Rattle.files.specs.declared.Outcome.{Outcome}
 use Rattle.files.specs.Outcome.{done, refusal, isDone, guard}
 use Rattle.files.specs.Below.{tabulate}
-use Rattle.files.specs.Task.{Pair, Variable, Action, Task, variable, action, actionOf}
-use Rattle.files.specs.Dense.{Arrays, rowVariable, rowAction, held}
+use Rattle.files.specs.Task.{Pair, Variable, Action, Task, variable, actionOf}
+use Rattle.files.specs.Dense.{Arrays, rowVariable, held}
 use Rattle.files.proofs.Guards.{guard-passes, guard-refuses, is-done, is-refused}
 use Rattle.files.proofs.Logic.{split-le}
 use Rattle.files.proofs.Tabulate.{tabulate-entry, tabulateFrom-length}
@@ -23,11 +23,7 @@ use Rattle.plans.specs.Tally.{listState, stateOf, totalIn, endAnswer}
 use Rattle.plans.specs.declared.Checked.{Checked}
 use Rattle.plans.specs.declared.tally.Tally.{Tally}
 
--- the task that arrays hold, by its cells
-pub held-action : (d : Arrays) (a : ℕ) → a < d .actions → actionOf (held d) a ≡ rowAction (d .variables) (d .costs) (d .conditions) (d .effects) a
-unfolding held
-held-action d a h = tabulate-entry (rowAction (d .variables) (d .costs) (d .conditions) (d .effects)) (d .actions) a (action 0 [] []) h
-
+-- the start state of the task that arrays hold, by its cells
 pub held-start : (d : Arrays) (values : List ℕ)
     → ((v : ℕ) → v < d .variables → getD values v 0 ≡ getD (d .starts) v 0)
     → ((v : ℕ) → d .variables ≤ v → getD values v 0 ≡ 0)

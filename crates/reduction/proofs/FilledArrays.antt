@@ -12,7 +12,7 @@ use Rattle.files.specs.Task.{sizeOf}
 use Rattle.files.proofs.Valid.{Valid}
 use Rattle.marking.specs.Links.{threatened}
 use Rattle.marking.specs.Dense.{isMarked}
-use Rattle.marking.proofs.HeldTask.{variables-held, size-held}
+use Rattle.files.proofs.HeldTask.{variables-held, size-held}
 use Rattle.files.proofs.Truth.{bit-marked}
 use Rattle.reduction.specs.Dense.{namedAt, changedAt, namedValue, keepsAt, newValueAt, newSizeAt, mappedCell}
 use Rattle.reduction.specs.Named.{named, keptVariable}

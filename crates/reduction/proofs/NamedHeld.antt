@@ -19,7 +19,8 @@ use Rattle.plans.specs.State.{hasFact}
 use Rattle.plans.proofs.FactLaws.{fact-valid}
 use Rattle.marking.specs.Links.{threatened}
 use Rattle.marking.specs.Dense.{isMarked, differ, otherThan, threatens, threatensAnew, rowNames, namesAnew}
-use Rattle.marking.proofs.HeldTask.{actions-held, size-held, start-held, goal-held, conditions-held, effectAt, threatened-held, condition-valid, goal-valid}
+use Rattle.files.proofs.HeldTask.{actions-held, size-held, start-held, goal-held, conditions-held, effectAt, condition-valid, goal-valid}
+use Rattle.marking.proofs.HeldMarks.{threatened-held}
 use Rattle.marking.proofs.RoundFacts.{named-inside, names-held}
 use Rattle.files.proofs.Truth.{same-truth, any-same, any-bound, all-any, count-none, bit-marked, bit-empty, marked-bit}
 use Rattle.reduction.specs.Dense.{unmarked, namedAt, changedAt, namedValue, namedIn, otherNamed, keepsAt, newValueAt, newSizeAt}

@@ -21,7 +21,7 @@ use Rattle.files.proofs.Valid.{Valid}
 use Rattle.marking.specs.declared.Marked.{Marked}
 use Rattle.marking.specs.Rounds.{marking}
 use Rattle.marking.specs.Mark.{validLevel, marksFit, actionMarksOf, markBuffers, markedBuffers, markWhole, MarksTask}
-use Rattle.marking.proofs.HeldTask.{actions-held}
+use Rattle.files.proofs.HeldTask.{actions-held}
 use Rattle.marking.proofs.MarkLaws.{actions-long, action-marks-long}
 use Rattle.marking.proofs.MarkRow.{marks-outcome, marks-untouched, marks-whole, marks-left}
 use Rattle.reduction.specs.declared.Reduced.{Reduced}

@@ -17,7 +17,7 @@ use Rattle.files.proofs.RowLaws.{rowPairs-none, rowPairs-skip, rowPairs-next}
 use Rattle.files.proofs.Tabulate.{tabulateFrom-length, tabulate-entry, tabulate-is}
 use Rattle.files.proofs.Valid.{Valid}
 use Rattle.files.proofs.CountOrder.{count-most}
-use Rattle.marking.proofs.HeldTask.{variables-held, actions-held, size-held, start-held, goal-held, cost-held, conditions-held, effects-held, effect-valid, condition-valid, goal-valid}
+use Rattle.files.proofs.HeldTask.{variables-held, actions-held, size-held, start-held, goal-held, cost-held, conditions-held, effects-held, effect-valid, condition-valid, goal-valid}
 use Rattle.reduction.specs.Dense.{mappedCell}
 use Rattle.reduction.specs.Named.{named, keptVariable}
 use Rattle.reduction.specs.Renumber.{newVariable, namedCount, newValue, newSize}

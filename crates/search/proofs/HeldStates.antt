@@ -12,8 +12,7 @@ use Rattle.files.specs.Dense.{Arrays, rowAction, held}
 use Rattle.files.proofs.Valid.{Valid, task-valid}
 use Rattle.plans.specs.State.{State, startState}
 use Rattle.plans.specs.Tally.{listState}
-use Rattle.plans.proofs.WalkLaws.{held-action}
-use Rattle.marking.proofs.HeldTask.{variables-held, actions-held, size-held, start-held, cost-held, condition-valid, effect-valid}
+use Rattle.files.proofs.HeldTask.{held-action, variables-held, actions-held, size-held, start-held, cost-held, condition-valid, effect-valid}
 use Rattle.search.specs.States.{stateCount, stateNumber}
 use Rattle.search.specs.FirstPlan.{startNumber}
 use Rattle.search.specs.Rows.{rowVariables, rowStates, Searchable}

@@ -18,7 +18,7 @@ use Rattle.files.proofs.Lengths.{number-bytes-length, number-record-length, pla
 use Rattle.files.proofs.Placed.{placed-length, placed-overwrite}
 use Rattle.files.proofs.Valid.{Valid}
 use Rattle.files.proofs.Writing.{placed-u16-then, placed-record, placed-signed}
-use Rattle.marking.proofs.HeldTask.{actions-held, goal-held}
+use Rattle.files.proofs.HeldTask.{actions-held, goal-held}
 use Rattle.plans.specs.Plan.{Total, noSteps}
 use Rattle.plans.specs.State.{State, allHold}
 use Rattle.plans.specs.Tally.{listState}

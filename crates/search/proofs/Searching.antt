@@ -18,7 +18,7 @@ use Rattle.files.proofs.BelowLaws.{map-entry}
 use Rattle.files.proofs.Logic.{clash, split}
 use Rattle.files.proofs.Tabulate.{tabulate-is}
 use Rattle.plans.specs.State.{allHold}
-use Rattle.marking.proofs.HeldTask.{actions-held, goal-held}
+use Rattle.files.proofs.HeldTask.{actions-held, goal-held}
 use Rattle.search.specs.States.{stateCount, stateAt}
 use Rattle.search.specs.Table.{Distance, distances, entryOf, tableOf}
 use Rattle.search.specs.Entries.{noEntry, isNone, firstEntry, afterStep, Low, Holds, entryIn, entriesIn}

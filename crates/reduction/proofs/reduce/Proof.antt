@@ -8,7 +8,8 @@ use Rattle.files.specs.Accepted.{acceptedTask}
 use Rattle.files.specs.Bytes.{Octets}
 use Rattle.files.specs.TaskFile.{checkTask}
 use Rattle.files.proofs.TaskChecked.{task-accepted}
-use Rattle.marking.proofs.MarkLaws.{refusal-number, held-by}
+use Rattle.files.proofs.Guards.{refusal-number}
+use Rattle.files.proofs.HeldTask.{held-by}
 use Rattle.reduction.proofs.ReduceStages.{input-refused, refused-file, refused-level, refused-signer, of-task}
 use borrow.Author.Needs.{needs}
 use Rattle.reduction.proofs.reduce.Statement.{statement}

@@ -9,7 +9,7 @@ use borrow.Author.Needs.{needs}
 use Rattle.files.specs.Below.{bit}
 use Rattle.marking.specs.Covering.{couldCover}
 use Rattle.marking.specs.Dense.{askedBy}
-use Rattle.marking.proofs.LoopCounts.{row-next}
+use Rattle.files.proofs.LoopCounts.{row-next}
 use Rattle.marking.proofs.covering.fill_row.Statement.{statement}
 use Rattle.marking.proofs.covering.fill_row.Tie as tie
 

@@ -3,7 +3,7 @@ use mathlib.Core.Path.{refl}
 use borrow.Author.Tests.{eq-eqb, ne-eqb}
 use borrow.Author.Needs.{needs}
 use Rattle.marking.specs.Dense.{countedAt}
-use Rattle.marking.proofs.LoopCounts.{leb-ltb}
+use Rattle.files.proofs.LoopCounts.{leb-ltb}
 use Rattle.marking.proofs.covering.is_counted.Statement.{statement}
 use Rattle.marking.proofs.covering.is_counted.Tie as tie
 

@@ -9,7 +9,7 @@ use borrow.Author.Needs.{needs}
 use Rattle.files.proofs.BelowLaws.{bit-most}
 use Rattle.marking.specs.Dense.{otherThan, missing}
 use Rattle.marking.proofs.SetWhere.{at-end}
-use Rattle.marking.proofs.LoopCounts.{count-next}
+use Rattle.files.proofs.LoopCounts.{count-next}
 use Rattle.marking.proofs.covering.missing.Statement.{statement}
 use Rattle.marking.proofs.covering.missing.Tie as tie
 

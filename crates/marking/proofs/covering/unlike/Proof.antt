@@ -10,7 +10,7 @@ use borrow.Author.Needs.{needs}
 use Rattle.files.proofs.BelowLaws.{bit-most}
 use Rattle.marking.specs.Dense.{isMarked, unlike}
 use Rattle.marking.proofs.SetWhere.{at-end}
-use Rattle.marking.proofs.LoopCounts.{count-next}
+use Rattle.files.proofs.LoopCounts.{count-next}
 use Rattle.marking.proofs.covering.unlike.Statement.{statement}
 use Rattle.marking.proofs.covering.unlike.Tie as tie
 

@@ -4,9 +4,9 @@ use mathlib.Core.Path.{_≡_, refl}
 use native.Mathlib.Omega.{arith}
 use denote.Ref.{now}
 use borrow.Author.Needs.{needs}
-use Rattle.marking.specs.Dense.{sumOf}
+use Rattle.files.specs.Below.{sumOf}
 use Rattle.marking.proofs.SetWhere.{at-end}
-use Rattle.marking.proofs.LoopCounts.{sum-next}
+use Rattle.files.proofs.LoopCounts.{sum-next}
 use Rattle.marking.proofs.results.sum.Statement.{statement}
 use Rattle.marking.proofs.results.sum.Tie as tie
 

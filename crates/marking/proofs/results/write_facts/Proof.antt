@@ -5,11 +5,11 @@ use native.Mathlib.Omega.{arith}
 use lib.ListN.{length, getD}
 use denote.Ref.{now}
 use borrow.Author.Needs.{needs}
-use Rattle.files.specs.Below.{joinBelow}
+use Rattle.files.specs.Below.{joinBelow, sumOf}
 use Rattle.files.specs.Bytes.{placed}
-use Rattle.marking.specs.Dense.{sumOf, factBytes}
+use Rattle.marking.specs.Dense.{factBytes}
 use Rattle.marking.proofs.SetWhere.{at-end}
-use Rattle.marking.proofs.LoopCounts.{sum-next, sum-within}
+use Rattle.files.proofs.LoopCounts.{sum-next, sum-within}
 use Rattle.marking.proofs.ResultLaws.{facts-next}
 use Rattle.marking.proofs.results.write_facts.Statement.{statement}
 use Rattle.marking.proofs.results.write_facts.Tie as tie

@@ -8,8 +8,10 @@ use Rattle.files.specs.Dense.{Arrays, held, arrays}
 use Rattle.files.specs.Task.{factCount}
 use Rattle.files.proofs.Valid.{Valid, task-valid}
 use Rattle.marking.specs.Mark.{marksFit, markBuffers}
-use Rattle.marking.proofs.HeldTask.{variables-held, actions-held, size-held}
-use Rattle.marking.proofs.MarkLaws.{refusal-number, first-short, second-short, both-fit, facts-held, action-bytes, fact-bytes, actions-written, facts-written}
+use Rattle.files.proofs.HeldTask.{variables-held, actions-held, size-held}
+use Rattle.marking.proofs.MarkLaws.{facts-held, action-bytes, fact-bytes, actions-written, facts-written}
+use Rattle.files.proofs.Guards.{refusal-number}
+use Rattle.files.proofs.Stages.{first-short, second-short, both-fit}
 use Rattle.marking.proofs.MarkRow.{marks-refused, marks-written}
 use borrow.Author.Needs.{needs}
 use Rattle.marking.proofs.rounds.mark_task.Statement.{statement}

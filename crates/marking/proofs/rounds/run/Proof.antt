@@ -7,7 +7,7 @@ use borrow.Author.Needs.{needs}
 use Rattle.files.specs.Contracts.{WithinLimits}
 use Rattle.files.specs.Dense.{Arrays, held, arrays}
 use Rattle.files.proofs.Valid.{Valid, task-valid}
-use Rattle.marking.proofs.HeldTask.{variables-held, actions-held}
+use Rattle.files.proofs.HeldTask.{variables-held, actions-held}
 use Rattle.marking.proofs.Rounding.{limit, Rounding, rounding-begins, rounds-few, rounding-less, rounding-next, rounding-ends}
 use Rattle.marking.proofs.rounds.run.Statement.{statement}
 use Rattle.marking.proofs.rounds.run.Tie as tie

@@ -11,7 +11,8 @@ use Rattle.files.specs.Dense.{Arrays, arrays, held, rowAction}
 use Rattle.files.specs.PlanFile.{planOf}
 use Rattle.plans.specs.Plan.{Total, noSteps, addStep, stepOf}
 use Rattle.plans.specs.Tally.{rowOf, totalIn}
-use Rattle.plans.proofs.WalkLaws.{Walking, held-action, held-start, walking-begins, walking-next, walking-stops, walking-ends}
+use Rattle.plans.proofs.WalkLaws.{Walking, held-start, walking-begins, walking-next, walking-stops, walking-ends}
+use Rattle.files.proofs.HeldTask.{held-action}
 use borrow.Author.Needs.{needs}
 use Rattle.plans.proofs.walk.take_steps.Statement.{statement}
 use Rattle.plans.proofs.walk.take_steps.Tie as tie

@@ -4,7 +4,7 @@ use native.Mathlib.Omega.{arith}
 use denote.Ref.{now}
 use Rattle.files.specs.Dense.{Arrays, held, arrays}
 use Rattle.files.proofs.Valid.{Valid, task-valid}
-use Rattle.marking.proofs.HeldTask.{variables-held, actions-held}
+use Rattle.files.proofs.HeldTask.{variables-held, actions-held}
 use Rattle.reduction.proofs.FilledArrays.{number-below, ranges-small, task-filled, origin-filled}
 use Rattle.reduction.proofs.arrays.fill.Statement.{statement}
 use Rattle.reduction.proofs.arrays.fill.Tie as tie

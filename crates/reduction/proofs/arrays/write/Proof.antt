@@ -7,9 +7,9 @@ use Rattle.files.specs.declared.Outcome.{Outcome}
 use Rattle.files.specs.Dense.{Arrays, OriginArrays, held, arrays, heldOrigin, originArrays}
 use Rattle.files.specs.OriginFile.{originFile}
 use Rattle.files.specs.TaskFile.{taskFile}
-use Rattle.files.proofs.Guards.{after-done, after-refused}
+use Rattle.files.proofs.Guards.{after-done, after-refused, refusal-number}
 use Rattle.files.proofs.Lengths.{task-file-length, origin-file-length}
-use Rattle.marking.proofs.MarkLaws.{refusal-number, first-short, second-short, both-fit}
+use Rattle.files.proofs.Stages.{first-short, second-short, both-fit}
 use Rattle.reduction.specs.Reduce.{filesFit}
 use borrow.Author.Needs.{needs}
 use Rattle.reduction.proofs.arrays.write.Statement.{statement}

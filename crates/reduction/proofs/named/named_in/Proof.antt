@@ -7,7 +7,7 @@ use borrow.Author.Needs.{needs}
 use Rattle.files.specs.Below.{countBelow}
 use Rattle.files.proofs.BelowLaws.{bit-most}
 use Rattle.marking.proofs.SetWhere.{at-end}
-use Rattle.marking.proofs.LoopCounts.{count-next}
+use Rattle.files.proofs.LoopCounts.{count-next}
 use Rattle.reduction.specs.Dense.{namedValue, namedIn}
 use Rattle.reduction.proofs.named.named_in.Statement.{statement}
 use Rattle.reduction.proofs.named.named_in.Tie as tie

@@ -4,7 +4,7 @@ use mathlib.Core.Path.{_≡_, refl, _∙_}
 use native.Mathlib.Omega.{arith}
 use lib.ListN.{length, length-set, getD}
 use denote.Ref.{now}
-use Rattle.marking.proofs.LoopCounts.{row-next}
+use Rattle.files.proofs.LoopCounts.{row-next}
 use Rattle.files.proofs.Filling.{below-next}
 use borrow.Author.Needs.{needs}
 use Rattle.reduction.proofs.renumber.copy_row.Statement.{statement}

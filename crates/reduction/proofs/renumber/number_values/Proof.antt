@@ -7,7 +7,7 @@ use lib.ListN.{length, length-set, getD}
 use denote.Ref.{now}
 use Rattle.files.specs.Below.{countBelow}
 use Rattle.files.proofs.BelowLaws.{bit-most}
-use Rattle.marking.proofs.LoopCounts.{count-next, row-next}
+use Rattle.files.proofs.LoopCounts.{count-next, row-next}
 use Rattle.reduction.specs.Dense.{namedValue, newValueAt}
 use Rattle.files.proofs.Filling.{below-next}
 use borrow.Author.Needs.{needs}

@@ -8,7 +8,7 @@ use Rattle.files.specs.Below.{bit}
 use Rattle.files.specs.Dense.{Arrays, held, arrays}
 use Rattle.files.proofs.Valid.{Valid, task-valid}
 use Rattle.marking.specs.Mark.{MarkBuffers}
-use Rattle.marking.proofs.HeldTask.{actions-held}
+use Rattle.files.proofs.HeldTask.{actions-held}
 use Rattle.marking.proofs.MarkRow.{marks-left}
 use Rattle.reduction.specs.Task.{keptAt}
 use Rattle.reduction.proofs.ReduceStages.{kept-bits, marks-room, marks-refused, files-refused, files-written}

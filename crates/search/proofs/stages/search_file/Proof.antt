@@ -7,7 +7,7 @@ use Rattle.files.specs.Accepted.{acceptedTask}
 use Rattle.files.specs.Bytes.{Octets}
 use Rattle.files.specs.TaskFile.{checkTask}
 use Rattle.files.proofs.TaskChecked.{action-count, task-accepted}
-use Rattle.marking.proofs.MarkLaws.{held-by}
+use Rattle.files.proofs.HeldTask.{held-by}
 use Rattle.search.proofs.FoundLaws.{searches-alike}
 use borrow.Author.Needs.{needs}
 use Rattle.search.proofs.stages.search_file.Statement.{statement}

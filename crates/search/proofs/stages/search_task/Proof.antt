@@ -10,7 +10,7 @@ use Rattle.files.specs.Outcome.{done, refusal, overwrite}
 use Rattle.files.specs.PlanFile.{planFile}
 use Rattle.plans.specs.Plan.{Total}
 use Rattle.files.proofs.Valid.{Valid}
-use Rattle.marking.proofs.MarkLaws.{refusal-number}
+use Rattle.files.proofs.Guards.{refusal-number}
 use Rattle.search.specs.declared.Entry.{Entry}
 use Rattle.search.specs.States.{stateCount}
 use Rattle.search.specs.Planner.{statesFit}

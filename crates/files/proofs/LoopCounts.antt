@@ -9,9 +9,8 @@ use lib.Dec.{leb, ltb}
 use lib.ListN.{length, getD, set}
 use lib.Seq.{getD-set-same, getD-set-other}
 use borrow.Author.Tests.{lt-ltb, le-ltb, le-leb, lt-leb}
-use Rattle.files.specs.Below.{bit, countBelow}
+use Rattle.files.specs.Below.{bit, countBelow, sumOf}
 use Rattle.files.proofs.Logic.{split-le}
-use Rattle.marking.specs.Dense.{sumOf}
 
 -- the two orders of a comparison
 pub leb-ltb : (m n : ℕ) → leb m n ≡ not (ltb n m)
