@@ -3,14 +3,14 @@
 mod numbers;
 
 ghost use mathlib.Core.Path.{_≡_};
-ghost use lib.ListN.{length};
 ghost use Rattle.files.specs.OriginFile.{checkOrigin};
 ghost use Rattle.files.specs.TaskFile.{checkTask};
 ghost use Rattle.plans.specs.Check.{checkPlan};
-ghost use Rattle.marking.specs.Mark.{markBuffers, mark, markAfter};
-ghost use Rattle.reduction.specs.Reduce.{rooms, reduce, reducedActionMarks, reducedFactMarks, reducedBuffer, originBuffer};
-ghost use Rattle.search.specs.Planner.{planRooms, planAnswer, plannedActionMarks, plannedFactMarks, plannedReduced, plannedOrigin, plannedTable, plannedPlan};
-ghost use Rattle.capi.specs.Numbers.{outcomeNumbers, checkedNumbers, markedNumbers, reducedNumbers, plannedNumbers};
+ghost use Rattle.marking.specs.Mark.{markBuffers};
+ghost use Rattle.reduction.specs.Reduce.{buffers};
+ghost use Rattle.search.specs.Planner.{lentOf};
+ghost use Rattle.capi.specs.Numbers.{outcomeNumbers, checkedNumbers};
+ghost use Rattle.capi.specs.Calls.{MarksNumbers, ReducesNumbers, PlansNumbers};
 
 // Whether a file is a task file.
 #[no_mangle]
@@ -45,8 +45,7 @@ pub extern "C" fn shortest_mark(
     facts: &mut [u8],
     out: &mut [u64; 12],
 )
-    ensures answer { λ r. ⌜ now (out .exit) ≡ markedNumbers (mark (now (task .entry)) level (markBuffers (now (actions .entry)) (now (facts .entry)))) ⌝ }
-    ensures buffers { λ r. ⌜ markBuffers (now (actions .exit)) (now (facts .exit)) ≡ markAfter (now (task .entry)) level (markBuffers (now (actions .entry)) (now (facts .entry))) ⌝ }
+    ensures { λ r. ⌜ MarksNumbers (now (task .entry)) level (markBuffers (now (actions .entry)) (now (facts .entry))) (now (out .exit)) (markBuffers (now (actions .exit)) (now (facts .exit))) ⌝ }
 {
     numbers::write_marked(marking::mark(task, level, actions, facts), out);
 }
@@ -64,11 +63,7 @@ pub extern "C" fn shortest_reduce(
     origin: &mut [u8],
     out: &mut [u64; 12],
 )
-    ensures answer { λ r. ⌜ now (out .exit) ≡ reducedNumbers (reduce (now (task .entry)) level signer (rooms (length (now (actions .entry))) (length (now (facts .entry))) (length (now (reduced .entry))) (length (now (origin .entry))))) ⌝ }
-    ensures actions { λ r. ⌜ now (actions .exit) ≡ reducedActionMarks (now (task .entry)) level signer (rooms (length (now (actions .entry))) (length (now (facts .entry))) (length (now (reduced .entry))) (length (now (origin .entry)))) (now (actions .entry)) ⌝ }
-    ensures facts { λ r. ⌜ now (facts .exit) ≡ reducedFactMarks (now (task .entry)) level signer (rooms (length (now (actions .entry))) (length (now (facts .entry))) (length (now (reduced .entry))) (length (now (origin .entry)))) (now (facts .entry)) ⌝ }
-    ensures reduced { λ r. ⌜ now (reduced .exit) ≡ reducedBuffer (now (task .entry)) level signer (rooms (length (now (actions .entry))) (length (now (facts .entry))) (length (now (reduced .entry))) (length (now (origin .entry)))) (now (reduced .entry)) ⌝ }
-    ensures origin { λ r. ⌜ now (origin .exit) ≡ originBuffer (now (task .entry)) level signer (rooms (length (now (actions .entry))) (length (now (facts .entry))) (length (now (reduced .entry))) (length (now (origin .entry)))) (now (origin .entry)) ⌝ }
+    ensures { λ r. ⌜ ReducesNumbers (now (task .entry)) level signer (buffers (now (actions .entry)) (now (facts .entry)) (now (reduced .entry)) (now (origin .entry))) (now (out .exit)) (buffers (now (actions .exit)) (now (facts .exit)) (now (reduced .exit)) (now (origin .exit))) ⌝ }
 {
     let answer = reduction::reduce(task, level, signer, actions, facts, reduced, origin);
     numbers::write_reduced(answer, out);
@@ -88,13 +83,7 @@ pub extern "C" fn shortest_plan(
     plan: &mut [u8],
     out: &mut [u64; 12],
 )
-    ensures answer { λ r. ⌜ now (out .exit) ≡ plannedNumbers (planAnswer (now (task .entry)) signer (planRooms (rooms (length (now (actions .entry))) (length (now (facts .entry))) (length (now (reduced .entry))) (length (now (origin .entry)))) (length (now (table .entry))) (length (now (plan .entry))))) ⌝ }
-    ensures actions { λ r. ⌜ now (actions .exit) ≡ plannedActionMarks (now (task .entry)) signer (planRooms (rooms (length (now (actions .entry))) (length (now (facts .entry))) (length (now (reduced .entry))) (length (now (origin .entry)))) (length (now (table .entry))) (length (now (plan .entry)))) (now (actions .entry)) ⌝ }
-    ensures facts { λ r. ⌜ now (facts .exit) ≡ plannedFactMarks (now (task .entry)) signer (planRooms (rooms (length (now (actions .entry))) (length (now (facts .entry))) (length (now (reduced .entry))) (length (now (origin .entry)))) (length (now (table .entry))) (length (now (plan .entry)))) (now (facts .entry)) ⌝ }
-    ensures reduced { λ r. ⌜ now (reduced .exit) ≡ plannedReduced (now (task .entry)) signer (planRooms (rooms (length (now (actions .entry))) (length (now (facts .entry))) (length (now (reduced .entry))) (length (now (origin .entry)))) (length (now (table .entry))) (length (now (plan .entry)))) (now (reduced .entry)) ⌝ }
-    ensures origin { λ r. ⌜ now (origin .exit) ≡ plannedOrigin (now (task .entry)) signer (planRooms (rooms (length (now (actions .entry))) (length (now (facts .entry))) (length (now (reduced .entry))) (length (now (origin .entry)))) (length (now (table .entry))) (length (now (plan .entry)))) (now (origin .entry)) ⌝ }
-    ensures table { λ r. ⌜ now (table .exit) ≡ plannedTable (now (task .entry)) signer (planRooms (rooms (length (now (actions .entry))) (length (now (facts .entry))) (length (now (reduced .entry))) (length (now (origin .entry)))) (length (now (table .entry))) (length (now (plan .entry)))) (now (table .entry)) ⌝ }
-    ensures plan { λ r. ⌜ now (plan .exit) ≡ plannedPlan (now (task .entry)) signer (planRooms (rooms (length (now (actions .entry))) (length (now (facts .entry))) (length (now (reduced .entry))) (length (now (origin .entry)))) (length (now (table .entry))) (length (now (plan .entry)))) (now (plan .entry)) ⌝ }
+    ensures { λ r. ⌜ PlansNumbers (now (task .entry)) signer (lentOf (now (actions .entry)) (now (facts .entry)) (now (reduced .entry)) (now (origin .entry)) (now (table .entry)) (now (plan .entry))) (now (out .exit)) (lentOf (now (actions .exit)) (now (facts .exit)) (now (reduced .exit)) (now (origin .exit)) (now (table .exit)) (now (plan .exit))) ⌝ }
 {
     let answer = search::plan(task, signer, actions, facts, reduced, origin, table, plan);
     numbers::write_planned(answer, out);

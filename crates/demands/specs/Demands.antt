@@ -18,12 +18,12 @@ use Rattle.plans.specs.Checker.{CheckAnswers, CheckerRight, ListRight}
 use Rattle.marking.specs.Answers.{MarkAnswers}
 use Rattle.marking.specs.Mark.{validLevel, MarkBuffers, markedBuffers, markWhole, mark, markAfter}
 use Rattle.marking.specs.Rounds.{nextMarks, marking}
-use Rattle.reduction.specs.Answers.{ReduceAnswers, LongEnough, withFiles, reduceWhole, StretchAnswers, StretchLength}
+use Rattle.reduction.specs.Answers.{ReduceAnswers, LongEnough, StretchAnswers, StretchLength}
 use Rattle.reduction.specs.Preserved.{ReductionPreserves, ReductionOfFiles}
-use Rattle.reduction.specs.Reduce.{Buffers, roomsOf, reduce, reduceAfter}
+use Rattle.reduction.specs.Reduce.{Buffers, withFiles, reduceWhole, reduce, reduceAfter}
 use Rattle.search.specs.Answers.{PlanAnswers}
 use Rattle.search.specs.Least.{SearchIsLeast}
-use Rattle.search.specs.Planner.{Lent, lentRooms, planAnswer, planAfter}
+use Rattle.search.specs.Planner.{Lent, planAnswer, planAfter}
 use Rattle.search.specs.PlannerRight.{PlannerPromise, AmpleSuffices, NeverShort}
 
 -- Demand 1: arbitrary files, numbers and buffers; an outcome of the list, and exact buffers.
@@ -43,7 +43,7 @@ pub record Demand1 : Type 0 where
 pub record StepsRight (task : List ℕ) (level signer : ℕ) (b : Buffers) : Type 0 where
   pub marks : mark task level (record { actions = b .actions; facts = b .facts }) ≡ markWhole (taskOf task) level
   pub marked : markAfter task level (record { actions = b .actions; facts = b .facts }) ≡ markedBuffers (taskOf task) level (record { actions = b .actions; facts = b .facts })
-  pub reduced : reduce task level signer (roomsOf b) ≡ reduceWhole (taskOf task) level signer
+  pub reduced : reduce task level signer b ≡ reduceWhole (taskOf task) level signer
   pub buffers : reduceAfter task level signer b ≡ withFiles (taskOf task) level signer b
   -- the round that ends it changes nothing, and there are at most facts plus actions plus 1
   pub last : nextMarks (taskOf task) level (marking (taskOf task) level .marks) ≡ marking (taskOf task) level .marks
@@ -75,7 +75,7 @@ pub record Demand3 : Type 0 where
   -- each entry of a table is least over all lists of any length, and the plan read off it is the first of the best
   pub search : SearchIsLeast
   -- "no plan" exactly where there is none; otherwise the plan file holds a best plan of the full task, with its cost and steps
-  pub planner : (task : List ℕ) (signer : ℕ) (b : Lent) → PlannerPromise task signer b (planAnswer task signer (lentRooms b)) (planAfter task signer b)
+  pub planner : (task : List ℕ) (signer : ℕ) (b : Lent) → PlannerPromise task signer b (planAnswer task signer b) (planAfter task signer b)
   -- buffers that are long enough exist: with the header's largest lengths 21 is never met
   pub ample : AmpleSuffices
   pub never-short : NeverShort

@@ -10,9 +10,9 @@ use Rattle.files.specs.PlanFile.{planFile}
 use Rattle.plans.specs.declared.Checked.{Checked}
 use Rattle.plans.specs.Check.{checkPlan}
 use Rattle.marking.specs.Mark.{markBuffers, mark, markAfter}
-use Rattle.reduction.specs.Reduce.{reducedBuffer}
-use Rattle.search.specs.Planner.{planAnswer, plannedPlan}
-use Rattle.search.specs.PlannerRight.{ample}
+use Rattle.reduction.specs.Reduce.{buffers, reduceAfter}
+use Rattle.search.specs.Planner.{Lent, lentOf, planAnswer, planAfter}
+use Rattle.search.specs.Table.{entry}
 use Rattle.search.specs.declared.Planned.{Planned}
 use Rattle.demands.specs.Listing.{ascii, listing}
 
@@ -45,6 +45,10 @@ planNumbers p = outcomeParts (p .outcome) ++ (p .cost .0 ∷ p .steps .0 ∷ [])
 abbrev pub used : ℕ → List ℕ
 used n = replicate n 9
 
+-- buffers for a small task
+abbrev pub smallBuffers : Lent
+smallBuffers = lentOf (used 8) (used 9) (used 100) (used 60) (replicate 12 (entry 9 9)) (used 20)
+
 -- the outcome, the rounds and the action marks of a file of 7 actions and 8 facts
 abbrev pub keptNumbers : List ℕ → ℕ → List ℕ
 keptNumbers file level =
@@ -71,13 +75,13 @@ cases =
     -- plan 2: 23 at 1
     ∷ case (checkNumbers (checkPlan fileE (planFile (2 ∷ []) 7))) (23 ∷ 0 ∷ 1 ∷ 0 ∷ 0 ∷ [])
     -- without actions 0 and 1: 24
-    ∷ case (planNumbers (planAnswer fileWithoutLine 7 ample)) (24 ∷ 0 ∷ 0 ∷ 0 ∷ 0 ∷ [])
+    ∷ case (planNumbers (planAnswer fileWithoutLine 7 smallBuffers)) (24 ∷ 0 ∷ 0 ∷ 0 ∷ 0 ∷ [])
     -- goal lamp=1 alone: level 3 keeps nothing, the plan is empty
     ∷ case (keptNumbers fileLampAlone 3) (0 ∷ 0 ∷ 0 ∷ 1 ∷ 0 ∷ 0 ∷ 0 ∷ 0 ∷ 0 ∷ 0 ∷ 0 ∷ [])
-    ∷ case (planNumbers (planAnswer fileLampAlone 7 ample)) (0 ∷ 0 ∷ 0 ∷ 0 ∷ 0 ∷ [])
-    ∷ case (plannedPlan fileLampAlone 7 ample []) (planFile [] 7)
+    ∷ case (planNumbers (planAnswer fileLampAlone 7 smallBuffers)) (0 ∷ 0 ∷ 0 ∷ 0 ∷ 0 ∷ [])
+    ∷ case (planAfter fileLampAlone 7 smallBuffers .plan) (planFile [] 7 ++ used 4)
     -- E reduced at level 4; elements past the result are untouched
-    ∷ case (reducedBuffer fileE 4 7 (ample .reduction) (used 82)) (reducedE ++ used 2)
+    ∷ case (reduceAfter fileE 4 7 (buffers (used 8) (used 9) (used 82) (used 60)) .reduced) (reducedE ++ used 2)
     -- what `shortest` prints for E
     ∷ case (listing fileE) (ascii "task 3 7\nkept 2 2\nstep 1\ncost 2 steps 1\n")
     ∷ []

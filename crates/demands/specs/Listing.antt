@@ -6,12 +6,13 @@ use Prim.Native.String.{String}
 use mathlib.Core.Bool.{cond}
 use mathlib.Core.List.{List, [], _∷_, _++_}
 use lib.Dec.{ltb}
+use lib.ListN.{replicate}
 use Rattle.files.specs.Outcome.{isDone}
 use Rattle.files.specs.Records.{signerOf}
 use Rattle.files.specs.Task.{variableCount, actionCount}
 use Rattle.files.specs.TaskFile.{taskOf}
-use Rattle.search.specs.Planner.{searched, planMade, planAnswer}
-use Rattle.search.specs.PlannerRight.{ample}
+use Rattle.search.specs.Planner.{Lent, lentOf, searched, planMade, planAnswer}
+use Rattle.search.specs.Table.{entry}
 use Rattle.search.specs.declared.Planned.{Planned}
 
 -- the bytes of an ASCII text
@@ -46,9 +47,13 @@ planLines task p =
     ++ stepLines (planMade task)
     ++ line "cost " (p .cost .0) " steps " (p .steps .0)
 
+-- the program's buffers, of the largest lengths (`Ample`)
+abbrev pub ownBuffers : Lent
+ownBuffers = lentOf (replicate 512 0) (replicate 2048 0) (replicate 65536 0) (replicate 5520 0) (replicate 4096 (entry 0 0)) (replicate 8206 0)
+
 -- planned under the file's signer; after a refusal just one line
 unfoldable pub listing : List ℕ → List ℕ
 listing task =
-    let p = planAnswer task (signerOf task) ample in
+    let p = planAnswer task (signerOf task) ownBuffers in
     let lines = planLines task p in
     cond (isDone (p .outcome)) lines (line "refused " (p .outcome .number) " at " (p .outcome .place))

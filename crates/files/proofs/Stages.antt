@@ -161,3 +161,12 @@ module _ {A B : Type 0} {stages : List (Stage B)} {whole given : A} {refused : O
 
   pub given-refused : isDone (outcomeOf stages) ≡ false → given ≡ refused (outcomeOf stages)
   given-refused n = k .answer ∙ rw n refl
+
+-- the same answer in another form
+pub by-other : {A C B : Type 0} (f : A → C) {stages : List (Stage B)} {whole given : A} {refused : Outcome → A} {before now : B} {other : C}
+    → ByStages stages whole refused before given now → other ≡ f given → ByStages stages (f whole) (λ o. f (refused o)) before other now
+by-other f {stages} {whole} {given} {refused} k e =
+    record {
+      answer = e ∙ ap f (k .answer) ∙ split (isDone (outcomeOf stages)) (λ y. rw y refl) (λ n. rw n refl);
+      buffers = k .buffers;
+    }

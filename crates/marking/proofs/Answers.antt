@@ -12,7 +12,7 @@ use Rattle.files.specs.TaskFile.{checkTask, taskOf}
 use Rattle.files.proofs.Guards.{guard-passes}
 use Rattle.files.proofs.Listed.{listed-done, listed-front, listed-behind, listed-guard, listed-both, listed-at, listed-later, task-listed}
 use Rattle.marking.specs.Answers.{markRefusals, MarkAnswers}
-use Rattle.marking.specs.Mark.{validLevel, marksFit, MarkBuffers, markedBuffers, markInput, markStages, fileStages, markWhole, mark, markAfter}
+use Rattle.marking.specs.Mark.{validLevel, marksFit, MarkBuffers, markedBuffers, markInput, markStages, markFileStages, markWhole, mark, markAfter}
 
 pub marks-listed : (t : Task) (a f : ℕ) → listed (short (actionCount t) ∷ short (factCount t) ∷ []) (marksFit t a f) ≡ true
 unfolding marksFit fits
@@ -26,7 +26,7 @@ module _ (task : List ℕ) (level : ℕ) (b : MarkBuffers) where
   abbrev own : List Refusal
   own = refusedAt 8 0 ∷ short (actionCount (taskOf task)) ∷ short (factCount (taskOf task)) ∷ []
 
-  mark-listed : listed (markRefusals task) (outcomeOf (fileStages task level b)) ≡ true
+  mark-listed : listed (markRefusals task) (outcomeOf (markFileStages task level b)) ≡ true
   unfolding markStages markInput
   mark-listed =
       let all = markRefusals task in

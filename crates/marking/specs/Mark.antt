@@ -75,11 +75,11 @@ MarksTask input t level b answer now = ByStages (markStages input t level b) (ma
 abbrev pub MarksFile : List ℕ → ℕ → MarkBuffers → Marked → MarkBuffers → Type 0
 MarksFile task level b answer now = MarksTask (markInput task level) (taskOf task) level b answer now
 
-abbrev pub fileStages : List ℕ → ℕ → MarkBuffers → List (Stage MarkBuffers)
-fileStages task level b = markStages (markInput task level) (taskOf task) level b
+abbrev pub markFileStages : List ℕ → ℕ → MarkBuffers → List (Stage MarkBuffers)
+markFileStages task level b = markStages (markInput task level) (taskOf task) level b
 
 abbrev pub mark : List ℕ → ℕ → MarkBuffers → Marked
-mark task level b = answerBy (fileStages task level b) (markWhole (taskOf task) level) noMarks
+mark task level b = answerBy (markFileStages task level b) (markWhole (taskOf task) level) noMarks
 
 abbrev pub markAfter : List ℕ → ℕ → MarkBuffers → MarkBuffers
-markAfter task level b = leftBy (fileStages task level b) b
+markAfter task level b = leftBy (markFileStages task level b) b

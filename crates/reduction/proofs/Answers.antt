@@ -19,7 +19,7 @@ use Rattle.files.proofs.Stages.{fits-in}
 use Rattle.marking.specs.Mark.{validLevel, marksFit}
 use Rattle.marking.proofs.Answers.{marks-listed}
 use Rattle.reduction.specs.Answers.{reduceRefusals, ReduceAnswers, LongEnough}
-use Rattle.reduction.specs.Reduce.{Buffers, withFiles, reducedFile, originsFile, filesFit, reduceInput, reduceStages, fileStages, reduceWhole, reduce, reduceAfter}
+use Rattle.reduction.specs.Reduce.{Buffers, withFiles, reducedFile, originsFile, filesFit, reduceInput, reduceStages, reduceFileStages, reduceWhole, reduce, reduceAfter}
 use Rattle.reduction.specs.Task.{reducedTask, originsAt}
 
 module _ (task : List ℕ) (level signer : ℕ) (b : Buffers) where
@@ -70,7 +70,7 @@ module _ (task : List ℕ) (level signer : ℕ) (b : Buffers) where
       listed-behind (fileRefusals 0 task) own _
       (listed-later (refusedAt 8 0) _ _ (listed-later (refusedAt 7 0) _ _ (listed-later (short (actionCount t)) _ _ (listed-later (short (factCount t)) _ _ (files-listed [])))))
 
-  stages-listed : listed (reduceRefusals task level signer) (outcomeOf (fileStages task level signer b)) ≡ true
+  stages-listed : listed (reduceRefusals task level signer) (outcomeOf (reduceFileStages task level signer b)) ≡ true
   unfolding reduceStages
   stages-listed =
       let all = reduceRefusals task level signer in
@@ -95,7 +95,7 @@ module _ (task : List ℕ) (level signer : ℕ) (b : Buffers) (e : checkTask tas
   unfolding filesFit reducedFile originsFile
   files-fit = fits-in _ (length (b .reduced)) _ (long .reduced) ∙ fits-in _ (length (b .origin)) done (long .origin)
 
-  pub stages-fit : outcomeOf (fileStages task level signer b) ≡ done
+  pub stages-fit : outcomeOf (reduceFileStages task level signer b) ≡ done
   unfolding reduceStages andThen isDone
   stages-fit = rw (input-passes, marks-fit, files-fit) refl
 

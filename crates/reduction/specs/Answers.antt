@@ -11,7 +11,7 @@ use Rattle.files.specs.Outcome.{done, guard, inSecond}
 use Rattle.files.specs.Stages.{Stage, stage, Answers}
 use Rattle.files.specs.Task.{Pair, actionCount, factCount, actionOf}
 use Rattle.files.specs.TaskFile.{checkTask, taskOf, pairBytes}
-use Rattle.reduction.specs.Reduce.{Buffers, reducedFile, originsFile, fileStages, reduceWhole, noFiles, reduce, reduceAfter}
+use Rattle.reduction.specs.Reduce.{Buffers, reducedFile, originsFile, reduceFileStages, reduceWhole, noFiles, reduce, reduceAfter}
 use Rattle.reduction.specs.Stretch.{sideOf, stretchOutcome, stretch}
 
 abbrev pub reduceRefusals : List ℕ → ℕ → ℕ → List Refusal
@@ -27,7 +27,7 @@ reduceRefusals task level signer =
 
 abbrev pub ReduceAnswers : List ℕ → ℕ → ℕ → Buffers → Type 0
 ReduceAnswers task level signer b =
-    Answers (reduceRefusals task level signer) (fileStages task level signer b) (reduceWhole (taskOf task) level signer) noFiles
+    Answers (reduceRefusals task level signer) (reduceFileStages task level signer b) (reduceWhole (taskOf task) level signer) noFiles
     b (reduce task level signer b) (reduceAfter task level signer b)
 
 -- buffers that are long enough for reduction (01)

@@ -94,11 +94,11 @@ ReducesTask input t level signer b answer now = ByStages (reduceStages input t l
 abbrev pub Reduces : List ℕ → ℕ → ℕ → Buffers → Reduced → Buffers → Type 0
 Reduces task level signer b answer now = ReducesTask (reduceInput task level signer) (taskOf task) level signer b answer now
 
-abbrev pub fileStages : List ℕ → ℕ → ℕ → Buffers → List (Stage Buffers)
-fileStages task level signer b = reduceStages (reduceInput task level signer) (taskOf task) level signer b
+abbrev pub reduceFileStages : List ℕ → ℕ → ℕ → Buffers → List (Stage Buffers)
+reduceFileStages task level signer b = reduceStages (reduceInput task level signer) (taskOf task) level signer b
 
 abbrev pub reduce : List ℕ → ℕ → ℕ → Buffers → Reduced
-reduce task level signer b = answerBy (fileStages task level signer b) (reduceWhole (taskOf task) level signer) noFiles
+reduce task level signer b = answerBy (reduceFileStages task level signer b) (reduceWhole (taskOf task) level signer) noFiles
 
 abbrev pub reduceAfter : List ℕ → ℕ → ℕ → Buffers → Buffers
-reduceAfter task level signer b = leftBy (fileStages task level signer b) b
+reduceAfter task level signer b = leftBy (reduceFileStages task level signer b) b

@@ -107,7 +107,7 @@ fn write(
     let first = files::write::task_needed(v, n, goal, conditions, effects);
     let second = files::write_origin::origin_needed(v, n, old_sizes);
     if reduced.len() < first {
-        let short = outcomes::refuse(21, first);
+        let short = outcomes::refuse(outcomes::SHORT_BUFFER, first);
         return Written {
             outcome: short,
             reduced: first,
@@ -115,7 +115,7 @@ fn write(
         };
     }
     if origin.len() < second {
-        let short = outcomes::refuse(21, second);
+        let short = outcomes::refuse(outcomes::SHORT_BUFFER, second);
         return Written {
             outcome: short,
             reduced: first,

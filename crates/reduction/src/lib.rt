@@ -52,10 +52,10 @@ pub fn reduce(
         return stages::refused(read);
     }
     if !marking::rounds::valid_level(level) {
-        return stages::refused(outcomes::refuse(8, 0));
+        return stages::refused(outcomes::refuse(outcomes::UNKNOWN_LEVEL, 0));
     }
     if signer < 1 {
-        return stages::refused(outcomes::refuse(7, 0));
+        return stages::refused(outcomes::refuse(outcomes::WRONG_SIGN_OFF, 0));
     }
     let scope = marking::rounds::Scope {
         level: level,

@@ -8,6 +8,7 @@ ghost use Rattle.files.specs.Below.{bit, chosenBelow};
 ghost use Rattle.files.specs.Dense.{rowNumbers};
 ghost use Rattle.marking.specs.Dense.{isMarked};
 ghost use Rattle.reduction.specs.Dense.{namedAt, changedAt, namedIn, otherNamed, keepsAt};
+use files::limits;
 use marking::gains;
 use marking::links;
 use marking::rounds::Scope;
@@ -62,8 +63,8 @@ pub fn named_in(named: &[u8; 2048], v: usize) -> u8
 {
     let mut count: u8 = 0;
     let mut d: usize = 0;
-    while d < 32 {
-        count += marked(named[32 * v + d]);
+    while d < limits::MOST_VALUES {
+        count += marked(named[limits::MOST_VALUES * v + d]);
         d += 1;
     }
     count
@@ -83,7 +84,7 @@ fn other_named(named: &[u8; 2048], start: u8, v: usize) -> bool
 {
     let mut d: u8 = 0;
     while d < 32 {
-        if named[32 * v + d as usize] == 1 && d != start {
+        if named[limits::MOST_VALUES * v + d as usize] == 1 && d != start {
             return true;
         }
         d += 1;

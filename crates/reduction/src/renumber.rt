@@ -6,6 +6,7 @@ ghost use lib.Dec.{eqb};
 ghost use lib.ListN.{length, getD};
 ghost use Rattle.reduction.specs.Dense.{newValueAt, newSizeAt, mappedCell};
 use crate::named;
+use files::limits;
 
 // The number of a value: its rank where it is named, else the number of the values left over.
 fn number(mark: u8, rank: u8, rest: u8) -> u8
@@ -22,9 +23,13 @@ fn number_values(values: &mut [u8], named: &[u8; 2048], v: usize)
     let rest = named::named_in(named, v);
     let mut rank: u8 = 0;
     let mut d: usize = 0;
-    while d < 32 {
-        values[32 * v + d] = number(named[32 * v + d], rank, rest);
-        rank += named::marked(named[32 * v + d]);
+    while d < limits::MOST_VALUES {
+        values[limits::MOST_VALUES * v + d] = number(
+            named[limits::MOST_VALUES * v + d],
+            rank,
+            rest,
+        );
+        rank += named::marked(named[limits::MOST_VALUES * v + d]);
         d += 1;
     }
 }
@@ -57,10 +62,10 @@ fn mapped(values: &[u8; 2048], v: usize, cell: u8) -> u8
     requires { ⌜ v < 64 ⌝ }
     ensures { λ r. ⌜ r ≡ mappedCell (now (values .entry)) v cell ⌝ }
 {
-    if cell == 255 {
-        return 255;
+    if cell == limits::NO_PAIR {
+        return limits::NO_PAIR;
     }
-    values[32 * v + (cell % 32) as usize]
+    values[limits::MOST_VALUES * v + (cell % 32) as usize]
 }
 
 // A row of the kept variables: `count` cells at `to`, from the row at `from`.
@@ -100,7 +105,15 @@ pub fn map_rows(
     let mut j: usize = 0;
     while j < actions {
         let a = originals[j] as usize;
-        map_row(rows, 64 * j, old, 64 * a, numbers, count, values);
+        map_row(
+            rows,
+            limits::ROW * j,
+            old,
+            limits::ROW * a,
+            numbers,
+            count,
+            values,
+        );
         j += 1;
     }
 }
@@ -155,7 +168,12 @@ pub fn value_rows(rows: &mut [u8], values: &[u8; 2048], numbers: &[u8; 64], coun
 {
     let mut i: usize = 0;
     while i < count {
-        copy_row(rows, 32 * i, values, 32 * numbers[i] as usize);
+        copy_row(
+            rows,
+            limits::MOST_VALUES * i,
+            values,
+            limits::MOST_VALUES * numbers[i] as usize,
+        );
         i += 1;
     }
 }
@@ -166,7 +184,7 @@ fn copy_row(row: &mut [u8], to: usize, old: &[u8], from: usize)
     ensures { λ r. ⌜ (length (now (row .exit)) ≡ length (now (row .entry))) × ((d : ℕ) → d < 32 → getD (now (row .exit)) (to + d) 0 ≡ getD (now (old .entry)) (from + d) 0) × ((j : ℕ) → j < to → getD (now (row .exit)) j 0 ≡ getD (now (row .entry)) j 0) ⌝ }
 {
     let mut d: usize = 0;
-    while d < 32 {
+    while d < limits::MOST_VALUES {
         row[to + d] = old[from + d];
         d += 1;
     }

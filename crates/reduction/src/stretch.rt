@@ -31,7 +31,7 @@ pub fn outcome<'a>(full: &'a [u8], reduced: &'a [u8], side: u32, action: usize) 
     }
     let actions = task::actions_in(side_of(side, full, reduced));
     if actions <= action {
-        return outcomes::refuse(5, 0);
+        return outcomes::refuse(outcomes::OUT_OF_RANGE, 0);
     }
     outcomes::done()
 }

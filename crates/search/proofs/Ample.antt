@@ -33,7 +33,7 @@ use Rattle.plans.proofs.OrderLaws.{total-steps}
 use Rattle.marking.specs.Mark.{marksFit}
 use Rattle.marking.proofs.Rounding.{facts-few}
 use Rattle.reduction.specs.Preserved.{Preserves}
-use Rattle.reduction.specs.Reduce.{reducedFile, originsFile, filesFit, reduceInput, reduceStages, fileStages}
+use Rattle.reduction.specs.Reduce.{reducedFile, originsFile, filesFit, reduceInput, reduceStages, reduceFileStages}
 use Rattle.reduction.specs.Task.{reducedTask, originBy, originsAt, keptAt, byOriginal}
 use Rattle.reduction.proofs.OriginAccepted.{origins-accepted}
 use Rattle.reduction.proofs.Preservation.{reduction-preserves, reduction-accepted}
@@ -192,7 +192,7 @@ module _ (task : List ℕ) (signer : ℕ) (b : Lent) (octets : Octets task) (roo
       let small = plan-small task octets z few signer _ best in
       done-short (fits-short _ _ done (omega (arith, room .plan)) (rw q at e)))
 
-  files-row-never : outcomeOf (fileStages task planLevel signer (b .buffers)) .number ≡ 21 → ⊥
+  files-row-never : outcomeOf (reduceFileStages task planLevel signer (b .buffers)) .number ≡ 21 → ⊥
   unfolding reduceStages
   files-row-never e =
       ⊎-elim
@@ -202,7 +202,7 @@ module _ (task : List ℕ) (signer : ℕ) (b : Lent) (octets : Octets task) (roo
       ⊎-elim (files-never z) (λ last. done-short (last .1)) (then-short _ _ (rest .1)))
       (then-short _ _ e)
 
-  files-row-accepted : outcomeOf (fileStages task planLevel signer (b .buffers)) .number ≡ 0 → checkTask task ≡ done
+  files-row-accepted : outcomeOf (reduceFileStages task planLevel signer (b .buffers)) .number ≡ 0 → checkTask task ≡ done
   unfolding reduceStages
   files-row-accepted e = input-accepted (both-done _ _ (both-done _ _ e .0) .0)
 

@@ -17,7 +17,7 @@ use Rattle.files.proofs.Listed.{listed-done, listed-front, listed-behind, liste
 use Rattle.files.proofs.Stages.{outcome-both, outcome-beside}
 use Rattle.marking.specs.Mark.{validLevel, marksFit}
 use Rattle.marking.proofs.Answers.{marks-listed}
-use Rattle.reduction.specs.Reduce.{Buffers, withFiles, reducedFile, originsFile, filesFit, reduceInput, reduceStages, fileStages}
+use Rattle.reduction.specs.Reduce.{Buffers, withFiles, reducedFile, originsFile, filesFit, reduceInput, reduceStages, reduceFileStages}
 use Rattle.reduction.specs.Task.{reducedTask, originsAt}
 use Rattle.reduction.proofs.Answers.{files-listed}
 use Rattle.search.specs.Answers.{planRefusals, PlanAnswers}
@@ -100,10 +100,10 @@ module _ (task : List ℕ) (signer : ℕ) (b : Lent) where
   unfolding planMade
   found-listed = behind-marks found (behind-files found (listed-later (refusedAt 25 0) _ _ (listed-later (short (searchedStates task)) last _ (plan-listed (planFound task)))))
 
-  pub row-is : outcomeOf (planStages task signer b) ≡ andThen (outcomeOf (fileStages task planLevel signer (b .buffers))) (outcomeOf (searchStages (searched task) (planFound task) signer (searchBuffers (b .table) (b .plan))))
+  pub row-is : outcomeOf (planStages task signer b) ≡ andThen (outcomeOf (reduceFileStages task planLevel signer (b .buffers))) (outcomeOf (searchStages (searched task) (planFound task) signer (searchBuffers (b .table) (b .plan))))
   unfolding planStages
   row-is =
-      let first = fileStages task planLevel signer (b .buffers) in
+      let first = reduceFileStages task planLevel signer (b .buffers) in
       let second = searchStages (searched task) (planFound task) signer (searchBuffers (b .table) (b .plan)) in
       let more : Buffers → Lent = λ x. lent x (b .table) (b .plan) in
       let further : SearchBuffers → Lent = λ x. lent (withFiles (taskOf task) planLevel signer (b .buffers)) (x .table) (x .plan) in

@@ -31,7 +31,7 @@ use Rattle.plans.proofs.OrderLaws.{total-steps}
 use Rattle.plans.proofs.PlanChecker.{all-below}
 use Rattle.marking.specs.Mark.{validLevel}
 use Rattle.reduction.specs.Task.{reducedTask, byOriginal}
-use Rattle.reduction.specs.Reduce.{Buffers, withFiles, fileStages}
+use Rattle.reduction.specs.Reduce.{Buffers, withFiles, reduceFileStages}
 use Rattle.reduction.specs.Preserved.{Preserves}
 use Rattle.reduction.proofs.Answers.{stages-fit, buffers-fit}
 use Rattle.reduction.proofs.Preservation.{reduction-preserves, reduction-accepted}
@@ -103,7 +103,7 @@ module _ (task : List ℕ) (signer : ℕ) (b : Lent) (octets : Octets task) (e :
   preserved : Preserves t u (byOriginal t planLevel)
   preserved = reduction-preserves t planLevel accepted
 
-  reduced-done : isDone (outcomeOf (fileStages task planLevel signer (b .buffers))) ≡ true
+  reduced-done : isDone (outcomeOf (reduceFileStages task planLevel signer (b .buffers))) ≡ true
   unfolding validLevel
   reduced-done = is-yes _ (stages-fit task planLevel signer (b .buffers) e refl s (long .buffers))
 
@@ -130,9 +130,9 @@ module _ (task : List ℕ) (signer : ℕ) (b : Lent) (octets : Octets task) (e :
   after-is : planAfter task signer b ≡ lent (withFiles t planLevel signer (b .buffers)) (leftBy search-row (searchBuffers (b .table) (b .plan)) .table) (leftBy search-row (searchBuffers (b .table) (b .plan)) .plan)
   unfolding planStages validLevel
   after-is =
-      left-both (map (beside (λ (x : Buffers). lent x (b .table) (b .plan))) (fileStages task planLevel signer (b .buffers))) _ b (ap isDone (outcome-beside _ (fileStages task planLevel signer (b .buffers))) ∙ reduced-done)
+      left-both (map (beside (λ (x : Buffers). lent x (b .table) (b .plan))) (reduceFileStages task planLevel signer (b .buffers))) _ b (ap isDone (outcome-beside _ (reduceFileStages task planLevel signer (b .buffers))) ∙ reduced-done)
       ∙ ap (leftBy (map (beside besides) search-row))
-      (left-beside (λ (x : Buffers). lent x (b .table) (b .plan)) (fileStages task planLevel signer (b .buffers)) (b .buffers)
+      (left-beside (λ (x : Buffers). lent x (b .table) (b .plan)) (reduceFileStages task planLevel signer (b .buffers)) (b .buffers)
       ∙ ap (λ (x : Buffers). lent x (b .table) (b .plan)) (buffers-fit task planLevel signer (b .buffers) e refl s (long .buffers)))
       ∙ left-beside besides search-row (searchBuffers (b .table) (b .plan))
     where

@@ -30,7 +30,7 @@ use Rattle.plans.specs.Plan.{IsPlan, Total, totalOf}
 use Rattle.marking.specs.Mark.{validLevel}
 use Rattle.reduction.specs.declared.Reduced.{Reduced}
 use Rattle.reduction.specs.Task.{keptActions, keptAt, reducedBy, originBy, reducedTask, originsAt, byOriginal}
-use Rattle.reduction.specs.Reduce.{Buffers, withFiles, reducedFile, originsFile, reduceInput, reduceStages, fileStages, reduceWhole, Reduces}
+use Rattle.reduction.specs.Reduce.{Buffers, withFiles, reducedFile, originsFile, reduceInput, reduceStages, reduceFileStages, reduceWhole, Reduces}
 use Rattle.reduction.specs.Preserved.{FilesPreserve, byOriginFile}
 use Rattle.reduction.proofs.FilesPreserved.{reduction-of-files}
 use Rattle.reduction.proofs.Preservation.{reduction-preserves, reduction-accepted}
@@ -96,7 +96,7 @@ module _ (task : List ℕ) (signer : ℕ) (before : Buffers) (first : Reduced) (
   u = searched task
 
   abbrev files-row : List (Stage Buffers)
-  files-row = fileStages task planLevel signer before
+  files-row = reduceFileStages task planLevel signer before
 
   row-refused : (first .outcome .number ≡ 0 → ⊥) → isDone (outcomeOf files-row) ≡ false
   row-refused d = split (isDone (outcomeOf files-row)) (λ y. absurd (d (ap (λ (x : Reduced). x .outcome .number) (given-whole k y)))) (λ n. n)

@@ -13,7 +13,7 @@ use Rattle.files.specs.PlanFile.{planFile}
 use Rattle.plans.specs.Plan.{totalOf}
 use Rattle.marking.specs.Rounds.{marking}
 use Rattle.reduction.specs.Task.{reducedTask, byOriginal}
-use Rattle.reduction.specs.Reduce.{Buffers, buffers, withFiles, reducedFile, originsFile, fileStages}
+use Rattle.reduction.specs.Reduce.{Buffers, buffers, withFiles, reducedFile, originsFile, reduceFileStages}
 use Rattle.search.specs.States.{stateCount}
 use Rattle.search.specs.Table.{tableOf}
 use Rattle.search.specs.FirstPlan.{firstPlan}
@@ -114,7 +114,7 @@ planWhole task signer =
 -- the stages of reduction at level 4, beside the table and the plan; then those of the search, beside the files
 unfoldable pub planStages : List ℕ → ℕ → Lent → List (Stage Lent)
 planStages task signer b =
-    map (beside (λ (x : Buffers). lent x (b .table) (b .plan))) (fileStages task planLevel signer (b .buffers))
+    map (beside (λ (x : Buffers). lent x (b .table) (b .plan))) (reduceFileStages task planLevel signer (b .buffers))
     ++ map (beside (λ (x : SearchBuffers). lent (withFiles (taskOf task) planLevel signer (b .buffers)) (x .table) (x .plan))) (searchStages (searched task) (planFound task) signer (searchBuffers (b .table) (b .plan)))
 
 -- the planner: what it answers, and what the buffers hold now

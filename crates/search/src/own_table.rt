@@ -3,6 +3,7 @@ ghost use Rattle.reduction.specs.Reduce.{buffers};
 ghost use Rattle.search.specs.Found.{PlansAlone};
 use crate::Planned;
 use crate::stages;
+use crate::states;
 
 // Plans as the planner does, with a table that is long enough for every task.
 pub fn plan(
@@ -25,7 +26,7 @@ pub fn plan(
         reduced,
         origin,
         &mut entries,
-        4096,
+        states::MOST_STATES,
         plan,
     );
     run.planned

@@ -75,11 +75,11 @@ fn search_task(
     ensures { λ r. ⌜ SearchesRoom (held (arrays variables actions (now (sizes .entry)) (now (starts .entry)) (now (goal .entry)) (now (costs .entry)) (now (conditions .entry)) (now (effects .entry)))) (byOriginFile (now (origin .entry))) signer room (now (plan .entry)) r (entriesIn (now (entries .exit)) (r .states)) (now (plan .exit)) ⌝ }
 {
     let count = states::count(sizes, variables);
-    if 4096 < count {
-        return not_found(outcomes::refuse(25, 0), 0);
+    if states::MOST_STATES < count {
+        return not_found(outcomes::refuse(outcomes::TOO_MANY_STATES, 0), 0);
     }
     if room < count {
-        return not_found(outcomes::refuse(21, count), 0);
+        return not_found(outcomes::refuse(outcomes::SHORT_BUFFER, count), 0);
     }
     let start = table::search(
         entries,
@@ -95,11 +95,11 @@ fn search_task(
     );
     let entry = entries::entry_at(entries, start);
     if entries::is_none(entry) {
-        return not_found(outcomes::refuse(24, 0), count);
+        return not_found(outcomes::refuse(outcomes::NO_PLAN, 0), count);
     }
     let needed = files::plan::needed(entry.steps as usize);
     if plan.len() < needed {
-        return not_found(outcomes::refuse(21, needed), count);
+        return not_found(outcomes::refuse(outcomes::SHORT_BUFFER, needed), count);
     }
     first_plan::write_plan(
         plan,

@@ -11,6 +11,9 @@ ghost use Rattle.search.specs.Rows.{rowVariables, rowWeight, Sized, FewS
 use files::bytes;
 use plans::rows;
 
+// The most states that are searched.
+pub const MOST_STATES: usize = 4096;
+
 // The count of states, or a number above 4,096 where they are more than that.
 pub fn count(sizes: &[u8; 64], variables: usize) -> usize
     requires { ⌜ Sized variables (now sizes) ⌝ }
@@ -20,7 +23,7 @@ pub fn count(sizes: &[u8; 64], variables: usize) -> usize
     let mut v: usize = 0;
     while v < variables {
         states = states * bytes::byte_at(sizes, v);
-        if 4096 < states {
+        if MOST_STATES < states {
             return states;
         }
         v += 1;

@@ -9,6 +9,9 @@ use crate::Entry;
 use crate::entries;
 use crate::states;
 use files::bytes;
+use files::limits;
+
+const NO_PAIR: usize = limits::NO_PAIR as usize;
 
 // The values that a variable may have had: from `low` on, below `high`.
 struct Span {
@@ -21,7 +24,7 @@ fn earlier(condition: usize, size: usize) -> Span
     requires { ⌜ CellFor condition size ⌝ }
     ensures { λ r. ⌜ Spanned condition size (r .low) (r .high) ⌝ }
 {
-    if condition == 255 {
+    if condition == NO_PAIR {
         return Span { low: 0, high: size };
     }
     Span {
@@ -34,10 +37,10 @@ fn earlier(condition: usize, size: usize) -> Span
 fn can_have(condition: usize, effect: usize, value: usize) -> bool
     ensures { λ r. ⌜ r ≡ canHave condition effect value ⌝ }
 {
-    if effect != 255 {
+    if effect != NO_PAIR {
         return effect == value;
     }
-    if condition != 255 {
+    if condition != NO_PAIR {
         return condition == value;
     }
     true
@@ -73,7 +76,7 @@ fn next_effect(effects: &[u8; 32768], base: usize, from: usize, variables: usize
 {
     let mut v = from;
     while v < variables {
-        if bytes::byte_at(effects, base + v) != 255 {
+        if bytes::byte_at(effects, base + v) != NO_PAIR {
             return v;
         }
         v += 1;

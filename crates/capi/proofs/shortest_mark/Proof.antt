@@ -1,6 +1,6 @@
 -- The answer of the call, as numbers.
 use borrow.Author.Needs.{needs}
-use mathlib.Core.Path.{ap, _∙_}
+use Rattle.files.proofs.Stages.{by-other}
 use Rattle.capi.specs.Numbers.{markedNumbers}
 use Rattle.capi.proofs.shortest_mark.Statement.{statement}
 use Rattle.capi.proofs.shortest_mark.Tie as tie
@@ -18,9 +18,7 @@ same-length-2 : tie.Need-same-length-2
 same-length-2 c = search needs
 
 returns : tie.Need-returns
-returns c =
-    let said = c .before .before .before .before .before .before .mark .ensures in
-    (c .write-marked .ensures ∙ ap markedNumbers (said .answer), said .buffers)
+returns c = by-other markedNumbers (c .before .before .before .before .before .before .mark .ensures) (c .write-marked .ensures)
 
 pub shortest-mark-spec : {M : Type 1} → statement M
 shortest-mark-spec =

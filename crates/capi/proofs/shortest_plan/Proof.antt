@@ -38,21 +38,22 @@ use denote.Triple.Statement.{Contract, Triple}
 use denote.Triple.Call.{calls-at}
 use denote.Triple.Clauses.{ensured, lasts}
 use denote.Triple.Table.{entered, cited}
-use denote.Triple.Walked.{Stays, stay-dropped, gave-ref, gave-slice, walkOf, goes-dropped, goes-gave-ref, goes-gave-slice, Walks, ends-at, walked, walk-meets}
+use denote.Triple.Walked.{says, Stays, stay-dropped, gave-ref, gave-slice, walkOf, goes-dropped, goes-gave-ref, goes-gave-slice, Walks, ends-at, walked, walk-meets}
 use denote.Exit.{yes}
-use Rattle.reduction.specs.Reduce.{rooms}
+use Rattle.files.proofs.Stages.{by-other}
 use Rattle.search.specs.declared.Entry.{Entry}
 use Rattle.search.specs.declared.Planned.{Planned}
-use Rattle.search.specs.Planner.{PlanRooms, planRooms, planAnswer, plannedActionMarks, plannedFactMarks, plannedReduced, plannedOrigin, plannedTable, plannedPlan, lentOf}
-use Rattle.search.specs.PlannerRight.{PlannerPromise}
+use Rattle.search.specs.Planner.{Lent, lentOf}
+use Rattle.search.specs.PlannerRight.{PlansRight}
 use Rattle.search.proofs.Planned as P₀
 use Rattle.search.proofs.Planned.Laws as P′
 use Rattle.search.proofs.EntrySlices.{R}
-use Rattle.search.proofs.Hand.{told, ref}
+use Rattle.search.proofs.Hand.{ref}
 use Rattle.search.proofs.plan as p
 use Rattle.search.proofs.plan.Symbol as p-def
 use Rattle.search.proofs.plan.Symbol.{name as #search·plan}
 use Rattle.search.proofs.plan.Met as p-thm
+use Rattle.capi.specs.Calls.{PlansNumbers}
 use Rattle.capi.specs.Numbers.{plannedNumbers}
 use Rattle.capi.proofs.numbers.write_planned as w
 use Rattle.capi.proofs.numbers.write_planned.Symbol as w-def
@@ -149,48 +150,29 @@ module _ {M : Type 1} (𝓤 : URA M) (H : Heap 𝓤) (A : Atoms 𝓤) (W : Given
   abbrev Post : Val → SProp 𝓤
   Post = walkOf 𝓤 H A f.ended stayed (f.clauses 𝓤 H A at-mem run) .post ((κs, (q₀, (q₁, (q₂, (q₃, (q₄, (q₅, (q₆, (q₇, tt)))))))), tt, a, at), tt)
 
-  -- the lengths of the buffers, and what is known of the answer and of what each buffer holds at last
-  abbrev Rm : PlanRooms
-  Rm = planRooms (rooms (length xa) (length xf) (length xr) (length xo)) (length ys) (length xp)
+  -- the buffers as they are lent, what the planner promises, and what is promised of the numbers and of what the buffers hold at last
+  abbrev lent-first : Lent
+  lent-first = lentOf xa xf xr xo ys xp
 
-  abbrev Answered : Planned → Type 0
-  Answered r = r ≡ planAnswer tk sg Rm
+  abbrev Promised : Planned → List ℕ → List ℕ → List ℕ → List ℕ → List Entry → List ℕ → Type 0
+  Promised r la lf lr lo lt lp = PlansRight tk sg lent-first r (lentOf la lf lr lo lt lp)
 
-  abbrev OutIs : List ℕ → Type 0
-  OutIs l = l ≡ plannedNumbers (planAnswer tk sg Rm)
-
-  abbrev ActionsAre : List ℕ → Type 0
-  ActionsAre l = l ≡ plannedActionMarks tk sg Rm xa
-
-  abbrev FactsAre : List ℕ → Type 0
-  FactsAre l = l ≡ plannedFactMarks tk sg Rm xf
-
-  abbrev ReducedIs : List ℕ → Type 0
-  ReducedIs l = l ≡ plannedReduced tk sg Rm xr
-
-  abbrev OriginIs : List ℕ → Type 0
-  OriginIs l = l ≡ plannedOrigin tk sg Rm xo
-
-  abbrev TableIs : List Entry → Type 0
-  TableIs l = l ≡ plannedTable tk sg Rm ys
-
-  abbrev PlanIs : List ℕ → Type 0
-  PlanIs l = l ≡ plannedPlan tk sg Rm xp
+  abbrev Handed-out : List ℕ → List ℕ → List ℕ → List ℕ → List Entry → List ℕ → List ℕ → Type 0
+  Handed-out la lf lr lo lt lp lu = PlansNumbers tk sg lent-first lu (lentOf la lf lr lo lt lp)
 
   abbrev Left : List ℕ → List ℕ → List ℕ → List ℕ → List Entry → List ℕ → List ℕ → List (Item 𝓤)
   Left la lf lr lo lt lp lu = ‵ (flft κ₀ q₀) ∷ ‵ (flft κ₁ q₁) ∷ ‵ (flft κ₂ q₂) ∷ ‵ (flft κ₃ q₃) ∷ ‵ (flft κ₄ q₄) ∷ ‵ (flft κ₅ q₅) ∷ ‵ (flft κ₆ q₆) ∷ ‵ (flft κ₇ q₇)
       ∷ ‵ (finally u8 γa la) ∷ ‵ (finally u8 γf lf) ∷ ‵ (finally u8 γr lr) ∷ ‵ (finally u8 γo lo) ∷ ‵ (finally R γt lt) ∷ ‵ (finally u8 γp lp) ∷ ‵ (fres γu (Twelve .coded .code lu)) ∷ []
 
   exits : (la lf lr lo : List ℕ) (lt : List Entry) (lp lu : List ℕ) → length la ≡ length xa → length lf ≡ length xf → length lr ≡ length xr → length lo ≡ length xo → length lt ≡ length ys → length lp ≡ length xp
-      → ActionsAre la → FactsAre lf → ReducedIs lr → OriginIs lo → TableIs lt → PlanIs lp → OutIs lu
+      → Handed-out la lf lr lo lt lp lu
       → ent 𝓤 (⋆ 𝓤 H A (Left la lf lr lo lt lp lu)) (Post vunit)
-  exits la lf lr lo lt lp lu na nf nr no′ nt np ea ef er eo et ep eu =
+  exits la lf lr lo lt lp lu na nf nr no′ nt np given =
       qed W (Left la lf lr lo lt lp lu) ∵
-      suffices ! _ (ends-at 𝓤 H A f.ended stayed (f.clauses 𝓤 H A at-mem run) W ((κs, (q₀, (q₁, (q₂, (q₃, (q₄, (q₅, (q₆, (q₇, tt)))))))), tt, a, at), tt) vunit tt (tt, (tt, (la, (lf, (lr, (lo, (lt, (lp, (lu, tt))))))))) (tt, (tt, (na, (nf, (nr, (no′, (nt, (np, (tt, tt)))))))))) $
-      nothing ! $ move ! (8 ∷ 0 ∷ []) $ join ! $ move ! (7 ∷ 0 ∷ []) $ join ! $ move ! (6 ∷ 0 ∷ []) $ join ! $ move ! (5 ∷ 0 ∷ []) $ join ! $ move ! (4 ∷ 0 ∷ []) $ join ! $ move ! (3 ∷ 0 ∷ []) $ join ! $ move ! (2 ∷ 0 ∷ []) $ join ! $ move ! (1 ∷ 0 ∷ []) $ join ! $
-      nothing ! $ move ! (8 ∷ 0 ∷ []) $ fjoin ! $ move ! (7 ∷ 0 ∷ []) $ fjoin ! $ move ! (6 ∷ 0 ∷ []) $ fjoin ! $ move ! (5 ∷ 0 ∷ []) $ fjoin ! $ move ! (4 ∷ 0 ∷ []) $ fjoin ! $ move ! (3 ∷ 0 ∷ []) $ fjoin ! $ move ! (2 ∷ 0 ∷ []) $ fjoin ! $ nothing ! $ fjoin ! $ nothing ! $ fjoin ! $
-      feqI ! (List Val) (vunit ∷ []) (vunit ∷ []) refl $ move ! (1 ∷ 0 ∷ []) $ join ! $ move ! (1 ∷ 0 ∷ []) $ join ! $ frame ! $
-      told W (PlanIs lp) ep $ told W (TableIs lt) et $ told W (OriginIs lo) eo $ told W (ReducedIs lr) er $ told W (FactsAre lf) ef $ told W (ActionsAre la) ea $ told W (OutIs lu) eu $ done !
+      suffices ! _ (ends-at 𝓤 H A f.ended stayed (f.clauses 𝓤 H A at-mem run) W ((κs, (q₀, (q₁, (q₂, (q₃, (q₄, (q₅, (q₆, (q₇, tt)))))))), tt, a, at), tt) vunit tt (tt, (tt, (la, (lf, (lr, (lo, (lt, (lp, (lu, tt))))))))) (tt, (tt, (na, (nf, (nr, (no′, (nt, (np, (tt, tt)))))))))) $ says ! given $
+      nothing ! $ move ! (8 ∷ 0 ∷ []) $ join ! $ move ! (7 ∷ 0 ∷ []) $ join ! $ move ! (6 ∷ 0 ∷ []) $ join ! $ move ! (5 ∷ 0 ∷ []) $ join ! $ move ! (4 ∷ 0 ∷ []) $ join ! $ move ! (3 ∷ 0 ∷ []) $ join ! $ move ! (2 ∷ 0 ∷ []) $ join ! $ move ! (1 ∷ 0 ∷ []) $ join ! $ frame ! $
+      nothing ! $ move ! (7 ∷ 0 ∷ []) $ fjoin ! $ move ! (6 ∷ 0 ∷ []) $ fjoin ! $ move ! (5 ∷ 0 ∷ []) $ fjoin ! $ move ! (4 ∷ 0 ∷ []) $ fjoin ! $ move ! (3 ∷ 0 ∷ []) $ fjoin ! $ move ! (2 ∷ 0 ∷ []) $ fjoin ! $ move ! (1 ∷ 0 ∷ []) $ fjoin ! $ nothing ! $ fjoin ! $ nothing ! $ fjoin ! $ frame ! $
+      feqI ! (List Val) (vunit ∷ []) (vunit ∷ []) refl $ done !
 
   -- what `search::plan`'s triple binds outside, and that it is had
   abbrev lfts-plan : Lfts 7
@@ -217,7 +199,7 @@ module _ {M : Type 1} (𝓤 : URA M) (H : Heap 𝓤) (A : Atoms 𝓤) (W : Given
 
   -- what its `ensures` says
   abbrev Said : Planned → Last → Item 𝓤
-  Said r zs = raw (fact 𝓤 (Answered r)) ⊛ raw (fact 𝓤 (ActionsAre (actions-of zs))) ⊛ raw (fact 𝓤 (FactsAre (facts-of zs))) ⊛ raw (fact 𝓤 (ReducedIs (reduced-of zs))) ⊛ raw (fact 𝓤 (OriginIs (origin-of zs))) ⊛ raw (fact 𝓤 (TableIs (table-of zs))) ⊛ raw (fact 𝓤 (PlanIs (plan-of zs))) ⊛ raw (fact 𝓤 (PlannerPromise tk sg (lentOf xa xf xr xo ys xp) r (lentOf (actions-of zs) (facts-of zs) (reduced-of zs) (origin-of zs) (table-of zs) (plan-of zs))))
+  Said r zs = raw (fact 𝓤 (Promised r (actions-of zs) (facts-of zs) (reduced-of zs) (origin-of zs) (table-of zs) (plan-of zs)))
 
   -- the same of `write_planned`, on the planner's answer
   abbrev write-args : Planned → Planned × (RefT (List ℕ) × Unit {0})
@@ -255,7 +237,7 @@ module _ {M : Type 1} (𝓤 : URA M) (H : Heap 𝓤) (A : Atoms 𝓤) (W : Given
       calls-at ! fm (Plan 𝓤 H A at-mem run) k-plan to-plan (and-then ! (load ! (from ! (stop !)) (look ! 49 refl)) (and-then ! (load ! (from ! (stop !)) (look ! 47 refl)) (and-then ! (load ! (from ! (stop !)) (look ! 27 refl)) (and-then ! (load ! (from ! (stop !)) (look ! 23 refl)) (and-then ! (load ! (from ! (stop !)) (look ! 19 refl)) (and-then ! (load ! (from ! (stop !)) (look ! 15 refl)) (and-then ! (load ! (from ! (stop !)) (look ! 11 refl)) (and-then ! (load ! (from ! (stop !)) (look ! 7 refl)) (no-more !))))))))) (λ v.
       use1 W (later (some (λ (r : Planned). (Tokens ⊛ ‵ (P .own r (v ∷ []))) ⊛ raw (ensured 𝓤 H A p.ended (p.clauses 𝓤 H A at-mem run) lfts-plan plan-args tt r)))) (id⊢ 𝓤 _) $ await ! tt $ pick ! (λ r. split ! $ move ! (1 ∷ []) $
       -- what the planner says
-      use1 W (some (λ (zs : Last). ‵ (lasts p.ended lfts-plan plan-args zs) ⊛ Said r zs)) (id⊢ 𝓤 _) $ pick ! (λ zs. split ! $ move ! (1 ∷ []) $ split ! $ heard ! (Answered r) (λ answered. split ! $ heard ! (ActionsAre (actions-of zs)) (λ actions-are. split ! $ heard ! (FactsAre (facts-of zs)) (λ facts-are. split ! $ heard ! (ReducedIs (reduced-of zs)) (λ reduced-is. split ! $ heard ! (OriginIs (origin-of zs)) (λ origin-is. split ! $ heard ! (TableIs (table-of zs)) (λ table-is. split ! $ heard ! (PlanIs (plan-of zs)) (λ plan-is. drop ! $
+      use1 W (some (λ (zs : Last). ‵ (lasts p.ended lfts-plan plan-args zs) ⊛ Said r zs)) (id⊢ 𝓤 _) $ pick ! (λ zs. split ! $ move ! (1 ∷ []) $ heard ! (Promised r (actions-of zs) (facts-of zs) (reduced-of zs) (origin-of zs) (table-of zs) (plan-of zs)) (λ promised.
       fsplit ! $ move ! (1 ∷ []) $ fsplit ! $ move ! (2 ∷ []) $ drop ! $ drop ! $ fsplit ! $ fsplit ! $ move ! (1 ∷ []) $ feqL ! (λ len-actions. move ! (1 ∷ []) $ fsplit ! $ fsplit ! $ move ! (1 ∷ []) $ feqL ! (λ len-facts. move ! (1 ∷ []) $ fsplit ! $ fsplit ! $ move ! (1 ∷ []) $ feqL ! (λ len-reduced. move ! (1 ∷ []) $ fsplit ! $ fsplit ! $ move ! (1 ∷ []) $ feqL ! (λ len-origin. move ! (1 ∷ []) $ fsplit ! $ fsplit ! $ move ! (1 ∷ []) $ feqL ! (λ len-table. move ! (1 ∷ []) $ fsplit ! $ fsplit ! $ move ! (1 ∷ []) $ feqL ! (λ len-plan. move ! (1 ∷ []) $ drop ! $
       -- the answer
       move ! (6 ∷ []) $ split ! $ move ! (1 ∷ []) $ facts ! P (Is P) (shows 𝓤 H A P) r (v ∷ []) (λ k.
@@ -271,7 +253,7 @@ module _ {M : Type 1} (𝓤 : URA M) (H : Heap 𝓤) (A : Atoms 𝓤) (W : Given
       assigns ! (of-opd ! (unit-lit !)) (from ! (stop !)) (init ! 63 refl (tt, tt)) $
       returns ! (look ! 63 refl) $ forget ! 63 refl $ forget ! 61 refl $ forget ! 59 refl $ forget ! 57 refl $ forget ! 55 refl $ forget ! 53 refl $ forget ! 51 refl $ forget ! 49 refl $ forget ! 47 refl $ forget ! 45 refl $ forget ! 43 refl $ forget ! 41 refl $ forget ! 39 refl $ forget ! 37 refl $ forget ! 35 refl $ forget ! 33 refl $ forget ! 31 refl $ forget ! 29 refl $ forget ! 27 refl $ forget ! 25 refl $ forget ! 23 refl $ forget ! 21 refl $ forget ! 19 refl $ forget ! 17 refl $ forget ! 15 refl $
       move ! (63 ∷ 64 ∷ []) $ free1 ! $ move ! (61 ∷ 62 ∷ []) $ free1 ! $ move ! (59 ∷ 60 ∷ []) $ free1 ! $ move ! (57 ∷ 58 ∷ []) $ free1 ! $ move ! (55 ∷ 56 ∷ []) $ free1 ! $ move ! (53 ∷ 54 ∷ []) $ free1 ! $ move ! (51 ∷ 52 ∷ []) $ free1 ! $ move ! (49 ∷ 50 ∷ []) $ free1 ! $ move ! (47 ∷ 48 ∷ []) $ free1 ! $ move ! (45 ∷ 46 ∷ []) $ free1 ! $ move ! (43 ∷ 44 ∷ []) $ free1 ! $ move ! (41 ∷ 42 ∷ []) $ free1 ! $ move ! (39 ∷ 40 ∷ []) $ free1 ! $ move ! (37 ∷ 38 ∷ []) $ free1 ! $ move ! (35 ∷ 36 ∷ []) $ free1 ! $ move ! (33 ∷ 34 ∷ []) $ free1 ! $ move ! (31 ∷ 32 ∷ []) $ free1 ! $ move ! (29 ∷ 30 ∷ []) $ free1 ! $ move ! (27 ∷ 28 ∷ []) $ free1 ! $ move ! (25 ∷ 26 ∷ []) $ free1 ! $ move ! (23 ∷ 24 ∷ []) $ free1 ! $ move ! (21 ∷ 22 ∷ []) $ free1 ! $ move ! (19 ∷ 20 ∷ []) $ free1 ! $ move ! (17 ∷ 18 ∷ []) $ free1 ! $ move ! (15 ∷ 16 ∷ []) $ free1 ! $ free0 ! $
-      keep ! (8 ∷ 7 ∷ 6 ∷ 5 ∷ 4 ∷ 3 ∷ 2 ∷ 0 ∷ 14 ∷ 13 ∷ 12 ∷ 11 ∷ 10 ∷ 9 ∷ 1 ∷ []) $ by ! (exits (actions-of zs) (facts-of zs) (reduced-of zs) (origin-of zs) (table-of zs) (plan-of zs) (us .1 .0) len-actions len-facts len-reduced len-origin len-table len-plan actions-are facts-are reduced-is origin-is table-is plan-is (written ∙ ap plannedNumbers answered)))))))))))))))))))))))))))))))))))))))))))))))))
+      keep ! (8 ∷ 7 ∷ 6 ∷ 5 ∷ 4 ∷ 3 ∷ 2 ∷ 0 ∷ 14 ∷ 13 ∷ 12 ∷ 11 ∷ 10 ∷ 9 ∷ 1 ∷ []) $ by ! (exits (actions-of zs) (facts-of zs) (reduced-of zs) (origin-of zs) (table-of zs) (plan-of zs) (us .1 .0) len-actions len-facts len-reduced len-origin len-table len-plan (by-other plannedNumbers (promised .stages) written)))))))))))))))))))))))))))))))))))))))))))
 
 module _ {M : Type 1} (𝓤 : URA M) (H : Heap 𝓤) (A : Atoms 𝓤) (W : Given 𝓤 H A) (mem : Memory → SProp 𝓤) (run : Routine → Fun 𝓤) where
   walks : (𝓣 : Tables 𝓤 H) → Triple 𝓤 (𝓣 .C #search·plan) (Plan 𝓤 H A mem run) → Triple 𝓤 (𝓣 .C #capi·numbers·write-planned) (Write 𝓤 H A mem run)

@@ -1,6 +1,6 @@
 -- The answer of the call, as numbers.
 use borrow.Author.Needs.{needs}
-use mathlib.Core.Path.{ap, _∙_}
+use Rattle.files.proofs.Stages.{by-other}
 use Rattle.capi.specs.Numbers.{reducedNumbers}
 use Rattle.capi.proofs.shortest_reduce.Statement.{statement}
 use Rattle.capi.proofs.shortest_reduce.Tie as tie
@@ -24,9 +24,7 @@ same-length-4 : tie.Need-same-length-4
 same-length-4 c = search needs
 
 returns : tie.Need-returns
-returns c =
-    let said = c .before .before .before .before .before .before .before .before .before .before .reduce .ensures in
-    (c .write-reduced .ensures ∙ ap reducedNumbers (said .0), said .1)
+returns c = by-other reducedNumbers (c .before .before .before .before .before .before .before .before .before .before .reduce .ensures) (c .write-reduced .ensures)
 
 pub shortest-reduce-spec : {M : Type 1} → statement M
 shortest-reduce-spec =
