@@ -15,7 +15,10 @@ fn lesser(entries: &[u64], count: usize, first: usize, second: usize) -> usize
     if first == count {
         return second;
     }
-    if entries::less(entries::entry_at(entries, second), entries::entry_at(entries, first)) {
+    if entries::less(
+        entries::entry_at(entries, second),
+        entries::entry_at(entries, first),
+    ) {
         return second;
     }
     first

@@ -44,22 +44,21 @@ use denote.Triple.Clauses.{ensured, lasts}
 use denote.Triple.Table.{entered, cited}
 use denote.Triple.Walked.{says, Stays, stay-dropped, gave-slice, walkOf, goes-dropped, goes-gave-slice, Walks, ends-at, walked, walk-meets}
 use denote.Exit.{yes}
-use Rattle.files.specs.Outcome.{isDone, overwrite}
-use Rattle.reduction.specs.Reduce.{rooms}
+use Rattle.files.specs.Outcome.{overwrite}
+use Rattle.reduction.specs.Reduce.{buffers}
 use Rattle.search.specs.declared.Entry.{Entry}
 use Rattle.search.specs.declared.stages.Run.{Run}
 use Rattle.search.specs.Entries.{entriesIn}
-use Rattle.search.specs.Planner.{PlanRooms, planRooms, searched, searchStage, planAnswer, plannedActionMarks, plannedFactMarks, plannedReduced, plannedOrigin, plannedTable, plannedPlan, Lent, lentOf}
-use Rattle.search.specs.PlannerRight.{PlannerPromise}
-use Rattle.search.specs.Table.{tableOf}
+use Rattle.search.specs.Planner.{Lent, lentOf, Plans}
+use Rattle.search.specs.PlannerRight.{PlansRight}
+use Rattle.search.specs.Found.{PlansRoom}
 use Rattle.search.proofs.Planned as P₀
 use Rattle.search.proofs.Planned.Laws as P′
 use Rattle.search.proofs.stages.Run as O₀
 use Rattle.search.proofs.stages.Run.Laws as O′
 use Rattle.search.proofs.EntrySlices.{R}
-use Rattle.search.proofs.TableFilling.{filled-planned}
-use Rattle.search.proofs.PlannerRight.{promise-kept}
-use Rattle.search.proofs.Hand.{told, big-lit, ref, lend-array, array-home, lend-array-mut, array-mut-home}
+use Rattle.search.proofs.PlannerRight.{plans-right}
+use Rattle.search.proofs.Hand.{big-lit, ref, lend-array, array-home, lend-array-mut, array-mut-home}
 use Rattle.search.proofs.stages.plan_columns as d
 use Rattle.search.proofs.stages.plan_columns.Symbol as d-def
 use Rattle.search.proofs.stages.plan_columns.Symbol.{name as #search·stages·plan-columns}
@@ -166,52 +165,26 @@ module _ {M : Type 1} (𝓤 : URA M) (H : Heap 𝓤) (A : Atoms 𝓤) (W : Given
   abbrev Post : Val → SProp 𝓤
   Post = walkOf 𝓤 H A f.ended stayed (f.clauses 𝓤 H A at-mem run) .post ((κs, (q₀, (q₁, (q₂, (q₃, (q₄, (q₅, (q₆, tt))))))), tt, a, at), tt)
 
-  -- the lengths of the buffers, and what is known of the answer and of what each holds at last
-  abbrev Rm : PlanRooms
-  Rm = planRooms (rooms (length xa) (length xf) (length xr) (length xo)) (length ys) (length xp)
-
-  abbrev Answered : Run → Type 0
-  Answered r = r .planned ≡ planAnswer tk sg Rm
-
-  abbrev ActionsAre : List ℕ → Type 0
-  ActionsAre l = l ≡ plannedActionMarks tk sg Rm xa
-
-  abbrev FactsAre : List ℕ → Type 0
-  FactsAre l = l ≡ plannedFactMarks tk sg Rm xf
-
-  abbrev ReducedIs : List ℕ → Type 0
-  ReducedIs l = l ≡ plannedReduced tk sg Rm xr
-
-  abbrev OriginIs : List ℕ → Type 0
-  OriginIs l = l ≡ plannedOrigin tk sg Rm xo
-
-  abbrev PlanIs : List ℕ → Type 0
-  PlanIs l = l ≡ plannedPlan tk sg Rm xp
-
-  abbrev TableIs : List Entry → Type 0
-  TableIs l = l ≡ plannedTable tk sg Rm ys
-
-  -- and that it is right
+  -- the buffers as they are lent, and what is promised of the answer and of what they hold at last
   abbrev lent-first : Lent
   lent-first = lentOf xa xf xr xo ys xp
 
-  abbrev Right : Run → List ℕ → List ℕ → List ℕ → List ℕ → List Entry → List ℕ → Type 0
-  Right r la lf lr lo lt lp = PlannerPromise tk sg lent-first (r .planned) (lentOf la lf lr lo lt lp)
+  abbrev Promised : Run → List ℕ → List ℕ → List ℕ → List ℕ → List Entry → List ℕ → Type 0
+  Promised r la lf lr lo lt lp = PlansRight tk sg lent-first (r .planned) (lentOf la lf lr lo lt lp)
 
-  abbrev EntriesAre : Run → List ℕ → Type 0
-  EntriesAre r es = (entriesIn es (r .states) ≡ cond (isDone (searchStage tk sg Rm)) (tableOf (searched tk)) []) × (r .states ≤ length ys) × (r .states ≤ 4096)
+  -- what the stages say
+  abbrev Ran : Run → List ℕ → List ℕ → List ℕ → List ℕ → List ℕ → List ℕ → Type 0
+  Ran r la lf lr lo es lp = PlansRoom tk sg (length ys) (buffers xa xf xr xo) xp r (buffers la lf lr lo) (entriesIn es (r .states)) lp
 
   exits : (r : Run) (la lf lr lo : List ℕ) (lt : List Entry) (lp : List ℕ) → length la ≡ length xa → length lf ≡ length xf → length lr ≡ length xr → length lo ≡ length xo → length lt ≡ length ys → length lp ≡ length xp
-      → Answered r → ActionsAre la → FactsAre lf → ReducedIs lr → OriginIs lo → TableIs lt → PlanIs lp → Is P (r .planned) (P′.lowered (r .planned) ∷ [])
+      → Promised r la lf lr lo lt lp → Is P (r .planned) (P′.lowered (r .planned) ∷ [])
       → ent 𝓤 (⋆ 𝓤 H A (‵ (flft κ₀ q₀) ∷ ‵ (flft κ₁ q₁) ∷ ‵ (flft κ₂ q₂) ∷ ‵ (flft κ₃ q₃) ∷ ‵ (flft κ₄ q₄) ∷ ‵ (flft κ₅ q₅) ∷ ‵ (flft κ₆ q₆) ∷ ‵ (finally u8 γa la) ∷ ‵ (finally u8 γf lf) ∷ ‵ (finally u8 γr lr) ∷ ‵ (finally u8 γo lo) ∷ ‵ (finally R γt lt) ∷ ‵ (finally u8 γp lp) ∷ [])) (Post (P′.lowered (r .planned)))
-  exits r la lf lr lo lt lp na nf nr no′ nt np e ea ef er eo et ep is =
+  exits r la lf lr lo lt lp na nf nr no′ nt np promised is =
       qed W (‵ (flft κ₀ q₀) ∷ ‵ (flft κ₁ q₁) ∷ ‵ (flft κ₂ q₂) ∷ ‵ (flft κ₃ q₃) ∷ ‵ (flft κ₄ q₄) ∷ ‵ (flft κ₅ q₅) ∷ ‵ (flft κ₆ q₆) ∷ ‵ (finally u8 γa la) ∷ ‵ (finally u8 γf lf) ∷ ‵ (finally u8 γr lr) ∷ ‵ (finally u8 γo lo) ∷ ‵ (finally R γt lt) ∷ ‵ (finally u8 γp lp) ∷ []) ∵
-      suffices ! _ (ends-at 𝓤 H A f.ended stayed (f.clauses 𝓤 H A at-mem run) W ((κs, (q₀, (q₁, (q₂, (q₃, (q₄, (q₅, (q₆, tt))))))), tt, a, at), tt) (P′.lowered (r .planned)) (r .planned) (tt, (tt, (la, (lf, (lr, (lo, (lt, (lp, tt)))))))) (tt, (tt, (na, (nf, (nr, (no′, (nt, (np, tt))))))))) $
-      nothing ! $ move ! (7 ∷ 0 ∷ []) $ join ! $ move ! (6 ∷ 0 ∷ []) $ join ! $ move ! (5 ∷ 0 ∷ []) $ join ! $ move ! (4 ∷ 0 ∷ []) $ join ! $ move ! (3 ∷ 0 ∷ []) $ join ! $ move ! (2 ∷ 0 ∷ []) $ join ! $ move ! (1 ∷ 0 ∷ []) $ join ! $
-      nothing ! $ move ! (7 ∷ 0 ∷ []) $ fjoin ! $ move ! (6 ∷ 0 ∷ []) $ fjoin ! $ move ! (5 ∷ 0 ∷ []) $ fjoin ! $ move ! (4 ∷ 0 ∷ []) $ fjoin ! $ move ! (3 ∷ 0 ∷ []) $ fjoin ! $ move ! (2 ∷ 0 ∷ []) $ fjoin ! $ nothing ! $ fjoin ! $ nothing ! $ fjoin ! $
-      owned ! P (Is P) (LL.makes P₀.the-type P′.the-plain 𝓤 H A) (r .planned) (P′.lowered (r .planned) ∷ []) is $ move ! (1 ∷ 0 ∷ []) $ join ! $ move ! (1 ∷ 0 ∷ []) $ join ! $ frame ! $
-      told W (Right r la lf lr lo lt lp) (promise-kept tk sg lent-first (r .planned) (lentOf la lf lr lo lt lp) e (λ i. lentOf (ea i) (ef i) (er i) (eo i) (et i) (ep i))) $
-      told W (PlanIs lp) ep $ told W (TableIs lt) et $ told W (OriginIs lo) eo $ told W (ReducedIs lr) er $ told W (FactsAre lf) ef $ told W (ActionsAre la) ea $ told W (Answered r) e $ done !
+      suffices ! _ (ends-at 𝓤 H A f.ended stayed (f.clauses 𝓤 H A at-mem run) W ((κs, (q₀, (q₁, (q₂, (q₃, (q₄, (q₅, (q₆, tt))))))), tt, a, at), tt) (P′.lowered (r .planned)) (r .planned) (tt, (tt, (la, (lf, (lr, (lo, (lt, (lp, tt)))))))) (tt, (tt, (na, (nf, (nr, (no′, (nt, (np, tt))))))))) $ says ! promised $
+      nothing ! $ move ! (7 ∷ 0 ∷ []) $ join ! $ move ! (6 ∷ 0 ∷ []) $ join ! $ move ! (5 ∷ 0 ∷ []) $ join ! $ move ! (4 ∷ 0 ∷ []) $ join ! $ move ! (3 ∷ 0 ∷ []) $ join ! $ move ! (2 ∷ 0 ∷ []) $ join ! $ move ! (1 ∷ 0 ∷ []) $ join ! $ frame ! $
+      nothing ! $ move ! (6 ∷ 0 ∷ []) $ fjoin ! $ move ! (5 ∷ 0 ∷ []) $ fjoin ! $ move ! (4 ∷ 0 ∷ []) $ fjoin ! $ move ! (3 ∷ 0 ∷ []) $ fjoin ! $ move ! (2 ∷ 0 ∷ []) $ fjoin ! $ move ! (1 ∷ 0 ∷ []) $ fjoin ! $ nothing ! $ fjoin ! $ nothing ! $ fjoin ! $ frame ! $
+      owned ! P (Is P) (LL.makes P₀.the-type P′.the-plain 𝓤 H A) (r .planned) (P′.lowered (r .planned) ∷ []) is $ done !
 
   -- what `plan_columns`'s triple binds outside, and that it is had
   abbrev lfts-columns : ℕ → Lfts 7
@@ -239,7 +212,7 @@ module _ {M : Type 1} (𝓤 : URA M) (H : Heap 𝓤) (A : Atoms 𝓤) (W : Given
 
   -- what its `ensures` says
   abbrev Said : Run → Last → Item 𝓤
-  Said r zs = raw (fact 𝓤 (Answered r)) ⊛ raw (fact 𝓤 (ActionsAre (actions-of zs))) ⊛ raw (fact 𝓤 (FactsAre (facts-of zs))) ⊛ raw (fact 𝓤 (ReducedIs (reduced-of zs))) ⊛ raw (fact 𝓤 (OriginIs (origin-of zs))) ⊛ raw (fact 𝓤 (PlanIs (plan-of zs))) ⊛ raw (fact 𝓤 (EntriesAre r (entries-of zs)))
+  Said r zs = raw (fact 𝓤 (Ran r (actions-of zs) (facts-of zs) (reduced-of zs) (origin-of zs) (entries-of zs) (plan-of zs)))
 
   -- and the same for `fill`
   abbrev filled : List ℕ → ℕ → List Entry
@@ -290,7 +263,7 @@ module _ {M : Type 1} (𝓤 : URA M) (H : Heap 𝓤) (A : Atoms 𝓤) (W : Given
       calls-at ! fm (Columns 𝓤 H A at-mem run) k-columns (to-columns ν δ l₉) (and-then ! (load ! (from ! (stop !)) (look ! 59 refl)) (and-then ! (load ! (from ! (stop !)) (look ! 57 refl)) (and-then ! (load ! (from ! (stop !)) (look ! 34 refl)) (and-then ! (load ! (from ! (stop !)) (look ! 30 refl)) (and-then ! (load ! (from ! (stop !)) (look ! 26 refl)) (and-then ! (load ! (from ! (stop !)) (look ! 22 refl)) (and-then ! (load ! (from ! (stop !)) (look ! 18 refl)) (and-then ! (load ! (from ! (stop !)) (look ! 42 refl)) (and-then ! (load ! (from ! (stop !)) (look ! 14 refl)) (no-more !)))))))))) (λ w.
       use1 W (later (some (λ (r : Run). (Tokens ν ⊛ ‵ (O .own r (w ∷ []))) ⊛ raw (ensured 𝓤 H A d.ended (d.clauses 𝓤 H A at-mem run) (lfts-columns ν) (columns-args δ l₉) tt r)))) (id⊢ 𝓤 _) $ await ! tt $ pick ! (λ r. split ! $ move ! (1 ∷ []) $
       -- what they say
-      use1 W (some (λ (zs : Last). ‵ (lasts d.ended (lfts-columns ν) (columns-args δ l₉) zs) ⊛ Said r zs)) (id⊢ 𝓤 _) $ pick ! (λ zs. split ! $ move ! (1 ∷ []) $ split ! $ heard ! (Answered r) (λ answered. split ! $ heard ! (ActionsAre (actions-of zs)) (λ actions-are. split ! $ heard ! (FactsAre (facts-of zs)) (λ facts-are. split ! $ heard ! (ReducedIs (reduced-of zs)) (λ reduced-is. split ! $ heard ! (OriginIs (origin-of zs)) (λ origin-is. split ! $ heard ! (PlanIs (plan-of zs)) (λ plan-is. heard ! (EntriesAre r (entries-of zs)) (λ entries-are.
+      use1 W (some (λ (zs : Last). ‵ (lasts d.ended (lfts-columns ν) (columns-args δ l₉) zs) ⊛ Said r zs)) (id⊢ 𝓤 _) $ pick ! (λ zs. split ! $ move ! (1 ∷ []) $ heard ! (Ran r (actions-of zs) (facts-of zs) (reduced-of zs) (origin-of zs) (entries-of zs) (plan-of zs)) (λ ran.
       fsplit ! $ move ! (1 ∷ []) $ fsplit ! $ move ! (2 ∷ []) $ drop ! $ drop ! $ fsplit ! $ fsplit ! $ move ! (1 ∷ []) $ feqL ! (λ len-actions. move ! (1 ∷ []) $ fsplit ! $ fsplit ! $ move ! (1 ∷ []) $ feqL ! (λ len-facts. move ! (1 ∷ []) $ fsplit ! $ fsplit ! $ move ! (1 ∷ []) $ feqL ! (λ len-reduced. move ! (1 ∷ []) $ fsplit ! $ fsplit ! $ move ! (1 ∷ []) $ feqL ! (λ len-origin. move ! (1 ∷ []) $ fsplit ! $ fsplit ! $ move ! (1 ∷ []) $ feqL ! (λ _. move ! (1 ∷ []) $ fsplit ! $ drop ! $ fsplit ! $ fsplit ! $ move ! (1 ∷ []) $ feqL ! (λ len-plan. move ! (1 ∷ []) $ drop ! $
       move ! (6 ∷ []) $ split ! $ move ! (1 ∷ []) $ facts ! O (Is O) (shows 𝓤 H A O) r (w ∷ []) (λ k.
       land ! (from ! (stop !)) (init ! 46 refl (LL.lawful O₀.the-type O′.the-laws 𝓤 H A W .typed r (w ∷ []) k .0)) $ rewrite ! 46 (λ (u : Val). ‵ (fat fullShare O′.mir l₁₁ 0 u)) (ap only (O′.lowers .val-is r (w ∷ []) k)) refl $
@@ -298,11 +271,11 @@ module _ {M : Type 1} (𝓤 : URA M) (H : Heap 𝓤) (A : Atoms 𝓤) (W : Given
       -- the array comes back
       move ! (1 ∷ 13 ∷ 8 ∷ []) $ array-mut-home ! tt u64 (uint-vals w64) (uint-tells w64) 8192 (entries-of zs) l₉ (λ u₉ _.
       -- the table is filled
-      assigns ! (of-opd ! (load ! (from ! (fld ! refl (stop !))) (look-in ! 51 (sub ! 1 refl (whole !))))) (from ! (stop !)) (init ! 49 refl (tt, record { fits = small (entries-are .2) })) $
+      assigns ! (of-opd ! (load ! (from ! (fld ! refl (stop !))) (look-in ! 51 (sub ! 1 refl (whole !))))) (from ! (stop !)) (init ! 49 refl (tt, record { fits = small (ran .states-few) })) $
       assigns ! (addr ! (from ! (fld ! refl (hop ! (look-in ! 58 (sub ! 0 refl (whole !))) (stop !))))) (from ! (stop !)) (init ! 21 refl (tt, tt)) $ assigns ! (agg ! (and-then ! (load ! (from ! (stop !)) (look ! 21 refl)) (and-then ! (load ! (from ! (fld ! refl (stop !))) (look-in ! 58 (sub ! 1 refl (whole !)))) (no-more !)))) (from ! (stop !)) (init ! 19 refl (tt, (tt, (record { fits = gt .0 }, tt)))) $
       assigns ! (addr ! (from ! (stop !))) (from ! (stop !)) (init ! 17 refl (tt, tt)) $ assigns ! (agg ! (and-then ! (load ! (from ! (stop !)) (look ! 17 refl)) (and-then ! (big-lit ! (record { fits = lit< tt })) (no-more !)))) (from ! (stop !)) (init ! 15 refl (tt, (tt, (record { fits = lit< tt }, tt)))) $
       lend-array ! tt u64 tt (named 1) 8192 (entries-of zs) u₉ l₉ room64 (λ μ ε same.
-      move ! (14 ∷ 0 ∷ 15 ∷ 1 ∷ []) $ cut (Filling (entries-of zs) (r .states) μ ε l₉) (raw (Fill 𝓤 H A at-mem run .pre (to-fill (entries-of zs) (r .states) μ ε l₉)) ∷ []) _ (goes-fill (entries-of zs) (r .states) μ ε l₉ (entries-are .1) (entries-are .2) same) $
+      move ! (14 ∷ 0 ∷ 15 ∷ 1 ∷ []) $ cut (Filling (entries-of zs) (r .states) μ ε l₉) (raw (Fill 𝓤 H A at-mem run .pre (to-fill (entries-of zs) (r .states) μ ε l₉)) ∷ []) _ (goes-fill (entries-of zs) (r .states) μ ε l₉ (ran .states-inside) (ran .states-few) same) $
       calls-at ! fm (Fill 𝓤 H A at-mem run) k-fill (to-fill (entries-of zs) (r .states) μ ε l₉) (and-then ! (load ! (from ! (stop !)) (look ! 17 refl)) (and-then ! (load ! (from ! (stop !)) (look ! 13 refl)) (and-then ! (load ! (from ! (stop !)) (look ! 47 refl)) (no-more !)))) (λ w′.
       use1 W (later (some (λ (r′ : Unit {0}). ((‵ (flft κ₅ q₅) ⊛ ‵ (flft (μ ∷ []) fullShare) ⊛ ‵ ftrue) ⊛ ‵ (Nothing .own r′ (w′ ∷ []))) ⊛ raw (ensured 𝓤 H A g.ended (g.clauses 𝓤 H A at-mem run) (lfts-fill μ) (fill-args (entries-of zs) (r .states) ε l₉) tt r′)))) (id⊢ 𝓤 _) $ await ! tt $ pick ! (λ r′. split ! $ move ! (1 ∷ []) $
       use1 W (some (λ (ts : List Entry × (Unit {0} × (Unit {0} × Unit {0}))). ‵ (lasts g.ended (lfts-fill μ) (fill-args (entries-of zs) (r .states) ε l₉) ts) ⊛ raw (fact 𝓤 (ts .0 ≡ filled (entries-of zs) (r .states))))) (id⊢ 𝓤 _) $ pick ! (λ ts. split ! $ move ! (1 ∷ []) $ heard ! (ts .0 ≡ filled (entries-of zs) (r .states)) (λ is. fsplit ! $ fsplit ! $ move ! (1 ∷ []) $ feqL ! (λ len-table. move ! (1 ∷ []) $ drop ! $ move ! (1 ∷ []) $ split ! $ move ! (1 ∷ []) $ feqL ! (λ u.
@@ -312,7 +285,7 @@ module _ {M : Type 1} (𝓤 : URA M) (H : Heap 𝓤) (A : Atoms 𝓤) (W : Given
       assigns ! (of-opd ! (load ! (from ! (fld ! refl (stop !))) (look-in ! 50 (sub ! 0 refl (whole !))))) (from ! (stop !)) (init ! 71 refl (LL.lawful P₀.the-type P′.the-laws 𝓤 H A W .typed (r .planned) (P′.lowered (r .planned) ∷ []) (planned-is r (w ∷ []) k) .0)) $
       returns ! (look ! 71 refl) $ forget ! 71 refl $ forget ! 69 refl $ forget ! 67 refl $ forget ! 65 refl $ forget ! 63 refl $ forget ! 61 refl $ forget ! 59 refl $ forget ! 57 refl $ forget ! 55 refl $ forget ! 52 refl $ forget ! 50 refl $ forget ! 48 refl $ forget ! 46 refl $ forget ! 44 refl $ forget ! 42 refl $ forget ! 40 refl $ forget ! 38 refl $ forget ! 36 refl $ forget ! 34 refl $ forget ! 32 refl $ forget ! 30 refl $ forget ! 28 refl $ forget ! 26 refl $ forget ! 24 refl $ forget ! 22 refl $ forget ! 20 refl $ forget ! 18 refl $ forget ! 16 refl $ forget ! 14 refl $
       move ! (71 ∷ 72 ∷ []) $ free1 ! $ move ! (69 ∷ 70 ∷ []) $ free1 ! $ move ! (67 ∷ 68 ∷ []) $ free1 ! $ move ! (65 ∷ 66 ∷ []) $ free1 ! $ move ! (63 ∷ 64 ∷ []) $ free1 ! $ move ! (61 ∷ 62 ∷ []) $ free1 ! $ move ! (59 ∷ 60 ∷ []) $ free1 ! $ move ! (57 ∷ 58 ∷ []) $ free1 ! $ move ! (55 ∷ 56 ∷ []) $ free1 ! $ move ! (0 ∷ 54 ∷ []) $ free1 ! $ move ! (51 ∷ 52 ∷ []) $ free1 ! $ move ! (49 ∷ 50 ∷ []) $ free1 ! $ move ! (47 ∷ 48 ∷ []) $ free1 ! $ move ! (45 ∷ 46 ∷ []) $ free1 ! $ move ! (43 ∷ 44 ∷ []) $ free1 ! $ move ! (41 ∷ 42 ∷ []) $ free1 ! $ move ! (39 ∷ 40 ∷ []) $ free1 ! $ move ! (37 ∷ 38 ∷ []) $ free1 ! $ move ! (35 ∷ 36 ∷ []) $ free1 ! $ move ! (33 ∷ 34 ∷ []) $ free1 ! $ move ! (31 ∷ 32 ∷ []) $ free1 ! $ move ! (29 ∷ 30 ∷ []) $ free1 ! $ move ! (27 ∷ 28 ∷ []) $ free1 ! $ move ! (25 ∷ 26 ∷ []) $ free1 ! $ move ! (23 ∷ 24 ∷ []) $ free1 ! $ move ! (21 ∷ 22 ∷ []) $ free1 ! $ move ! (19 ∷ 20 ∷ []) $ free1 ! $ move ! (17 ∷ 18 ∷ []) $ free1 ! $ move ! (15 ∷ 16 ∷ []) $ free1 ! $ move ! (13 ∷ 14 ∷ []) $ free1 ! $ free0 ! $
-      keep ! (7 ∷ 6 ∷ 5 ∷ 4 ∷ 3 ∷ 0 ∷ 2 ∷ 12 ∷ 11 ∷ 10 ∷ 9 ∷ 1 ∷ 8 ∷ []) $ by ! (exits r (actions-of zs) (facts-of zs) (reduced-of zs) (origin-of zs) (ts .0) (plan-of zs) len-actions len-facts len-reduced len-origin len-table len-plan answered actions-are facts-are reduced-is origin-is (is ∙ filled-planned tk sg Rm ys (entriesIn (entries-of zs) (r .states)) (entries-are .0)) plan-is (planned-is r (w ∷ []) k)))))))))))))))))))))))))))))))))))))))))))))))))))))))))))
+      keep ! (7 ∷ 6 ∷ 5 ∷ 4 ∷ 3 ∷ 0 ∷ 2 ∷ 12 ∷ 11 ∷ 10 ∷ 9 ∷ 1 ∷ 8 ∷ []) $ by ! (exits r (actions-of zs) (facts-of zs) (reduced-of zs) (origin-of zs) (ts .0) (plan-of zs) len-actions len-facts len-reduced len-origin len-table len-plan (plans-right tk sg lent-first (r .planned) _ (subst (λ (l : List Entry). Plans tk sg lent-first (r .planned) (lentOf (actions-of zs) (facts-of zs) (reduced-of zs) (origin-of zs) l (plan-of zs))) (sym is) (ran .plans ys refl))) (planned-is r (w ∷ []) k)))))))))))))))))))))))))))))))))))))))))))))))))))))
 
 module _ {M : Type 1} (𝓤 : URA M) (H : Heap 𝓤) (A : Atoms 𝓤) (W : Given 𝓤 H A) (mem : Memory → SProp 𝓤) (run : Routine → Fun 𝓤) where
   walks : (𝓣 : Tables 𝓤 H) → Triple 𝓤 (𝓣 .C #search·stages·plan-columns) (Columns 𝓤 H A mem run) → Triple 𝓤 (𝓣 .C #search·work-table·fill) (Fill 𝓤 H A mem run)
