@@ -6,7 +6,7 @@ use mathlib.Core.List.{List, [], _∷_, _++_, map}
 use lib.Dec.{leb}
 use borrow.Author.Tests.{le-leb}
 use Rattle.files.specs.declared.Outcome.{Outcome}
-use Rattle.files.specs.Outcome.{done, refusal, isDone, andThen, fits, overwrite, after}
+use Rattle.files.specs.Outcome.{done, refusal, isDone, andThen, fits}
 use Rattle.files.specs.Stages.{Stage, stage, beside, outcomeOf, leftBy, ByStages}
 use Rattle.files.proofs.Guards.{goes-le, stops-le, guard-passes, is-done}
 use Rattle.files.proofs.Logic.{split, clash}
@@ -44,14 +44,6 @@ both-yes a b e = rw e refl
 pub both-no : (a b : Outcome) → isDone a ≡ false → andThen a b ≡ a
 unfolding andThen
 both-no a b e = rw e refl
-
-pub after-yes : {A : Type 0} (o : Outcome) (new old : List A) → isDone o ≡ true → after o new old ≡ overwrite old new
-unfolding after
-after-yes o new old e = rw e refl
-
-pub after-no : {A : Type 0} (o : Outcome) (new old : List A) → isDone o ≡ false → after o new old ≡ old
-unfolding after
-after-no o new old e = rw e refl
 
 -- a last stage that is `done` itself where it is done
 pub both-last : (a : Outcome) → (isDone a ≡ true → a ≡ done) → andThen a done ≡ a

@@ -1,4 +1,4 @@
--- Tests, counts and lists over the numbers below a bound and over the cells of a list.
+-- Tests, counts, sums and lists over the numbers below a bound and over the cells of a list.
 use mathlib.Core.Bool.{Bool, true, false, cond, _&&_, _||_}
 use mathlib.Core.List.{List, [], _∷_, _++_}
 use Prim.Native.Nat.{ℕ, zero, suc, _+_}

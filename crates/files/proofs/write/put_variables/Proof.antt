@@ -1,6 +1,6 @@
 -- The loop's invariant: the records left, placed behind those that stand, make all the records.
-use Prim.Native.Nat.{_+_, _*_}
-use mathlib.Core.Path.{_≡_, refl, _∙_}
+use Prim.Native.Nat.{ℕ, _+_, _*_}
+use mathlib.Core.Path.{_≡_, refl, ap₂, _∙_}
 use mathlib.Core.List.{_++_}
 use native.Mathlib.Omega.{arith}
 use lib.ListN.{length}
@@ -56,7 +56,7 @@ loop-again c =
     let args = c .before .before .before .before .before .before .before .before .before .before .before .args in
     let loop = c .before .before .before .before .before .before .before .loop in (
       placed-next variableBytes (rowVariable (now (args .sizes)) (now (args .starts))) (loop .buffer) (loop .at) (loop .v) (loop .left) (λ (v : Variable). recordBytes 2 (u16Bytes (v .size) ++ u16Bytes (v .start))) _ _ (c .before .before .before .before .before .before .loop-test .taken) refl
-          (cc) refl
+          (c .before .before .put-variable .ensures ∙ ap₂ (λ (x y : ℕ). placed (loop .buffer) (loop .at) (recordBytes 2 (u16Bytes x ++ u16Bytes y))) (c .before .before .before .before .byte-at .ensures .is) (c .before .before .before .byte-at2 .ensures .is)) refl
           ∙ loop .inv .0,
       omega arith,
       omega arith,

@@ -1,6 +1,6 @@
 -- The loop's invariant: the numbers left, placed behind those that stand, make all the numbers.
 use Prim.Native.Nat.{ℕ, _+_, _*_}
-use mathlib.Core.Path.{_≡_, refl, _∙_}
+use mathlib.Core.Path.{_≡_, refl, sym, ap, _∙_}
 use native.Mathlib.Nat.{zero-add}
 use native.Mathlib.Omega.{arith}
 use lib.ListN.{length, getD}
@@ -58,7 +58,7 @@ loop-again c =
     let args = c .before .before .before .before .before .before .before .before .before .args in
     let loop = c .before .before .before .before .before .before .loop in (
       placed-next numberBytes (λ (j : ℕ). getD (now (args .originals)) (0 + j) 0) (loop .buffer) (loop .place) (loop .i) (loop .left) u16Bytes _ _ (c .before .before .before .before .before .loop-test .taken) refl
-          (cc (zero-add (loop .i))) refl
+          (c .before .before .put-u16 .ensures ∙ ap (λ (n : ℕ). placed (loop .buffer) (loop .place) (u16Bytes (getD (now (args .originals)) n 0))) (sym (zero-add (loop .i)))) refl
           ∙ loop .inv .0,
       omega arith,
       omega arith,
