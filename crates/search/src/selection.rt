@@ -1,6 +1,5 @@
 // The state to settle next. The least state of each block of 64 states is remembered, and found anew
 // where the block has changed.
-ghost use Prim.Native.Nat.{_+_, _*_, _<_, _≤_};
 ghost use Rattle.search.specs.Settling.{Picked, TwoStates, Lesser, BestSoFar, Better, Stretch, Block, BlockEnd, Blocks, BlockOf, Refreshed, Selected};
 use crate::entries;
 
@@ -15,7 +14,10 @@ fn lesser(entries: &[u64], count: usize, first: usize, second: usize) -> usize
     if first == count {
         return second;
     }
-    if entries::less(entries::entry_at(entries, second), entries::entry_at(entries, first)) {
+    if entries::less(
+        entries::entry_at(entries, second),
+        entries::entry_at(entries, first),
+    ) {
         return second;
     }
     first

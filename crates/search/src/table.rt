@@ -13,13 +13,7 @@ use crate::states;
 use crate::steps_to;
 
 // The entries before any step: nothing where the goal holds, none elsewhere.
-fn begin(
-    entries: &mut [u64],
-    sizes: &[u8; 64],
-    goal: &[u8; 64],
-    variables: usize,
-    count: usize,
-)
+fn begin(entries: &mut [u64], sizes: &[u8; 64], goal: &[u8; 64], variables: usize, count: usize)
     requires { ⌜ CanBegin variables count (now sizes) (now entries) ⌝ }
     ensures { λ r. ⌜ ((starts : List ℕ) (s : ℕ) → s < count → entryIn (now (entries .exit)) s ≡ firstEntry (allHold (rowPairs (now (goal .entry)) 0 0 variables) (stateAt (rowVariables variables (now (sizes .entry)) starts) s))) ⌝ }
 {
