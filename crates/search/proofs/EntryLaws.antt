@@ -3,7 +3,7 @@ use Prim.Native.Nat.{ℕ, suc, _+_, _*_, _%_, _≤_, _<_}
 use mathlib.Core.Path.{_≡_, refl, sym, ap, ap₂, _∙_}
 use mathlib.Core.Bool.{Bool, true, false, not, cond}
 use mathlib.Core.List.{List}
-use mathlib.Core.Logic.{_⊎_, inl, inr, ⊎-elim}
+use mathlib.Core.Logic.{_⊎_, inl, inr}
 use mathlib.Core.Option.{none, some}
 use native.Mathlib.Omega.{arith}
 use lib.Dec.{eqb, ltb}
@@ -13,7 +13,6 @@ use borrow.Author.Tests.{lt-ltb, le-ltb, le-leb, lt-leb, eq-eqb, ne-eqb, eqb-tru
 use Rattle.files.specs.Task.{Action}
 use Rattle.files.proofs.Logic.{clash, split, split-le, split-option}
 use Rattle.plans.specs.Plan.{Total, noSteps, addStep, atMost}
-use Rattle.plans.proofs.OrderLaws.{atMost-says}
 use Rattle.search.specs.Table.{Distance, less, least, same, stepTo, entry, entryOf}
 use Rattle.search.specs.Entries.{noEntry, isNone, firstEntry, entryTotal, lessEntry, sameEntry, lowered, afterStep, Low, Holds, entryIn, Put}
 use Rattle.search.specs.Rows.{Offered}

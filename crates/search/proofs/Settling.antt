@@ -24,7 +24,7 @@ use Rattle.search.proofs.Distances.{step-total, total-none}
 abbrev pub Leads : Task → ℕ → ℕ → ℕ → Type 0
 Leads t a n u = (applicable (actionOf t a) (stateAt (t .variables) n) ≡ true) × (nextState t a n ≡ u)
 
--- f is what the columns have; D says which states are settled
+-- f is what the entries say; D says which states are settled
 pub record Going (t : Task) (f : ℕ → Distance) (D : ℕ → Bool) : Type 0 where
   pub sound : (n : ℕ) → n < stateCount (t .variables) → Attained t n (f n)
   pub goals : (n : ℕ) → n < stateCount (t .variables) → allHold (t .goal) (stateAt (t .variables) n) ≡ true → f n ≡ some noSteps

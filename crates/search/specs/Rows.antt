@@ -14,7 +14,7 @@ use Rattle.files.specs.Task.{Variable, Action, Task, actionOf}
 use Rattle.plans.specs.State.{State, applicable, apply}
 use Rattle.plans.specs.Tally.{listState, meetsCell}
 use Rattle.search.specs.States.{stateCount, stateNumber, stateAt}
-use Rattle.search.specs.Table.{entryOf, distances, same, through, tableOf}
+use Rattle.search.specs.Table.{entryOf, distances, tableOf}
 use Rattle.search.specs.FirstPlan.{firstAction, startNumber}
 use Rattle.search.specs.Entries.{isNone, lowered, afterStep, Low, Holds, entryIn, entriesIn, Bounded}
 use Rattle.search.specs.Settling.{Unchanged}

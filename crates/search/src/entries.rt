@@ -1,12 +1,9 @@
 // Entries: their order, one step more, none; and the entries of the states in a slice of numbers, two
 // a state, which is read and written here alone.
 ghost use mathlib.Core.Path.{_≡_};
-ghost use mathlib.Core.Option.{some};
-ghost use Prim.Native.Nat.{ℕ, _+_, _≤_};
+ghost use Prim.Native.Nat.{ℕ, _+_};
 ghost use lib.Dec.{eqb};
 ghost use Rattle.files.specs.Task.{Action};
-ghost use Rattle.plans.specs.Plan.{noSteps};
-ghost use Rattle.search.specs.Table.{entryOf};
 ghost use Rattle.search.specs.Entries.{noEntry, isNone, firstEntry, lessEntry, sameEntry, afterStep, StepOn, Holds, entryIn, Put};
 ghost use Rattle.search.specs.Settling.{CanLower};
 ghost use Rattle.search.specs.Rows.{Offers};

@@ -1,6 +1,5 @@
 // The state to settle next. The least state of each block of 64 states is remembered, and found anew
 // where the block has changed.
-ghost use Prim.Native.Nat.{_+_, _*_, _<_, _≤_};
 ghost use Rattle.search.specs.Settling.{Picked, TwoStates, Lesser, BestSoFar, Better, Stretch, Block, BlockEnd, Blocks, BlockOf, Refreshed, Selected};
 use crate::entries;
 

@@ -2,7 +2,7 @@
 // with a step more.
 ghost use mathlib.Core.Path.{_≡_};
 ghost use mathlib.Core.List.{List};
-ghost use Prim.Native.Nat.{ℕ, _*_};
+ghost use Prim.Native.Nat.{ℕ};
 ghost use Rattle.plans.specs.Tally.{listState};
 ghost use Rattle.search.specs.Rows.{rowStates, canHave, canReach, CellFor, Spanned, RowAt, NextEffect, Offers, comesBefore, leadsFrom, OfferFrom, ActionOffer, CanSettle, StepsOffered};
 use crate::Entry;
