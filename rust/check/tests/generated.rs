@@ -3,7 +3,8 @@
 
 use std::collections::BTreeSet;
 
-use shortest_check::answers::{Entry, Outcome, Planned};
+use shortest::lent::Answer as Numbers;
+use shortest::{Entry, Outcome};
 use shortest_check::reference::files::{read_origin, read_plan, read_task, Fact, Task};
 use shortest_check::reference::generate::{self, origin_file, plan_file, task_file, Random};
 use shortest_check::reference::plans::{holds, start, step, State};
@@ -34,7 +35,7 @@ fn for_all(mut check: impl FnMut(&Task)) {
 }
 
 struct Answer {
-    planned: Planned,
+    planned: Numbers,
     action_marks: Vec<u8>,
     reduced: Vec<u8>,
     origin: Vec<u8>,
@@ -44,7 +45,7 @@ struct Answer {
 
 fn planned(task: &Task, signer: u32) -> Answer {
     let mut answer = Answer {
-        planned: Planned::default(),
+        planned: Numbers::default(),
         action_marks: vec![9; task.actions.len()],
         reduced: vec![9; 65_536],
         origin: vec![9; 6_000],
@@ -372,11 +373,8 @@ fn small_tasks_are_planned_as_by_enumeration() {
         let best = table_by_rounds(&task)[state_number(&task, &start(&task))];
         if best == Entry::NONE {
             none += 1;
-            let refused = Planned {
-                outcome: Outcome::refused(24, 0),
-                ..Planned::default()
-            };
-            assert_eq!(answer.planned, refused);
+            let refused = Outcome::refused(24, 0);
+            assert_eq!(answer.planned, Numbers::from(refused));
             continue;
         }
         assert_eq!(answer.planned.outcome, Outcome::DONE);

@@ -5,8 +5,11 @@ pub mod cases;
 
 use std::collections::BTreeMap;
 
-use crate::answers::{Entry, Mark, Outcome, Plan, Reduce};
-use crate::{library, reference};
+use shortest::lent::{self as library, Answer};
+use shortest::{Entry, Outcome};
+
+use crate::buffers::{Mark, Plan, Reduce};
+use crate::reference;
 
 /// Lengths lent: action marks, fact marks, reduced, origin, table, plan. A
 /// call takes as many of the first as it has buffers.
@@ -23,17 +26,17 @@ pub struct Comparison {
 
 impl Comparison {
     pub fn check_task(&mut self, file: &[u8]) {
-        let expected = reference::check_task(file);
+        let expected = Answer::from(reference::check_task(file));
         let found = library::check_task(file);
-        self.count("check_task", expected, expected == found, || {
+        self.count("check_task", expected.outcome, expected == found, || {
             format!("{expected:?}\n{found:?}\n{}", hex(file))
         });
     }
 
     pub fn check_origin(&mut self, file: &[u8]) {
-        let expected = reference::check_origin(file);
+        let expected = Answer::from(reference::check_origin(file));
         let found = library::check_origin(file);
-        self.count("check_origin", expected, expected == found, || {
+        self.count("check_origin", expected.outcome, expected == found, || {
             format!("{expected:?}\n{found:?}\n{}", hex(file))
         });
     }

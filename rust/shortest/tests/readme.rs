@@ -2,14 +2,16 @@
 
 use std::fs::File;
 use std::path::{Path, PathBuf};
-use std::process::Command;
+use std::process::{Command, Stdio};
 
-const README: &str = include_str!("../../README.md");
-const IN_C: &str = include_str!("../../examples/plan.c");
+const README: &str = include_str!("../../../README.md");
+const IN_C: &str = include_str!("../../../examples/plan.c");
 const IN_RUST: &str = include_str!("../examples/plan.rs");
 
 fn at_root(path: &str) -> PathBuf {
-    Path::new(env!("CARGO_MANIFEST_DIR")).join("..").join(path)
+    Path::new(env!("CARGO_MANIFEST_DIR"))
+        .join("../..")
+        .join(path)
 }
 
 /// The program as README.md shows it, each line set in by four blanks.
@@ -17,11 +19,11 @@ fn set_in(program: &str) -> String {
     program.replace('\n', "\n    ").replace("    \n", "\n")
 }
 
-fn plans_task_e(program: &Path) {
+fn plans_task_e(program: &Path, said: &str) {
     let task = File::open(at_root("crates/shortest/stdin")).unwrap();
     let run = Command::new(program).stdin(task).output().unwrap();
     assert!(run.status.success());
-    assert_eq!(run.stdout, b"step 1\noutcome 0 cost 2\n");
+    assert_eq!(String::from_utf8(run.stdout).unwrap(), said);
 }
 
 #[test]
@@ -41,12 +43,16 @@ fn the_program_in_c() {
         .arg(&program)
         .status();
     assert!(gcc.unwrap().success());
-    plans_task_e(&program);
+    plans_task_e(&program, "step 1\noutcome 0 cost 2\n");
 }
 
 #[test]
 fn the_program_in_rust() {
     let test = std::env::current_exe().unwrap();
     let folder = test.ancestors().nth(2).unwrap();
-    plans_task_e(&folder.join("examples").join("plan"));
+    let program = folder.join("examples").join("plan");
+    plans_task_e(&program, "step 1\ncost 2\n");
+    // A file that is refused.
+    let none = Command::new(program).stdin(Stdio::null()).output().unwrap();
+    assert!(!none.status.success());
 }

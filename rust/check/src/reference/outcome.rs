@@ -1,6 +1,6 @@
 //! The numbers of the refusals, and the refusals that concern the caller.
 
-use crate::answers::Outcome;
+use shortest::Outcome;
 
 pub const RECORD_CUT: u32 = 1;
 pub const WRONG_KIND: u32 = 2;

@@ -2,7 +2,8 @@
 
 use super::files::{read_task, Action, Fact, Task};
 use super::outcome::{long_enough, WRONG_LEVEL};
-use crate::answers::{Marked, Outcome};
+use shortest::lent::Answer;
+use shortest::Outcome;
 
 /// A set of facts: by variable, then by value.
 #[derive(Clone, Debug, PartialEq, Eq)]
@@ -63,11 +64,8 @@ impl Marking {
     }
 }
 
-pub fn mark(task: &[u8], level: u32, action_marks: &mut [u8], fact_marks: &mut [u8]) -> Marked {
-    try_mark(task, level, action_marks, fact_marks).unwrap_or_else(|outcome| Marked {
-        outcome,
-        ..Marked::default()
-    })
+pub fn mark(task: &[u8], level: u32, action_marks: &mut [u8], fact_marks: &mut [u8]) -> Answer {
+    try_mark(task, level, action_marks, fact_marks).unwrap_or_else(Answer::from)
 }
 
 fn try_mark(
@@ -75,15 +73,15 @@ fn try_mark(
     level: u32,
     action_marks: &mut [u8],
     fact_marks: &mut [u8],
-) -> Result<Marked, Outcome> {
+) -> Result<Answer, Outcome> {
     let task = read_task(task)?;
     level_given(level)?;
     let marking = mark_stage(&task, level, action_marks, fact_marks)?;
-    Ok(Marked {
-        outcome: Outcome::DONE,
+    Ok(Answer {
         action_marks: marking.action_marks().len(),
         fact_marks: marking.fact_marks().len(),
         rounds: marking.rounds,
+        ..Answer::default()
     })
 }
 

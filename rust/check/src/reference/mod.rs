@@ -1,5 +1,6 @@
 //! The specification, implemented a second time and on its own, to compare
-//! the planner with. Plain rather than fast.
+//! the planner with. Plain rather than fast. The types of the answers are all
+//! that it takes from the package of the library's calls.
 
 pub mod files;
 pub mod generate;

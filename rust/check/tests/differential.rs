@@ -1,8 +1,9 @@
 //! The library against the reference.
 
+use shortest::lent::{self as library, Answer};
 use shortest_check::differential::{cases, Comparison};
+use shortest_check::reference;
 use shortest_check::reference::generate::{self, Random};
-use shortest_check::{library, reference};
 
 fn for_seeds(count: u64, mut compare: impl FnMut(&mut Comparison, &mut Random)) -> Comparison {
     let mut comparison = Comparison::default();
@@ -101,8 +102,10 @@ fn empty_slices() {
         signer: 1,
     });
     for file in [&[][..], &task] {
-        assert_eq!(library::check_task(file), reference::check_task(file));
-        assert_eq!(library::check_origin(file), reference::check_origin(file));
+        let outcome = Answer::from(reference::check_task(file));
+        assert_eq!(library::check_task(file), outcome);
+        let outcome = Answer::from(reference::check_origin(file));
+        assert_eq!(library::check_origin(file), outcome);
         assert_eq!(
             library::check_plan(file, &[]),
             reference::check_plan(file, &[])

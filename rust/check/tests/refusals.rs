@@ -1,6 +1,6 @@
 //! Each refusal from the input at its place, and their order.
 
-use shortest_check::answers::Outcome;
+use shortest::Outcome;
 use shortest_check::reference::files::{
     write_origin, write_plan, write_task, Action, Fact, Origin, Plan, Task, Variable,
     VariableOrigin,

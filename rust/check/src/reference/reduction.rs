@@ -5,13 +5,14 @@ use super::files::{
 };
 use super::marking::{level_given, mark_stage, Facts, Marking};
 use super::outcome::{long_enough, signer_given};
-use crate::answers::{Outcome, Reduced};
+use shortest::lent::Answer;
+use shortest::Outcome;
 
 /// What the stages up to reduction leave for the next.
 pub struct Stage {
     pub task: Task,
     pub origin: Origin,
-    pub report: Reduced,
+    pub report: Answer,
 }
 
 pub fn reduce(
@@ -22,7 +23,7 @@ pub fn reduce(
     fact_marks: &mut [u8],
     reduced: &mut [u8],
     origin: &mut [u8],
-) -> Reduced {
+) -> Answer {
     reduce_stage(
         task,
         level,
@@ -32,13 +33,7 @@ pub fn reduce(
         reduced,
         origin,
     )
-    .map_or_else(
-        |outcome| Reduced {
-            outcome,
-            ..Reduced::default()
-        },
-        |stage| stage.report,
-    )
+    .map_or_else(Answer::from, |stage| stage.report)
 }
 
 /// Check, marking and reduction, each written once its buffers are long
@@ -74,14 +69,14 @@ pub fn reduce_stage(
     })
 }
 
-fn report(marking: &Marking, reduced: usize, origin: usize) -> Reduced {
-    Reduced {
-        outcome: Outcome::DONE,
+fn report(marking: &Marking, reduced: usize, origin: usize) -> Answer {
+    Answer {
         action_marks: marking.action_marks().len(),
         fact_marks: marking.fact_marks().len(),
         reduced,
         origin,
         rounds: marking.rounds,
+        ..Answer::default()
     }
 }
 

@@ -2,7 +2,9 @@
 
 use std::ops::Deref;
 
-use shortest_check::answers::{Buffers, Entry, Marked, Outcome, PlanCheck, Planned, Reduced};
+use shortest::lent::Answer;
+use shortest::{Entry, Outcome};
+use shortest_check::buffers::Buffers;
 use shortest_check::reference::files::{
     read_origin, read_task, write_plan, write_task, Action, Fact, Origin, Plan, Task, Variable,
     VariableOrigin,
@@ -51,7 +53,7 @@ fn plan_file(steps: &[u16]) -> Vec<u8> {
     })
 }
 
-fn check_steps(steps: &[u16]) -> PlanCheck {
+fn check_steps(steps: &[u16]) -> Answer {
     check_plan(&write_task(&task_e()), &plan_file(steps))
 }
 
@@ -88,20 +90,15 @@ impl Prefilled {
         Prefilled::of([600, 2_100, 65_600, 6_000, 4_100, 8_300])
     }
 
-    fn mark(&mut self, task: &Task, level: u32) -> Marked {
-        mark(
-            &write_task(task),
-            level,
-            &mut self.0.action_marks,
-            &mut self.0.fact_marks,
-        )
+    fn mark(&mut self, task: &Task, level: u32) -> Answer {
+        self.0.mark(mark, &write_task(task), level)
     }
 
-    fn reduce(&mut self, task: &Task, level: u32, signer: u32) -> Reduced {
+    fn reduce(&mut self, task: &Task, level: u32, signer: u32) -> Answer {
         self.0.reduce(reduce, &write_task(task), level, signer)
     }
 
-    fn plan(&mut self, task: &Task, signer: u32) -> Planned {
+    fn plan(&mut self, task: &Task, signer: u32) -> Answer {
         self.0.plan(plan, &write_task(task), signer)
     }
 
@@ -173,11 +170,11 @@ fn marks_at_each_level() {
         let marked = buffers.mark(&task_e(), level);
         assert_eq!(
             marked,
-            Marked {
-                outcome: Outcome::DONE,
+            Answer {
                 action_marks: 7,
                 fact_marks: 8,
-                rounds
+                rounds,
+                ..Answer::default()
             }
         );
         assert_eq!(buffers.action_marks[..7], actions, "level {level}");
@@ -202,13 +199,13 @@ fn reduced_file_and_origin_at_level_4() {
     let reduced = buffers.reduce(&task_e(), 4, 7);
     assert_eq!(
         reduced,
-        Reduced {
-            outcome: Outcome::DONE,
+        Answer {
             action_marks: 7,
             fact_marks: 8,
             reduced: 80,
             origin: 44,
-            rounds: 2
+            rounds: 2,
+            ..Answer::default()
         }
     );
     assert_eq!(buffers.reduced[..80], REDUCED_E);
@@ -235,16 +232,12 @@ fn reduced_file_and_origin_at_level_4() {
 
 #[test]
 fn plans_of_task_e() {
-    let done = |cost, steps| PlanCheck {
-        outcome: Outcome::DONE,
+    let done = |cost, steps| Answer {
         cost,
         steps,
+        ..Answer::default()
     };
-    let turned_back = |number, place| PlanCheck {
-        outcome: refused(number, place),
-        cost: 0,
-        steps: 0,
-    };
+    let turned_back = |number, place| Answer::from(refused(number, place));
     assert_eq!(check_steps(&[2, 0]), done(3, 2));
     assert_eq!(check_steps(&[1]), done(2, 1));
     assert_eq!(check_steps(&[0]), turned_back(22, 0));
@@ -281,8 +274,7 @@ fn task_e_is_planned() {
     let planned = buffers.plan(&task_e(), 7);
     assert_eq!(
         planned,
-        Planned {
-            outcome: Outcome::DONE,
+        Answer {
             action_marks: 7,
             fact_marks: 8,
             reduced: 80,
@@ -291,7 +283,8 @@ fn task_e_is_planned() {
             plan: 18,
             rounds: 2,
             cost: 2,
-            steps: 1
+            steps: 1,
+            ..Answer::default()
         }
     );
     assert_eq!(buffers.reduced[..80], REDUCED_E);
@@ -309,13 +302,7 @@ fn no_plan_without_actions_0_and_1() {
     task.actions.drain(..2);
     let mut buffers = Prefilled::of([600, 2_100, 65_600, 6_000, 4_100, 0]);
     let planned = buffers.plan(&task, 7);
-    assert_eq!(
-        planned,
-        Planned {
-            outcome: refused(24, 0),
-            ..Planned::default()
-        }
-    );
+    assert_eq!(planned, Answer::from(refused(24, 0)));
     // The table is filled: line alone is kept, with value 1 and the rest.
     let goal = Entry {
         minutes: 0,
@@ -372,13 +359,7 @@ fn twelve_variables_are_searched() {
 fn thirteen_variables_are_too_many() {
     let mut buffers = Prefilled::long();
     let planned = buffers.plan(&switches(13), 7);
-    assert_eq!(
-        planned,
-        Planned {
-            outcome: refused(25, 0),
-            ..Planned::default()
-        }
-    );
+    assert_eq!(planned, Answer::from(refused(25, 0)));
     assert_eq!(buffers.action_marks[..13], [1; 13]);
     assert_eq!(check_task(&buffers.reduced[..8]), refused(1, 8));
     assert!(buffers.table_untouched() && buffers.plan_untouched());
@@ -405,13 +386,7 @@ fn buffers_too_short_end_the_row() {
         lengths[short] -= 1;
         let mut buffers = Prefilled::of(lengths);
         let planned = buffers.plan(&task_e(), 7);
-        assert_eq!(
-            planned,
-            Planned {
-                outcome: refused(21, needed[short]),
-                ..Planned::default()
-            }
-        );
+        assert_eq!(planned, Answer::from(refused(21, needed[short])));
         assert_eq!(buffers.marks_untouched(), short < 2);
         assert_eq!(buffers.files_untouched(), short < 4);
         assert_eq!(buffers.table_untouched(), short < 5);
@@ -423,13 +398,7 @@ fn buffers_too_short_end_the_row() {
 fn reduction_alone_is_a_row_too() {
     let mut buffers = Prefilled::of([7, 8, 80, 43, 0, 0]);
     let reduced = buffers.reduce(&task_e(), 4, 7);
-    assert_eq!(
-        reduced,
-        Reduced {
-            outcome: refused(21, 44),
-            ..Reduced::default()
-        }
-    );
+    assert_eq!(reduced, Answer::from(refused(21, 44)));
     assert!(!buffers.marks_untouched() && buffers.files_untouched());
 }
 

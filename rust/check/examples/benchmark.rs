@@ -4,10 +4,11 @@
 use std::hint::black_box;
 use std::time::{Duration, Instant};
 
-use shortest_check::answers::{Buffers, Mark, Outcome, Plan, Reduce};
+use shortest::lent::{self as library, Answer};
+use shortest_check::buffers::{Buffers, Mark, Plan, Reduce};
+use shortest_check::reference;
 use shortest_check::reference::files::{Action, Fact, Task, Variable};
 use shortest_check::reference::generate::{self, task_file, Random};
-use shortest_check::{library, reference};
 
 fn main() {
     println!("library and reference in microseconds, library : reference");
@@ -92,7 +93,7 @@ fn crowded_counter(random: &mut Random) -> Task {
 }
 
 struct Calls {
-    check: fn(&[u8]) -> Outcome,
+    check: fn(&[u8]) -> Answer,
     mark: Mark,
     reduce: Reduce,
     plan: Plan,
@@ -106,7 +107,7 @@ impl Calls {
         plan: library::plan,
     };
     const REFERENCE: Calls = Calls {
-        check: reference::check_task,
+        check: |file| Answer::from(reference::check_task(file)),
         mark: reference::mark,
         reduce: reference::reduce,
         plan: reference::plan,

@@ -2,7 +2,8 @@
 
 use super::files::{read_plan, read_task, Action, Fact, Task};
 use super::outcome::{GOAL_NOT_MET, NOT_APPLICABLE};
-use crate::answers::{Outcome, PlanCheck};
+use shortest::lent::Answer;
+use shortest::Outcome;
 
 /// The value of each variable.
 pub type State = Vec<u16>;
@@ -32,14 +33,11 @@ pub fn step(action: &Action, state: &State) -> Option<State> {
     Some(after)
 }
 
-pub fn check_plan(task: &[u8], plan: &[u8]) -> PlanCheck {
-    try_check_plan(task, plan).unwrap_or_else(|outcome| PlanCheck {
-        outcome,
-        ..PlanCheck::default()
-    })
+pub fn check_plan(task: &[u8], plan: &[u8]) -> Answer {
+    try_check_plan(task, plan).unwrap_or_else(Answer::from)
 }
 
-fn try_check_plan(task: &[u8], plan: &[u8]) -> Result<PlanCheck, Outcome> {
+fn try_check_plan(task: &[u8], plan: &[u8]) -> Result<Answer, Outcome> {
     let task = read_task(task)?;
     let plan = read_plan(plan, task.actions.len()).map_err(Outcome::in_second_file)?;
 
@@ -54,9 +52,9 @@ fn try_check_plan(task: &[u8], plan: &[u8]) -> Result<PlanCheck, Outcome> {
     if !holds(&task.goal, &state) {
         return Err(Outcome::refused(GOAL_NOT_MET, steps));
     }
-    Ok(PlanCheck {
-        outcome: Outcome::DONE,
+    Ok(Answer {
         cost,
         steps,
+        ..Answer::default()
     })
 }

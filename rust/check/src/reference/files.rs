@@ -3,7 +3,7 @@
 use super::outcome::{
     NOT_RISING, OUTSIDE_LIMIT, OUT_OF_RANGE, RECORD_CUT, WRONG_KIND, WRONG_LENGTH, WRONG_SIGN_OFF,
 };
-use crate::answers::Outcome;
+use shortest::Outcome;
 
 pub const MOST_BYTES: usize = 65_536;
 pub const MOST_VARIABLES: usize = 64;

@@ -1,13 +1,13 @@
 //! What the calls are compared on.
 
 use super::{Comparison, Lengths};
-use crate::answers::Entry;
 use crate::reference::files::{Task, MOST_COST};
 use crate::reference::generate::{self, origin_file, plan_file, task_file, Random};
 use crate::reference::marking::marking;
 use crate::reference::plan;
 use crate::reference::reduction::reduction;
 use crate::reference::search::{state_count, MOST_STATES};
+use shortest::Entry;
 
 const LEVELS: [u32; 7] = [0, 1, 2, 3, 4, 5, u32::MAX];
 const SIGNERS: [u32; 6] = [0, 1, 4, 5, 1 << 16, u32::MAX];

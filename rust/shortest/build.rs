@@ -1,5 +1,6 @@
-//! Links the proved library, `libcapi.a`, from the folder `SHORTEST_LIB` or
-//! from `../target/staticlib`, where `rt staticlib capi` writes it.
+//! Links the proved library, `libcapi.a`, from the folder `SHORTEST_LIB` (a
+//! full path) or from the repository's `target/staticlib`, where
+//! `rt staticlib capi` writes it.
 
 use std::env;
 use std::path::PathBuf;
@@ -9,7 +10,7 @@ fn main() {
     let package = PathBuf::from(env::var_os("CARGO_MANIFEST_DIR").unwrap());
     let folder = match env::var_os("SHORTEST_LIB") {
         Some(folder) => PathBuf::from(folder),
-        None => package.join("../target/staticlib"),
+        None => package.join("../../target/staticlib"),
     };
     let archive = folder.join("libcapi.a");
     println!("cargo::rerun-if-changed={}", archive.display());

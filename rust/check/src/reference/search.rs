@@ -7,23 +7,22 @@ use super::files::{write_plan, Plan, Task};
 use super::outcome::{long_enough, NO_PLAN, TOO_MANY_STATES};
 use super::plans::{holds, start, step, State};
 use super::reduction::reduce_stage;
-use crate::answers::{Entry, Outcome, Planned};
+use shortest::lent::Answer;
+use shortest::{Entry, Outcome};
 
 pub const MOST_STATES: usize = 4_096;
 
-impl Entry {
-    const GOAL: Entry = Entry {
-        minutes: 0,
-        steps: 0,
-    };
+const GOAL: Entry = Entry {
+    minutes: 0,
+    steps: 0,
+};
 
-    /// One step more, in front; none in front of none.
-    fn behind(self, cost: u32) -> Option<Entry> {
-        Some(Entry {
-            minutes: self.minutes.checked_add(u64::from(cost))?,
-            steps: self.steps.checked_add(1)?,
-        })
-    }
+/// One step more, in front; none in front of none.
+fn behind(entry: Entry, cost: u32) -> Option<Entry> {
+    Some(Entry {
+        minutes: entry.minutes.checked_add(u64::from(cost))?,
+        steps: entry.steps.checked_add(1)?,
+    })
 }
 
 #[allow(clippy::too_many_arguments)]
@@ -36,7 +35,7 @@ pub fn plan(
     origin: &mut [u8],
     table: &mut [Entry],
     plan: &mut [u8],
-) -> Planned {
+) -> Answer {
     let stage = reduce_stage(task, 4, signer, action_marks, fact_marks, reduced, origin);
     let planned = stage.and_then(|stage| {
         let searched = search_stage(&stage.task, table)?;
@@ -47,23 +46,15 @@ pub fn plan(
         });
         long_enough(plan.len(), file.len())?;
         plan[..file.len()].copy_from_slice(&file);
-        Ok(Planned {
-            outcome: Outcome::DONE,
-            action_marks: stage.report.action_marks,
-            fact_marks: stage.report.fact_marks,
-            reduced: stage.report.reduced,
-            origin: stage.report.origin,
+        Ok(Answer {
             table: searched.states,
             plan: file.len(),
-            rounds: stage.report.rounds,
             cost: searched.cost,
             steps: searched.plan.len(),
+            ..stage.report
         })
     });
-    planned.unwrap_or_else(|outcome| Planned {
-        outcome,
-        ..Planned::default()
-    })
+    planned.unwrap_or_else(Answer::from)
 }
 
 struct Searched {
@@ -125,8 +116,8 @@ pub fn least_costs(task: &Task, states: usize) -> Vec<Entry> {
     for (number, entry) in entries.iter_mut().enumerate() {
         let state = state_numbered(task, number);
         if holds(&task.goal, &state) {
-            *entry = Entry::GOAL;
-            queue.push(Reverse((Entry::GOAL, number)));
+            *entry = GOAL;
+            queue.push(Reverse((GOAL, number)));
         }
         for action in &task.actions {
             if let Some(after) = step(action, &state) {
@@ -140,7 +131,7 @@ pub fn least_costs(task: &Task, states: usize) -> Vec<Entry> {
             continue;
         }
         for &(cost, earlier) in &before[number] {
-            if let Some(longer) = entry.behind(cost).filter(|&e| e < entries[earlier]) {
+            if let Some(longer) = behind(entry, cost).filter(|&e| e < entries[earlier]) {
                 entries[earlier] = longer;
                 queue.push(Reverse((longer, earlier)));
             }
@@ -155,14 +146,15 @@ fn first_plan(task: &Task, entries: &[Entry]) -> Vec<u16> {
     let mut state = start(task);
     loop {
         let entry = entries[state_number(task, &state)];
-        if entry == Entry::GOAL {
+        if entry == GOAL {
             return plan;
         }
         for (number, action) in task.actions.iter().enumerate() {
             let Some(after) = step(action, &state) else {
                 continue;
             };
-            if entries[state_number(task, &after)].behind(action.cost) == Some(entry) {
+            let left = entries[state_number(task, &after)];
+            if behind(left, action.cost) == Some(entry) {
                 plan.push(number as u16);
                 state = after;
                 break;
