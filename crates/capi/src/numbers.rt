@@ -4,7 +4,7 @@ ghost use Rattle.capi.specs.Numbers.{listed, outcomeNumbers, checkedNumb
 
 // The numbers of an answer by name, in the order of their places: the outcome's three, rounds, cost,
 // steps; the elements written: action marks, fact marks, reduced file, origin file, table, plan file.
-// Those behind, from place 12 on, no call has yet.
+// The six behind, from place 12 on, are for calls to come.
 struct Numbers {
     outcome: files::Outcome,
     rounds: usize,

@@ -13,7 +13,7 @@ pub const MOST_ENTRIES: usize = 4_096;
 pub const MOST_PLAN: usize = 8_206;
 
 /// How many numbers a call writes.
-pub const NUMBERS: usize = 12;
+pub const NUMBERS: usize = 18;
 
 /// The numbers of an answer. One that the call does not have, and every one
 /// beside a refusal, is 0.
@@ -30,6 +30,13 @@ pub struct Answer {
     pub origin: usize,
     pub table: usize,
     pub plan: usize,
+    /// Reserved, 0 at every call.
+    pub page: usize,
+    pub task: usize,
+    pub turns: usize,
+    pub list: usize,
+    pub goal: usize,
+    pub entries: usize,
 }
 
 impl Answer {
@@ -56,8 +63,10 @@ impl From<Outcome> for Answer {
 /// By their places.
 impl From<[u64; NUMBERS]> for Answer {
     fn from(numbers: [u64; NUMBERS]) -> Answer {
-        let [number, file, place, rounds, cost, steps, written @ ..] = numbers;
-        let [action_marks, fact_marks, reduced, origin, table, plan] = written.map(|n| n as usize);
+        let [number, file, place, rounds, cost, steps, others @ ..] = numbers;
+        let [action_marks, fact_marks, reduced, origin, table, plan, others @ ..] =
+            others.map(|number| number as usize);
+        let [page, task, turns, list, goal, entries] = others;
         Answer {
             outcome: Outcome {
                 number: u32::try_from(number).unwrap(),
@@ -73,6 +82,12 @@ impl From<[u64; NUMBERS]> for Answer {
             origin,
             table,
             plan,
+            page,
+            task,
+            turns,
+            list,
+            goal,
+            entries,
         }
     }
 }

@@ -45,6 +45,12 @@ fn the_places_of_the_numbers() {
         ("SHORTEST_ORIGIN", answer.origin),
         ("SHORTEST_TABLE", answer.table),
         ("SHORTEST_PLAN", answer.plan),
+        ("SHORTEST_PAGE", answer.page),
+        ("SHORTEST_TASK", answer.task),
+        ("SHORTEST_TURNS", answer.turns),
+        ("SHORTEST_LIST", answer.list),
+        ("SHORTEST_GOAL", answer.goal),
+        ("SHORTEST_ENTRIES", answer.entries),
         ("SHORTEST_NUMBERS", 100 + lent::NUMBERS),
     ];
     let expected: Vec<_> = places().into_iter().zip(100..).collect();
