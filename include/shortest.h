@@ -7,8 +7,8 @@
  * and not `out`. The calls keep nothing between them, allocate nothing, and use up to about 575 KiB
  * of the stack.
  *
- * The answer of a call is written to `out`, all of its twelve numbers at every call; a number that
- * the call does not have, and every number but the first three beside a refusal, is 0:
+ * The answer of a call is written to `out`, all of its eighteen numbers at every call; a number
+ * that the call does not have, and every number but the first three beside a refusal, is 0:
  *
  *    0  number: 0 for done, any other for a refusal (docs/FORMAT.md lists them)
  *    1  file: 1 where the place is an offset in the second file handed in, else 0
@@ -23,6 +23,12 @@
  *    9  bytes of the origin file written
  *   10  entries of the table written
  *   11  bytes of the plan file written
+ *   12  reserved: bytes of a page written
+ *   13  reserved: bytes of a task file written
+ *   14  reserved: turns
+ *   15  reserved: elements of a list written
+ *   16  reserved: 1 where the goal holds, else 0
+ *   17  reserved: entries
  *
  * A buffer holds its result from its first element on; what lies behind the result is untouched.
  * A refusal leaves every buffer as it was, but for the results of the stages before it: the marks
@@ -40,7 +46,7 @@
 extern "C" {
 #endif
 
-/* The places of `out`. */
+/* The places of `out`, and how many they are. No call has a number behind SHORTEST_PLAN yet. */
 enum {
     SHORTEST_NUMBER,
     SHORTEST_FILE,
@@ -54,6 +60,12 @@ enum {
     SHORTEST_ORIGIN,
     SHORTEST_TABLE,
     SHORTEST_PLAN,
+    SHORTEST_PAGE,
+    SHORTEST_TASK,
+    SHORTEST_TURNS,
+    SHORTEST_LIST,
+    SHORTEST_GOAL,
+    SHORTEST_ENTRIES,
     SHORTEST_NUMBERS
 };
 
@@ -75,21 +87,21 @@ struct shortest_entry {
 };
 
 /* Whether a file is a task file. */
-void shortest_check_task(const uint8_t *file, size_t file_length, uint64_t out[12]);
+void shortest_check_task(const uint8_t *file, size_t file_length, uint64_t out[SHORTEST_NUMBERS]);
 
 /* Whether a file is an origin file. */
-void shortest_check_origin(const uint8_t *file, size_t file_length, uint64_t out[12]);
+void shortest_check_origin(const uint8_t *file, size_t file_length, uint64_t out[SHORTEST_NUMBERS]);
 
 /* Whether a plan file holds a plan of the task of a task file; its cost and steps. */
 void shortest_check_plan(const uint8_t *task, size_t task_length,
-                         const uint8_t *plan, size_t plan_length, uint64_t out[12]);
+                         const uint8_t *plan, size_t plan_length, uint64_t out[SHORTEST_NUMBERS]);
 
 /* Marks the task of a task file at a level, 1 to 4. The action marks need an element an action and
    hold 1 for a kept action, else 0. The fact marks need an element a fact, by variable and then
    value, and hold 2 for a relevant fact that is linked, 1 for any other relevant fact, else 0. */
 void shortest_mark(const uint8_t *task, size_t task_length, uint32_t level,
                    uint8_t *actions, size_t actions_length,
-                   uint8_t *facts, size_t facts_length, uint64_t out[12]);
+                   uint8_t *facts, size_t facts_length, uint64_t out[SHORTEST_NUMBERS]);
 
 /* Marks as shortest_mark does, and reduces the task: `reduced` holds the file of the reduced task
    and `origin` the file of its origins, both under the signer, which is not 0. The reduced file is
@@ -98,7 +110,7 @@ void shortest_reduce(const uint8_t *task, size_t task_length, uint32_t level, ui
                      uint8_t *actions, size_t actions_length,
                      uint8_t *facts, size_t facts_length,
                      uint8_t *reduced, size_t reduced_length,
-                     uint8_t *origin, size_t origin_length, uint64_t out[12]);
+                     uint8_t *origin, size_t origin_length, uint64_t out[SHORTEST_NUMBERS]);
 
 /* Plans: reduces at level 4 as shortest_reduce does, fills the table with an entry for each state
    of the reduced task, by its number, and writes to `plan` the plan file of the first of the
@@ -109,7 +121,7 @@ void shortest_plan(const uint8_t *task, size_t task_length, uint32_t signer,
                    uint8_t *reduced, size_t reduced_length,
                    uint8_t *origin, size_t origin_length,
                    struct shortest_entry *table, size_t table_length,
-                   uint8_t *plan, size_t plan_length, uint64_t out[12]);
+                   uint8_t *plan, size_t plan_length, uint64_t out[SHORTEST_NUMBERS]);
 
 #ifdef __cplusplus
 }

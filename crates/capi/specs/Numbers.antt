@@ -1,32 +1,46 @@
--- Each kind of answer as the twelve numbers that a C caller gets.
+-- Each kind of answer as the eighteen numbers that a C caller gets, at the places that include/shortest.h gives them.
 use Prim.Native.Nat.{ℕ}
 use mathlib.Core.List.{List, [], _∷_}
+use lib.ListN.{replicate, set}
 use Rattle.files.specs.declared.Outcome.{Outcome}
 use Rattle.plans.specs.declared.Checked.{Checked}
 use Rattle.marking.specs.declared.Marked.{Marked}
 use Rattle.reduction.specs.declared.Reduced.{Reduced}
 use Rattle.search.specs.declared.Planned.{Planned}
+use Rattle.capi.specs.declared.numbers.Numbers.{Numbers}
 
--- number, file and place of the outcome; rounds, cost, steps; the elements written: action marks, fact marks, reduced
--- file, origin file, table, plan file
+-- a number put at its place
+unfoldable pub at : ℕ → ℕ → List ℕ → List ℕ
+at place n numbers = set numbers place n
+
+-- number, file and place; every other number is 0
 unfoldable pub outcomeNumbers : Outcome → List ℕ
-outcomeNumbers o = o .number ∷ o .file ∷ o .place ∷ 0 ∷ 0 ∷ 0 ∷ 0 ∷ 0 ∷ 0 ∷ 0 ∷ 0 ∷ 0 ∷ []
+outcomeNumbers o = at 0 (o .number) (at 1 (o .file) (at 2 (o .place) (replicate 18 0)))
 
 unfoldable pub checkedNumbers : Checked → List ℕ
-checkedNumbers c =
-    c .outcome .number ∷ c .outcome .file ∷ c .outcome .place ∷ 0 ∷ c .cost .0 ∷ c .steps .0 ∷ 0 ∷ 0 ∷ 0 ∷ 0 ∷ 0 ∷ 0 ∷ []
+checkedNumbers c = at 4 (c .cost .0) (at 5 (c .steps .0) (outcomeNumbers (c .outcome)))
 
 unfoldable pub markedNumbers : Marked → List ℕ
-markedNumbers m =
-    m .outcome .number ∷ m .outcome .file ∷ m .outcome .place ∷ m .rounds ∷ 0 ∷ 0
-    ∷ m .«action_marks» ∷ m .«fact_marks» ∷ 0 ∷ 0 ∷ 0 ∷ 0 ∷ []
+markedNumbers m = at 3 (m .rounds) (at 6 (m .«action_marks») (at 7 (m .«fact_marks») (outcomeNumbers (m .outcome))))
 
 unfoldable pub reducedNumbers : Reduced → List ℕ
 reducedNumbers r =
-    r .outcome .number ∷ r .outcome .file ∷ r .outcome .place ∷ r .rounds ∷ 0 ∷ 0
-    ∷ r .«action_marks» ∷ r .«fact_marks» ∷ r .reduced ∷ r .origin ∷ 0 ∷ 0 ∷ []
+    at 3 (r .rounds)
+    (at 6 (r .«action_marks») (at 7 (r .«fact_marks») (at 8 (r .reduced) (at 9 (r .origin) (outcomeNumbers (r .outcome))))))
 
 unfoldable pub plannedNumbers : Planned → List ℕ
 plannedNumbers p =
-    p .outcome .number ∷ p .outcome .file ∷ p .outcome .place ∷ p .rounds ∷ p .cost .0 ∷ p .steps .0
-    ∷ p .«action_marks» ∷ p .«fact_marks» ∷ p .reduced ∷ p .origin ∷ p .table ∷ p .plan ∷ []
+    at 3 (p .rounds)
+    (at 4 (p .cost .0)
+    (at 5 (p .steps .0)
+    (at 6 (p .«action_marks»)
+    (at 7 (p .«fact_marks»)
+    (at 8 (p .reduced)
+    (at 9 (p .origin) (at 10 (p .table) (at 11 (p .plan) (outcomeNumbers (p .outcome))))))))))
+
+-- the numbers that the code has by name, each at its place
+unfoldable pub listed : Numbers → List ℕ
+listed n =
+    n .outcome .number ∷ n .outcome .file ∷ n .outcome .place ∷ n .rounds ∷ n .cost ∷ n .steps
+    ∷ n .«action_marks» ∷ n .«fact_marks» ∷ n .reduced ∷ n .origin ∷ n .table ∷ n .plan
+    ∷ n .page ∷ n .task ∷ n .turns ∷ n .list ∷ n .goal ∷ n .entries ∷ []

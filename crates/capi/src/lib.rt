@@ -1,5 +1,5 @@
 // The library's calls for C, as include/shortest.h declares them: buffers pass as a pointer and a
-// length, and each call writes its answer as twelve numbers to `out`.
+// length, and each call writes its answer as eighteen numbers to `out`.
 mod numbers;
 
 ghost use mathlib.Core.Path.{_≡_};
@@ -14,7 +14,7 @@ ghost use Rattle.capi.specs.Calls.{MarksNumbers, ReducesNumbers, PlansNu
 
 // Whether a file is a task file.
 #[no_mangle]
-pub extern "C" fn shortest_check_task(file: &[u8], out: &mut [u64; 12])
+pub extern "C" fn shortest_check_task(file: &[u8], out: &mut [u64; 18])
     ensures { λ r. ⌜ now (out .exit) ≡ outcomeNumbers (checkTask (now (file .entry))) ⌝ }
 {
     numbers::write_outcome(files::check_task(file), out);
@@ -22,7 +22,7 @@ pub extern "C" fn shortest_check_task(file: &[u8], out: &mut [u64; 12])
 
 // Whether a file is an origin file.
 #[no_mangle]
-pub extern "C" fn shortest_check_origin(file: &[u8], out: &mut [u64; 12])
+pub extern "C" fn shortest_check_origin(file: &[u8], out: &mut [u64; 18])
     ensures { λ r. ⌜ now (out .exit) ≡ outcomeNumbers (checkOrigin (now (file .entry))) ⌝ }
 {
     numbers::write_outcome(files::check_origin(file), out);
@@ -30,7 +30,7 @@ pub extern "C" fn shortest_check_origin(file: &[u8], out: &mut [u64; 12])
 
 // Whether a plan file holds a plan of a task file's task, and its cost and steps.
 #[no_mangle]
-pub extern "C" fn shortest_check_plan(task: &[u8], plan: &[u8], out: &mut [u64; 12])
+pub extern "C" fn shortest_check_plan(task: &[u8], plan: &[u8], out: &mut [u64; 18])
     ensures { λ r. ⌜ now (out .exit) ≡ checkedNumbers (checkPlan (now (task .entry)) (now (plan .entry))) ⌝ }
 {
     numbers::write_checked(plans::check_plan(task, plan), out);
@@ -43,7 +43,7 @@ pub extern "C" fn shortest_mark(
     level: u32,
     actions: &mut [u8],
     facts: &mut [u8],
-    out: &mut [u64; 12],
+    out: &mut [u64; 18],
 )
     ensures { λ r. ⌜ MarksNumbers (now (task .entry)) level (markBuffers (now (actions .entry)) (now (facts .entry))) (now (out .exit)) (markBuffers (now (actions .exit)) (now (facts .exit))) ⌝ }
 {
@@ -61,7 +61,7 @@ pub extern "C" fn shortest_reduce(
     facts: &mut [u8],
     reduced: &mut [u8],
     origin: &mut [u8],
-    out: &mut [u64; 12],
+    out: &mut [u64; 18],
 )
     ensures { λ r. ⌜ ReducesNumbers (now (task .entry)) level signer (buffers (now (actions .entry)) (now (facts .entry)) (now (reduced .entry)) (now (origin .entry))) (now (out .exit)) (buffers (now (actions .exit)) (now (facts .exit)) (now (reduced .exit)) (now (origin .exit))) ⌝ }
 {
@@ -81,7 +81,7 @@ pub extern "C" fn shortest_plan(
     origin: &mut [u8],
     table: &mut [search::Entry],
     plan: &mut [u8],
-    out: &mut [u64; 12],
+    out: &mut [u64; 18],
 )
     ensures { λ r. ⌜ PlansNumbers (now (task .entry)) signer (lentOf (now (actions .entry)) (now (facts .entry)) (now (reduced .entry)) (now (origin .entry)) (now (table .entry)) (now (plan .entry))) (now (out .exit)) (lentOf (now (actions .exit)) (now (facts .exit)) (now (reduced .exit)) (now (origin .exit)) (now (table .exit)) (now (plan .exit))) ⌝ }
 {

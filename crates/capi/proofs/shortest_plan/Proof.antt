@@ -64,19 +64,19 @@ use Rattle.capi.proofs.shortest_plan as f
 use Rattle.capi.proofs.shortest_plan.Statement as stated
 use Rattle.capi.proofs.shortest_plan.Code as code
 
--- what the planner answers, as it is spelled in memory, and the twelve numbers
+-- what the planner answers, as it is spelled in memory, and the eighteen numbers
 abbrev P : RattleType
 P = P₀.the-row
 
-abbrev Twelve : RattleType
-Twelve = Array u64 12
+abbrev Eighteen : RattleType
+Eighteen = Array u64 18
 
 planned-is : (r : Planned) (vs : List Val) → Is P r vs → Is P r (P′.lowered r ∷ [])
 planned-is r vs k = subst (Is P r) (P′.lowers .val-is r vs k) k
 
 -- nothing is kept of the task and the signer, and all that is lent to be written is passed on for good
 abbrev stayed : Stays (f.ended .signature .params) (f.ended .kept)
-stayed = (stay-dropped (shrSliceOf (0 ∷ []) tt (plain (λ _. u8))) yes, (stay-dropped (plain (λ _. u32)) yes, (gave-slice (1 ∷ []) tt (plain (λ _. u8)), (gave-slice (2 ∷ []) tt (plain (λ _. u8)), (gave-slice (3 ∷ []) tt (plain (λ _. u8)), (gave-slice (4 ∷ []) tt (plain (λ _. u8)), (gave-slice (5 ∷ []) tt (plain (λ _. R)), (gave-slice (6 ∷ []) tt (plain (λ _. u8)), (gave-ref (7 ∷ []) tt (plain (λ _. Twelve)), tt)))))))))
+stayed = (stay-dropped (shrSliceOf (0 ∷ []) tt (plain (λ _. u8))) yes, (stay-dropped (plain (λ _. u32)) yes, (gave-slice (1 ∷ []) tt (plain (λ _. u8)), (gave-slice (2 ∷ []) tt (plain (λ _. u8)), (gave-slice (3 ∷ []) tt (plain (λ _. u8)), (gave-slice (4 ∷ []) tt (plain (λ _. u8)), (gave-slice (5 ∷ []) tt (plain (λ _. R)), (gave-slice (6 ∷ []) tt (plain (λ _. u8)), (gave-ref (7 ∷ []) tt (plain (λ _. Eighteen)), tt)))))))))
 
 -- the contracts that the proof cites
 module _ {M : Type 1} (𝓤 : URA M) (H : Heap 𝓤) (A : Atoms 𝓤) (mem : Memory → SProp 𝓤) (run : Routine → Fun 𝓤) where
@@ -162,7 +162,7 @@ module _ {M : Type 1} (𝓤 : URA M) (H : Heap 𝓤) (A : Atoms 𝓤) (W : Given
 
   abbrev Left : List ℕ → List ℕ → List ℕ → List ℕ → List Entry → List ℕ → List ℕ → List (Item 𝓤)
   Left la lf lr lo lt lp lu = ‵ (flft κ₀ q₀) ∷ ‵ (flft κ₁ q₁) ∷ ‵ (flft κ₂ q₂) ∷ ‵ (flft κ₃ q₃) ∷ ‵ (flft κ₄ q₄) ∷ ‵ (flft κ₅ q₅) ∷ ‵ (flft κ₆ q₆) ∷ ‵ (flft κ₇ q₇)
-      ∷ ‵ (finally u8 γa la) ∷ ‵ (finally u8 γf lf) ∷ ‵ (finally u8 γr lr) ∷ ‵ (finally u8 γo lo) ∷ ‵ (finally R γt lt) ∷ ‵ (finally u8 γp lp) ∷ ‵ (fres γu (Twelve .coded .code lu)) ∷ []
+      ∷ ‵ (finally u8 γa la) ∷ ‵ (finally u8 γf lf) ∷ ‵ (finally u8 γr lr) ∷ ‵ (finally u8 γo lo) ∷ ‵ (finally R γt lt) ∷ ‵ (finally u8 γp lp) ∷ ‵ (fres γu (Eighteen .coded .code lu)) ∷ []
 
   exits : (la lf lr lo : List ℕ) (lt : List Entry) (lp lu : List ℕ) → length la ≡ length xa → length lf ≡ length xf → length lr ≡ length xr → length lo ≡ length xo → length lt ≡ length ys → length lp ≡ length xp
       → Handed-out la lf lr lo lt lp lu
@@ -209,7 +209,7 @@ module _ {M : Type 1} (𝓤 : URA M) (H : Heap 𝓤) (A : Atoms 𝓤) (W : Given
   to-write r = (((κ₇, tt), (q₇, tt), tt, write-args r, (P′.lowered r ∷ [], (uv ∷ [], tt))), tt)
 
   abbrev Writing : List (Item 𝓤)
-  Writing = ‵ (flft κ₇ q₇) ∷ ‵ (MutRef (named 0) κ₇ Twelve .own out (uv ∷ [])) ∷ []
+  Writing = ‵ (flft κ₇ q₇) ∷ ‵ (MutRef (named 0) κ₇ Eighteen .own out (uv ∷ [])) ∷ []
 
   goes-write : (r : Planned) → Is P r (P′.lowered r ∷ []) → ent 𝓤 (⋆ 𝓤 H A Writing) (Write 𝓤 H A at-mem run .pre (to-write r))
   goes-write r is =
@@ -219,7 +219,7 @@ module _ {M : Type 1} (𝓤 : URA M) (H : Heap 𝓤) (A : Atoms 𝓤) (W : Given
   walk : (C : Calls 𝓤 H) (Λ : Loops 𝓤 H) → FmC 𝓤 H (W .laws) C → Triple 𝓤 (C #search·plan) (Plan 𝓤 H A at-mem run) → Triple 𝓤 (C #capi·numbers·write-planned) (Write 𝓤 H A at-mem run)
       → ent 𝓤 (onEntry 𝓤 H A f.signature κs (q₀, (q₁, (q₂, (q₃, (q₄, (q₅, (q₆, (q₇, tt)))))))) a at) (WpFn 𝓤 H C Λ code.function (kv ∷ vint w32 sg ∷ av ∷ fv ∷ rv ∷ ov ∷ tv ∷ pv ∷ uv ∷ []) Post)
   walk C Λ fm k-plan k-write =
-      qed W ((‵ (flft κ₀ q₀) ⊛ ‵ (flft κ₁ q₁) ⊛ ‵ (flft κ₂ q₂) ⊛ ‵ (flft κ₃ q₃) ⊛ ‵ (flft κ₄ q₄) ⊛ ‵ (flft κ₅ q₅) ⊛ ‵ (flft κ₆ q₆) ⊛ ‵ (flft κ₇ q₇) ⊛ ‵ ftrue) ∷ ‵ (owns (ShrSlice (named 0) κ₀ u8 ∷ u32 ∷ MutSlice (named 1) κ₁ u8 ∷ MutSlice (named 2) κ₂ u8 ∷ MutSlice (named 3) κ₃ u8 ∷ MutSlice (named 4) κ₄ u8 ∷ MutSlice (named 5) κ₅ R ∷ MutSlice (named 6) κ₆ u8 ∷ MutRef (named 7) κ₇ Twelve ∷ []) a at) ∷ []) ∵
+      qed W ((‵ (flft κ₀ q₀) ⊛ ‵ (flft κ₁ q₁) ⊛ ‵ (flft κ₂ q₂) ⊛ ‵ (flft κ₃ q₃) ⊛ ‵ (flft κ₄ q₄) ⊛ ‵ (flft κ₅ q₅) ⊛ ‵ (flft κ₆ q₆) ⊛ ‵ (flft κ₇ q₇) ⊛ ‵ ftrue) ∷ ‵ (owns (ShrSlice (named 0) κ₀ u8 ∷ u32 ∷ MutSlice (named 1) κ₁ u8 ∷ MutSlice (named 2) κ₂ u8 ∷ MutSlice (named 3) κ₃ u8 ∷ MutSlice (named 4) κ₄ u8 ∷ MutSlice (named 5) κ₅ R ∷ MutSlice (named 6) κ₆ u8 ∷ MutRef (named 7) κ₇ Eighteen ∷ []) a at) ∷ []) ∵
       enter ! C Λ code.function (kv ∷ vint w32 sg ∷ av ∷ fv ∷ rv ∷ ov ∷ tv ∷ pv ∷ uv ∷ []) _ $
       alloc1 ! (λ l₀. alloc1 ! (λ l₁. alloc1 ! (λ l₂. alloc1 ! (λ l₃. alloc1 ! (λ l₄. alloc1 ! (λ l₅. alloc1 ! (λ l₆. alloc1 ! (λ l₇. alloc1 ! (λ l₈. alloc1 ! (λ l₉. alloc1 ! (λ l₁₀. alloc1 ! (λ l₁₁. alloc1 ! (λ l₁₂. alloc1 ! (λ l₁₃. alloc1 ! (λ l₁₄. alloc1 ! (λ l₁₅. alloc1 ! (λ l₁₆. alloc1 ! (λ l₁₇. alloc1 ! (λ l₁₈. alloc1 ! (λ l₁₉. alloc1 ! (λ l₂₀. alloc1 ! (λ l₂₁. alloc1 ! (λ l₂₂. alloc1 ! (λ l₂₃. alloc1 ! (λ l₂₄. alloc0 ! $ params1 ! $
       pass1 ! (init ! 46 refl (tt, (tt, (record { fits = gk .0 }, tt)))) $ pass1 ! (init ! 44 refl (tt, record { fits = gsg })) $ pass1 ! (init ! 42 refl (tt, (tt, (record { fits = ga .0 }, tt)))) $ pass1 ! (init ! 40 refl (tt, (tt, (record { fits = gf .0 }, tt)))) $ pass1 ! (init ! 38 refl (tt, (tt, (record { fits = gr .0 }, tt)))) $ pass1 ! (init ! 36 refl (tt, (tt, (record { fits = go .0 }, tt)))) $ pass1 ! (init ! 34 refl (tt, (tt, (record { fits = gt .0 }, tt)))) $ pass1 ! (init ! 32 refl (tt, (tt, (record { fits = gp .0 }, tt)))) $ pass1 ! (init ! 30 refl (tt, tt)) $ pass0 ! $
@@ -259,7 +259,7 @@ module _ {M : Type 1} (𝓤 : URA M) (H : Heap 𝓤) (A : Atoms 𝓤) (W : Given
   walks : (𝓣 : Tables 𝓤 H) → Triple 𝓤 (𝓣 .C #search·plan) (Plan 𝓤 H A mem run) → Triple 𝓤 (𝓣 .C #capi·numbers·write-planned) (Write 𝓤 H A mem run)
       → Walks 𝓤 H A f.ended stayed (WpFn 𝓤 H (𝓣 .C) (𝓣 .Λ) code.function) (f.clauses 𝓤 H A mem run)
   walks 𝓣 k₁ k₂ = walked 𝓤 H A f.ended stayed (f.clauses 𝓤 H A mem run) (WpFn 𝓤 H (𝓣 .C) (𝓣 .Λ) code.function) (λ κs. (slice-vals, (uint-vals w32, (slice-vals, (slice-vals, (slice-vals, (slice-vals, (slice-vals, (slice-vals, (ptr-vals, tt))))))))))
-      (λ κs. (shr-slice-tells (named 0) (κs .0) u8, (uint-tells w32, (mut-slice-tells (named 1) (κs .1 .0) u8, (mut-slice-tells (named 2) (κs .1 .1 .0) u8, (mut-slice-tells (named 3) (κs .1 .1 .1 .0) u8, (mut-slice-tells (named 4) (κs .1 .1 .1 .1 .0) u8, (mut-slice-tells (named 5) (κs .1 .1 .1 .1 .1 .0) R, (mut-slice-tells (named 6) (κs .1 .1 .1 .1 .1 .1 .0) u8, (mut-tells (named 7) (κs .1 .1 .1 .1 .1 .1 .1 .0) Twelve, tt))))))))))
+      (λ κs. (shr-slice-tells (named 0) (κs .0) u8, (uint-tells w32, (mut-slice-tells (named 1) (κs .1 .0) u8, (mut-slice-tells (named 2) (κs .1 .1 .0) u8, (mut-slice-tells (named 3) (κs .1 .1 .1 .0) u8, (mut-slice-tells (named 4) (κs .1 .1 .1 .1 .0) u8, (mut-slice-tells (named 5) (κs .1 .1 .1 .1 .1 .0) R, (mut-slice-tells (named 6) (κs .1 .1 .1 .1 .1 .1 .0) u8, (mut-tells (named 7) (κs .1 .1 .1 .1 .1 .1 .1 .0) Eighteen, tt))))))))))
       (λ κs qs bounds a g are. via 𝓤 _ (fst∗ 𝓤 _ (emp 𝓤))
       (walk 𝓤 H A W mem run (κs .0) (κs .1 .0) (κs .1 .1 .0) (κs .1 .1 .1 .0) (κs .1 .1 .1 .1 .0) (κs .1 .1 .1 .1 .1 .0) (κs .1 .1 .1 .1 .1 .1 .0) (κs .1 .1 .1 .1 .1 .1 .1 .0) (qs .0) (qs .1 .0) (qs .1 .1 .0) (qs .1 .1 .1 .0) (qs .1 .1 .1 .1 .0) (qs .1 .1 .1 .1 .1 .0) (qs .1 .1 .1 .1 .1 .1 .0) (qs .1 .1 .1 .1 .1 .1 .1 .0)
       (a .0 .ptr .0) (a .0 .ptr .1) (a .0 .name) (a .0 .now) (a .1 .0) (a .1 .1 .0 .ptr .0) (a .1 .1 .0 .ptr .1) (a .1 .1 .0 .name) (a .1 .1 .0 .now) (a .1 .1 .1 .0 .ptr .0) (a .1 .1 .1 .0 .ptr .1) (a .1 .1 .1 .0 .name) (a .1 .1 .1 .0 .now) (a .1 .1 .1 .1 .0 .ptr .0) (a .1 .1 .1 .1 .0 .ptr .1) (a .1 .1 .1 .1 .0 .name) (a .1 .1 .1 .1 .0 .now)
@@ -269,7 +269,7 @@ module _ {M : Type 1} (𝓤 : URA M) (H : Heap 𝓤) (A : Atoms 𝓤) (W : Given
 meets : {M : Type 1} (𝓤 : URA M) (H : Heap 𝓤) (A : Atoms 𝓤) → Given 𝓤 H A → (mem : Memory → SProp 𝓤) (run : Routine → Fun 𝓤) (𝓣 : Tables 𝓤 H) → Triple 𝓤 (𝓣 .C #search·plan) (Plan 𝓤 H A mem run) → Triple 𝓤 (𝓣 .C #capi·numbers·write-planned) (Write 𝓤 H A mem run)
     → Meets 𝓤 H A f.signature (WpFn 𝓤 H (𝓣 .C) (𝓣 .Λ) code.function) (f.spec 𝓤 H A mem run)
 meets 𝓤 H A W mem run 𝓣 k₁ k₂ =
-    walk-meets 𝓤 H A f.ended stayed W (goes-dropped 𝓤 H A W 8 (shrSliceOf (0 ∷ []) tt (plain (λ _. u8))) yes (λ κs x f. refl), (goes-dropped 𝓤 H A W 8 (plain (λ _. u32)) yes (λ κs x f. refl), (goes-gave-slice 𝓤 H A W 8 1 tt (plain (λ _. u8)), (goes-gave-slice 𝓤 H A W 8 2 tt (plain (λ _. u8)), (goes-gave-slice 𝓤 H A W 8 3 tt (plain (λ _. u8)), (goes-gave-slice 𝓤 H A W 8 4 tt (plain (λ _. u8)), (goes-gave-slice 𝓤 H A W 8 5 tt (plain (λ _. R)), (goes-gave-slice 𝓤 H A W 8 6 tt (plain (λ _. u8)), (goes-gave-ref 𝓤 H A W 8 7 tt (plain (λ _. Twelve)), tt))))))))) (f.clauses 𝓤 H A mem run)
+    walk-meets 𝓤 H A f.ended stayed W (goes-dropped 𝓤 H A W 8 (shrSliceOf (0 ∷ []) tt (plain (λ _. u8))) yes (λ κs x f. refl), (goes-dropped 𝓤 H A W 8 (plain (λ _. u32)) yes (λ κs x f. refl), (goes-gave-slice 𝓤 H A W 8 1 tt (plain (λ _. u8)), (goes-gave-slice 𝓤 H A W 8 2 tt (plain (λ _. u8)), (goes-gave-slice 𝓤 H A W 8 3 tt (plain (λ _. u8)), (goes-gave-slice 𝓤 H A W 8 4 tt (plain (λ _. u8)), (goes-gave-slice 𝓤 H A W 8 5 tt (plain (λ _. R)), (goes-gave-slice 𝓤 H A W 8 6 tt (plain (λ _. u8)), (goes-gave-ref 𝓤 H A W 8 7 tt (plain (λ _. Eighteen)), tt))))))))) (f.clauses 𝓤 H A mem run)
     (WpFn 𝓤 H (𝓣 .C) (𝓣 .Λ) code.function) (WpFn-mono 𝓤 H (W .laws) 𝓣 code.function) (walks 𝓤 H A W mem run 𝓣 k₁ k₂)
 
 pub shortest-plan-spec : {M : Type 1} → stated.statement M

@@ -1,22 +1,15 @@
 -- The numbers of a checked plan, and 0 for all else.
 use borrow.Author.Needs.{needs}
-use mathlib.Core.Path.{refl}
-use Rattle.capi.specs.Numbers.{checkedNumbers}
+use Rattle.capi.specs.Numbers.{at, listed, outcomeNumbers, checkedNumbers}
 use Rattle.capi.proofs.numbers.write_checked.Statement.{statement}
 use Rattle.capi.proofs.numbers.write_checked.Tie as tie
 
-cast-t4 : tie.Need-cast-t4
-cast-t4 c = search needs
-
-cast-t5 : tie.Need-cast-t5
-cast-t5 c = search needs
-
-cast-t7 : tie.Need-cast-t7
-cast-t7 c = search needs
+write-requires : tie.Need-write-requires
+write-requires c κs = search needs
 
 returns : tie.Need-returns
-unfolding checkedNumbers
-returns c = refl
+unfolding checkedNumbers outcomeNumbers at listed
+returns c = c .write .ensures
 
 pub write-checked-spec : {M : Type 1} → statement M
-write-checked-spec = tie.close (tie.spec cast-t4 cast-t5 cast-t7 returns)
+write-checked-spec = tie.close (tie.spec write-requires returns)

@@ -1,19 +1,15 @@
 -- The numbers of a marking, and 0 for all else.
 use borrow.Author.Needs.{needs}
-use mathlib.Core.Path.{refl}
-use Rattle.capi.specs.Numbers.{markedNumbers}
+use Rattle.capi.specs.Numbers.{at, listed, outcomeNumbers, markedNumbers}
 use Rattle.capi.proofs.numbers.write_marked.Statement.{statement}
 use Rattle.capi.proofs.numbers.write_marked.Tie as tie
 
-cast-t4 : tie.Need-cast-t4
-cast-t4 c = search needs
-
-cast-t5 : tie.Need-cast-t5
-cast-t5 c = search needs
+write-requires : tie.Need-write-requires
+write-requires c κs = search needs
 
 returns : tie.Need-returns
-unfolding markedNumbers
-returns c = refl
+unfolding markedNumbers outcomeNumbers at listed
+returns c = c .write .ensures
 
 pub write-marked-spec : {M : Type 1} → statement M
-write-marked-spec = tie.close (tie.spec cast-t4 cast-t5 returns)
+write-marked-spec = tie.close (tie.spec write-requires returns)

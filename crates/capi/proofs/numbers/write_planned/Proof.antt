@@ -1,22 +1,15 @@
--- The numbers of a planning.
+-- The numbers of a planning, and 0 for all else.
 use borrow.Author.Needs.{needs}
-use mathlib.Core.Path.{refl}
-use Rattle.capi.specs.Numbers.{plannedNumbers}
+use Rattle.capi.specs.Numbers.{at, listed, outcomeNumbers, plannedNumbers}
 use Rattle.capi.proofs.numbers.write_planned.Statement.{statement}
 use Rattle.capi.proofs.numbers.write_planned.Tie as tie
 
-cast-t4 : tie.Need-cast-t4
-cast-t4 c = search needs
-
-cast-t5 : tie.Need-cast-t5
-cast-t5 c = search needs
-
-cast-t8 : tie.Need-cast-t8
-cast-t8 c = search needs
+write-requires : tie.Need-write-requires
+write-requires c κs = search needs
 
 returns : tie.Need-returns
-unfolding plannedNumbers
-returns c = refl
+unfolding plannedNumbers outcomeNumbers at listed
+returns c = c .write .ensures
 
 pub write-planned-spec : {M : Type 1} → statement M
-write-planned-spec = tie.close (tie.spec cast-t4 cast-t5 cast-t8 returns)
+write-planned-spec = tie.close (tie.spec write-requires returns)

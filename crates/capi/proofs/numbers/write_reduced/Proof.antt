@@ -1,19 +1,15 @@
 -- The numbers of a reduction, and 0 for all else.
 use borrow.Author.Needs.{needs}
-use mathlib.Core.Path.{refl}
-use Rattle.capi.specs.Numbers.{reducedNumbers}
+use Rattle.capi.specs.Numbers.{at, listed, outcomeNumbers, reducedNumbers}
 use Rattle.capi.proofs.numbers.write_reduced.Statement.{statement}
 use Rattle.capi.proofs.numbers.write_reduced.Tie as tie
 
-cast-t4 : tie.Need-cast-t4
-cast-t4 c = search needs
-
-cast-t5 : tie.Need-cast-t5
-cast-t5 c = search needs
+write-requires : tie.Need-write-requires
+write-requires c κs = search needs
 
 returns : tie.Need-returns
-unfolding reducedNumbers
-returns c = refl
+unfolding reducedNumbers outcomeNumbers at listed
+returns c = c .write .ensures
 
 pub write-reduced-spec : {M : Type 1} → statement M
-write-reduced-spec = tie.close (tie.spec cast-t4 cast-t5 returns)
+write-reduced-spec = tie.close (tie.spec write-requires returns)

@@ -1,5 +1,5 @@
 -- The answers in the order of the refusals: too many states, the table's room, no plan, the plan's room, the plan.
-use Prim.Native.Nat.{_≤_, _<_}
+use Prim.Native.Nat.{ℕ, _≤_, _<_}
 use mathlib.Core.Path.{_≡_, sym, ap, _∙_}
 use mathlib.Core.List.{List}
 use native.Mathlib.Omega.{arith}

@@ -1,0 +1,58 @@
+//! The numbers that include/shortest.h gives are those of the Rust side.
+
+use shortest::lent::{self, Answer};
+
+const HEADER: &str = include_str!("../../../include/shortest.h");
+
+fn given(name: &str) -> usize {
+    let lines = HEADER.lines().map(str::trim_start);
+    let mut numbers = lines.filter_map(|line| line.strip_prefix(name)?.strip_prefix(" = "));
+    let number = numbers.next().unwrap().trim_end_matches(',');
+    number.parse().unwrap()
+}
+
+#[test]
+fn the_longest_results() {
+    assert_eq!(given("SHORTEST_MOST_ACTIONS"), lent::MOST_ACTIONS);
+    assert_eq!(given("SHORTEST_MOST_FACTS"), lent::MOST_FACTS);
+    assert_eq!(given("SHORTEST_MOST_REDUCED"), lent::MOST_REDUCED);
+    assert_eq!(given("SHORTEST_MOST_ORIGIN"), lent::MOST_ORIGIN);
+    assert_eq!(given("SHORTEST_MOST_ENTRIES"), lent::MOST_ENTRIES);
+    assert_eq!(given("SHORTEST_MOST_PLAN"), lent::MOST_PLAN);
+}
+
+/// The names of the enum of places, in order.
+fn places() -> Vec<&'static str> {
+    let (_, behind) = HEADER.split_once("enum {\n").unwrap();
+    let (names, _) = behind.split_once("\n};").unwrap();
+    names.split(',').map(str::trim).collect()
+}
+
+#[test]
+fn the_places_of_the_numbers() {
+    let numbers = std::array::from_fn(|place| 100 + place as u64);
+    let answer = Answer::from(numbers);
+    let by_name = [
+        ("SHORTEST_NUMBER", answer.outcome.number as usize),
+        ("SHORTEST_FILE", answer.outcome.file as usize),
+        ("SHORTEST_PLACE", answer.outcome.place),
+        ("SHORTEST_ROUNDS", answer.rounds),
+        ("SHORTEST_COST", answer.cost as usize),
+        ("SHORTEST_STEPS", answer.steps),
+        ("SHORTEST_ACTIONS", answer.action_marks),
+        ("SHORTEST_FACTS", answer.fact_marks),
+        ("SHORTEST_REDUCED", answer.reduced),
+        ("SHORTEST_ORIGIN", answer.origin),
+        ("SHORTEST_TABLE", answer.table),
+        ("SHORTEST_PLAN", answer.plan),
+        ("SHORTEST_PAGE", answer.page),
+        ("SHORTEST_TASK", answer.task),
+        ("SHORTEST_TURNS", answer.turns),
+        ("SHORTEST_LIST", answer.list),
+        ("SHORTEST_GOAL", answer.goal),
+        ("SHORTEST_ENTRIES", answer.entries),
+        ("SHORTEST_NUMBERS", 100 + lent::NUMBERS),
+    ];
+    let expected: Vec<_> = places().into_iter().zip(100..).collect();
+    assert_eq!(by_name[..], expected);
+}

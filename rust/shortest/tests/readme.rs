@@ -1,0 +1,58 @@
+//! The programs that README.md shows: they stand there whole, and plan task E.
+
+use std::fs::File;
+use std::path::{Path, PathBuf};
+use std::process::{Command, Stdio};
+
+const README: &str = include_str!("../../../README.md");
+const IN_C: &str = include_str!("../../../examples/plan.c");
+const IN_RUST: &str = include_str!("../examples/plan.rs");
+
+fn at_root(path: &str) -> PathBuf {
+    Path::new(env!("CARGO_MANIFEST_DIR"))
+        .join("../..")
+        .join(path)
+}
+
+/// The program as README.md shows it, each line set in by four blanks.
+fn set_in(program: &str) -> String {
+    program.replace('\n', "\n    ").replace("    \n", "\n")
+}
+
+fn plans_task_e(program: &Path, said: &str) {
+    let task = File::open(at_root("crates/shortest/stdin")).unwrap();
+    let run = Command::new(program).stdin(task).output().unwrap();
+    assert!(run.status.success());
+    assert_eq!(String::from_utf8(run.stdout).unwrap(), said);
+}
+
+#[test]
+fn both_programs_are_shown() {
+    for program in [IN_C, IN_RUST] {
+        assert!(README.contains(set_in(program).trim_end()), "{program}");
+    }
+}
+
+#[test]
+fn the_program_in_c() {
+    let program = Path::new(env!("CARGO_TARGET_TMPDIR")).join("plan");
+    let gcc = Command::new("gcc")
+        .args(["-std=c99", "-pedantic", "-Wall", "-Wextra", "-Werror", "-I"])
+        .args([at_root("include"), at_root("examples/plan.c")])
+        .args([env!("LIBRARY"), "-o"])
+        .arg(&program)
+        .status();
+    assert!(gcc.unwrap().success());
+    plans_task_e(&program, "step 1\noutcome 0 cost 2\n");
+}
+
+#[test]
+fn the_program_in_rust() {
+    let test = std::env::current_exe().unwrap();
+    let folder = test.ancestors().nth(2).unwrap();
+    let program = folder.join("examples").join("plan");
+    plans_task_e(&program, "step 1\ncost 2\n");
+    // A file that is refused.
+    let none = Command::new(program).stdin(Stdio::null()).output().unwrap();
+    assert!(!none.status.success());
+}
