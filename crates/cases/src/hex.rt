@@ -99,7 +99,7 @@ fn digit_read(h: Hex, value: usize, file: &mut [u8]) -> Hex
 }
 
 fn step(h: Hex, letter: usize, file: &mut [u8]) -> Hex {
-    if letter == 42 {
+    if letter == b'*' as usize {
         return Hex {
             count: h.count,
             last: h.last,

@@ -18,50 +18,50 @@ use crate::reduced;
 // buffers for action marks, fact marks, the reduced file, the origin file and the plan file, which
 // hold 9s.
 pub fn run_line(text: &[u8], from: usize, to: usize, file: &mut [u8], written: &mut [u8; 70000]) {
-    let letter = files::bytes::byte_at(text, from);
-    if letter == 35 {
+    let letter = files::bytes::byte_at(text, from) as u8;
+    if letter == b'#' {
         lines::print_part(text, from, to);
-        lines::print_byte(10);
+        lines::print_byte(b'\n');
         return;
     }
     let count = hex::read(text, from, to, file);
     run_call(letter, &file[..count], written);
-    lines::print_byte(10);
+    lines::print_byte(b'\n');
 }
 
-fn run_call(letter: usize, file: &[u8], written: &mut [u8; 70000]) {
-    if letter == 116 {
+fn run_call(letter: u8, file: &[u8], written: &mut [u8; 70000]) {
+    if letter == b't' {
         lines::print_outcome(files::check_task(file));
     }
-    if letter == 111 {
+    if letter == b'o' {
         lines::print_outcome(files::check_origin(file));
     }
-    if letter == 112 && 0 < file.len() {
+    if letter == b'p' && 0 < file.len() {
         let actions = files::bytes::byte_at(file, 0);
         lines::print_outcome(files::plan::check(&file[1..], actions));
     }
-    if letter == 97 {
+    if letter == b'a' {
         write_again(file, written);
     }
-    if letter == 99 {
+    if letter == b'c' {
         check_both(file);
     }
-    if letter == 109 {
+    if letter == b'm' {
         let mut actions = [9u8; 600];
         let mut facts = [9u8; 2100];
         mark_file(file, &mut actions, &mut facts);
     }
-    if letter == 114 {
+    if letter == b'r' {
         let mut actions = [9u8; 600];
         let mut facts = [9u8; 2100];
         let mut task = [9u8; 1000];
         let mut origin = [9u8; 1000];
         reduced::reduce_file(file, &mut actions, &mut facts, &mut task, &mut origin);
     }
-    if letter == 115 {
+    if letter == b's' {
         reduced::show_stretch(file);
     }
-    if letter == 80 {
+    if letter == b'P' {
         planner::plan_file(file);
     }
 }

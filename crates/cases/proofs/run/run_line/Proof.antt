@@ -8,6 +8,9 @@ use Rattle.cases.proofs.run.run_line.Tie as tie
 byte-at-requires : tie.Need-byte-at-requires
 byte-at-requires c κs = search needs
 
+cast-letter : tie.Need-cast-letter
+cast-letter c = search needs
+
 print-part-requires : tie.Need-print-part-requires
 print-part-requires c κs = search needs
 
@@ -43,6 +46,7 @@ run-line-spec =
     tie.close
     (tie.spec
     byte-at-requires
+    cast-letter
     print-part-requires
     print-byte-requires
     returns
