@@ -9,7 +9,7 @@ use Rattle.search.specs.Rows.{rowStates}
 use Rattle.search.specs.Settling.{Unchanged}
 use Rattle.search.proofs.Blocks.{unchanged-none, unchanged-next}
 use Rattle.search.proofs.StateLoops.{product-most}
-use Rattle.search.proofs.OfferLoops.{Walk, Turns, found, walk, weight-few, taken-least, next-below, next-set, turns-begin, turns-next, turns-end, offer-last}
+use Rattle.search.proofs.OfferLoops.{Found, Walk, Turns, found, walk, weight-few, taken-least, next-below, next-set, turns-begin, turns-next, turns-end, offer-last}
 use Prim.Native.Nat.{ℕ, _-_, _<_}
 use borrow.Fn.Kinds.{In}
 use borrow.Fn.PlainCycle.{Measures, is, falls, and}
@@ -73,16 +73,22 @@ offer-add-byte-at t c = omega (arith, c .before .before .if1 .taken, c .before .
 offer-byte-at-requires : (t : ℕ) → offer-lts.Need-byte-at-requires (known t) (offer-at t) offer.Post offer-Inv-loop offer-μ-loop
 offer-byte-at-requires t c κs = search needs
 
+-- the first variable that the effects set
+abbrev from-found : (t : ℕ) → offer-lts.Then1 (known t) (offer-at t) offer.Post offer-Inv-loop offer-μ-loop → offer-lts.Start (known t) (offer-at t) offer.Post offer-Inv-loop offer-μ-loop
+from-found t c = c .before .before .before .before
+
+first-found : (t : ℕ) (c : offer-lts.Then1 (known t) (offer-at t) offer.Post offer-Inv-loop offer-μ-loop)
+    → Found (now (from-found t c .args .sizes)) (now (from-found t c .args .weights)) (now (from-found t c .args .conditions)) (now (from-found t c .args .effects)) (from-found t c .args .base) (from-found t c .args .variables) (from-found t c .args .from) (from-found t c .args .number) (c .before .next-effect .result)
+first-found t c = found _ _ _ _ _ _ _ _ _ (now (from-found t c .args .entries)) (now (from-found t c .args .changed)) (from-found t c .pre .1) (c .before .next-effect .ensures) (c .if1 .taken)
+
 offer-mul-rest : (t : ℕ) → offer-lts.Need-mul-rest (known t) (offer-at t) offer.Post offer-Inv-loop offer-μ-loop
 offer-mul-rest t c =
-    let start = c .before .before .before .before .before .before .before in
-    let f = found _ _ _ _ _ _ _ _ _ _ _ (start .pre .1) (c .before .before .before .before .next-effect .ensures) (c .before .before .before .if1 .taken) in
+    let f = first-found t (c .before .before .before) in
     omega (arith, product-most _ _ (weight-few _ _ _ _ _ _ _ _ _ _ (c .byte-at .result) f refl) (c .byte-at .ensures .below))
 
 offer-sub-rest : (t : ℕ) → offer-lts.Need-sub-rest (known t) (offer-at t) offer.Post offer-Inv-loop offer-μ-loop
 offer-sub-rest t c =
-    let start = c .before .before .before .before .before .before .before in
-    let f = found _ _ _ _ _ _ _ _ _ _ _ (start .pre .1) (c .before .before .before .before .next-effect .ensures) (c .before .before .before .if1 .taken) in
+    let f = first-found t (c .before .before .before) in
     omega (arith, taken-least _ _ _ _ _ _ _ _ _ _ (c .byte-at .result) f refl (c .byte-at .ensures .is))
 
 offer-add-byte-at-2 : (t : ℕ) → offer-lts.Need-add-byte-at-2 (known t) (offer-at t) offer.Post offer-Inv-loop offer-μ-loop
@@ -104,7 +110,7 @@ offer-earlier-requires t c κs =
 offer-loop-holds : (t : ℕ) → offer-lts.Need-loop-holds (known t) (offer-at t) offer.Post offer-Inv-loop offer-μ-loop
 offer-loop-holds t c =
     let start = c .before .before .before .before .before .before .before .before .before .before .before .before in
-    let f = found _ _ _ _ _ _ _ _ _ _ _ (start .pre .1) (c .before .before .before .before .before .before .before .before .before .next-effect .ensures) (c .before .before .before .before .before .before .before .before .if1 .taken) in
+    let f = first-found t (c .before .before .before .before .before .before .before .before) in
     let w = walk _ _ _ _ _ _ _ _ _ _ _ _ _ _ _ f refl (c .before .before .before .before .before .byte-at .ensures .is) (c .before .before .before .byte-at2 .ensures .is) (c .before .byte-at3 .ensures .is) (c .earlier .ensures) in
     (w, turns-begin _ _ _ _ _ _ _ _ _ _ _ _ _ w _ _ (start .pre .1 .room), unchanged-none _ _, refl)
 
