@@ -1,4 +1,4 @@
--- An array that is filled from the front: what holds of each cell before v and of the new one holds of each before v + 1,
+-- An array that is filled from the front: what holds of each element before v and of the new one holds of each before v + 1,
 -- and what holds of each entry from v on holds of each from v + 1 on.
 use Prim.Native.Nat.{ℕ, _+_, _≤_, _<_}
 use mathlib.Core.Path.{_≡_, sym, subst, _∙_}

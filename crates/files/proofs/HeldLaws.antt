@@ -22,7 +22,7 @@ use Rattle.files.proofs.Placed.{placed-in}
 use Rattle.files.proofs.Tabulate.{tabulate-is}
 use Rattle.files.proofs.RowLaws.{Ordered, cellOf, row-cell, rows-cell, rowPairs-is}
 
--- a list of numbers placed at the front of an array, one for each cell of a list
+-- a list of numbers placed at the front of an array, one for each element of a list
 entry-placed : {A : Type 0} (f : A → ℕ) (l : List A) (d : A) (b : List ℕ) (i : ℕ) → f d ≡ 0 → length l ≤ length b → i < length l
     → getD (placed b 0 (map f l)) i 0 ≡ f (getD l i d)
 entry-placed f l d b i z r h =

@@ -1,4 +1,4 @@
--- Tests, counts, sums and lists over the numbers below a bound and over the cells of a list.
+-- Tests, counts, sums and lists over the numbers below a bound and over the elements of a list.
 use mathlib.Core.Bool.{Bool, true, false, cond, _&&_, _||_}
 use mathlib.Core.List.{List, [], _∷_, _++_}
 use Prim.Native.Nat.{ℕ, zero, suc, _+_}
@@ -50,17 +50,17 @@ abbrev pub joinBelow : {A : Type 0} → ℕ → (ℕ → List A) → List A
 joinBelow zero f = []
 joinBelow (suc n) f = joinBelow n f ++ f n
 
--- some cell of the list passes
+-- some element of the list passes
 abbrev pub anyOf : {A : Type 0} → (A → Bool) → List A → Bool
 anyOf f [] = false
 anyOf f (x ∷ xs) = f x || anyOf f xs
 
--- every cell of the list passes
+-- every element of the list passes
 abbrev pub allOf : {A : Type 0} → (A → Bool) → List A → Bool
 allOf f [] = true
 allOf f (x ∷ xs) = f x && allOf f xs
 
--- two lists have the same cells, by a test of cells
+-- two lists have the same elements, by a test of elements
 abbrev pub sameList : {A : Type 0} → (A → A → Bool) → List A → List A → Bool
 sameList same [] [] = true
 sameList same [] (y ∷ ys) = false

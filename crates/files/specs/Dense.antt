@@ -8,7 +8,7 @@ use Rattle.files.specs.Below.{tabulate}
 use Rattle.files.specs.Task.{Pair, Variable, Action, Task, pair, variable, action}
 use Rattle.files.specs.OriginFile.{VariableOrigin, Origin}
 
--- a cell per variable, a cell per action, and for each action a row of 64 cells, one per variable;
+-- a number per variable, a number per action, and for each action a row of 64 cells, one per variable;
 -- in a row 255 stands for no pair
 pub record Arrays : Type 0 where
   pub variables : ℕ

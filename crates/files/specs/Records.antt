@@ -55,7 +55,7 @@ bodyRule kind =
     kind
     unknownKind
 
--- a body under the rule of its kind: 3 where it is too short or broken, 4 where it has too many cells
+-- a body under the rule of its kind: 3 where it is too short or broken, 4 where it has too many entries
 unfoldable pub bodyFits : Rule → ℕ → ℕ → Outcome
 bodyFits r bytes at =
     guard (leb (r .least) bytes) 3 at

@@ -1,4 +1,4 @@
-// An accepted task file into dense arrays: a cell per variable and action, and for each action
+// An accepted task file into dense arrays: a number per variable and action, and for each action
 // a row of 64 cells, one per variable, in which 255 stands for no pair.
 ghost use mathlib.Core.Path.{_≡_};
 ghost use Prim.Native.Nat.{_+_, _*_, _^_, _≤_};

@@ -5,7 +5,7 @@ ghost use Prim.Native.Nat.{_+_, _*_, _^_, _<_, _≤_};
 ghost use lib.ListN.{length};
 ghost use Rattle.files.specs.Bytes.{u16Bytes, u32Bytes, placed};
 ghost use Rattle.files.specs.Contracts.{IsBelow, IsRule};
-ghost use Rattle.files.specs.Records.{offsetLimit, rule, bodyLength, kindAt, recordEnd, bodyFits, headAt, numbersAt, signOffAt, signerOf, recordBytes};
+ghost use Rattle.files.specs.Records.{offsetLimit, bodyLength, kindAt, recordEnd, bodyFits, headAt, numbersAt, signOffAt, signerOf, recordBytes};
 use crate::Outcome;
 use crate::bytes;
 use crate::outcomes;
@@ -34,30 +34,75 @@ struct Rule {
     limit: usize,
 }
 
-fn lengths(least: usize, step: usize, limit: usize) -> Rule
-    ensures { λ r. ⌜ r ≡ rule least step limit ⌝ }
-{
-    Rule {
-        least: least,
-        step: step,
-        limit: limit,
-    }
-}
+const HEADER_BODY: Rule = Rule {
+    least: 4,
+    step: 65536,
+    limit: 4,
+};
 
-// The body length rule of each kind; no body fits an unknown one.
+const VARIABLE_BODY: Rule = Rule {
+    least: 4,
+    step: 65536,
+    limit: 4,
+};
+
+const GOAL_BODY: Rule = Rule {
+    least: 0,
+    step: 4,
+    limit: 256,
+};
+
+const ACTION_BODY: Rule = Rule {
+    least: 8,
+    step: 1,
+    limit: 65535,
+};
+
+const SIGN_OFF_BODY: Rule = Rule {
+    least: 8,
+    step: 65536,
+    limit: 8,
+};
+
+const VARIABLE_ORIGIN_BODY: Rule = Rule {
+    least: 4,
+    step: 2,
+    limit: 66,
+};
+
+const ACTION_ORIGIN_BODY: Rule = Rule {
+    least: 0,
+    step: 2,
+    limit: 1024,
+};
+
+const PLAN_BODY: Rule = Rule {
+    least: 0,
+    step: 2,
+    limit: 8192,
+};
+
+// No body fits.
+const UNKNOWN_BODY: Rule = Rule {
+    least: 65536,
+    step: 1,
+    limit: 0,
+};
+
+// The body length rule of each kind, and of those that are unknown.
 fn body_rule(kind: usize) -> Rule
     ensures { λ r. ⌜ IsRule r kind ⌝ }
 {
     match kind {
-        HEADER => lengths(4, 65536, 4),
-        VARIABLE => lengths(4, 65536, 4),
-        GOAL => lengths(0, 4, 256),
-        ACTION => lengths(8, 1, 65535),
-        SIGN_OFF => lengths(8, 65536, 8),
-        VARIABLE_ORIGIN => lengths(4, 2, 66),
-        ACTION_ORIGIN => lengths(0, 2, 1024),
-        PLAN => lengths(0, 2, 8192),
-        0 | 9.. => lengths(65536, 1, 0),
+        HEADER => HEADER_BODY,
+        VARIABLE => VARIABLE_BODY,
+        GOAL => GOAL_BODY,
+        ACTION => ACTION_BODY,
+        SIGN_OFF => SIGN_OFF_BODY,
+        VARIABLE_ORIGIN => VARIABLE_ORIGIN_BODY,
+        ACTION_ORIGIN => ACTION_ORIGIN_BODY,
+        PLAN => PLAN_BODY,
+        0 | 9.. => UNKNOWN_BODY,
     }
 }
 
@@ -116,7 +161,7 @@ pub(crate) fn check_head(s: &[u8], at: usize, kind: usize) -> Outcome
     if found != kind {
         return outcomes::refuse(outcomes::NOT_DUE, at);
     }
-    check_body(body_rule(kind), body_length(s, at), at)
+    check_body(body_rule(found), body_length(s, at), at)
 }
 
 // `count` numbers of 2 bytes, each below the limit.

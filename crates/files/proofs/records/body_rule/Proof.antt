@@ -1,14 +1,12 @@
 -- Each kind's arm gives the entry of its number in the definition's list; a kind that is in no arm lies past the list.
 use Prim.Native.Nat.{ℕ, zero-le, _+_, _≤_, _<_}
 use mathlib.Core.Path.{_≡_, refl, sym, ap, subst, _∙_}
-use mathlib.Core.Logic.{⊎-elim}
 use native.Mathlib.Omega.{arith}
 use lib.Dec.{lit<}
 use lib.ListN.{List·getD-eq-default}
 use Rattle.files.specs.Contracts.{IsRule}
 use Rattle.files.specs.Records.{rule, bodyRule}
 use Rattle.files.specs.declared.records.Rule.{Rule}
-use borrow.Author.Needs.{needs}
 use Rattle.files.proofs.records.body_rule.Statement.{statement}
 use Rattle.files.proofs.records.body_rule.Tie as tie
 
@@ -23,73 +21,46 @@ rule-past : (kind : ℕ) (r : Rule) → r ≡ rule 65536 1 0 → 9 ≤ kind → 
 unfolding bodyRule
 rule-past kind r e h = record { is = e ∙ rw List·getD-eq-default; steps = subst (λ (y : Rule). 0 < y .step) (sym e) (lit< tt) }
 
-lengths-requires : tie.Need-lengths-requires
-lengths-requires c κs = search needs
-
-lengths-requires-2 : tie.Need-lengths-requires-2
-lengths-requires-2 c κs = search needs
-
-lengths-requires-3 : tie.Need-lengths-requires-3
-lengths-requires-3 c κs = search needs
-
-lengths-requires-4 : tie.Need-lengths-requires-4
-lengths-requires-4 c κs = search needs
-
-lengths-requires-5 : tie.Need-lengths-requires-5
-lengths-requires-5 c κs = search needs
-
-lengths-requires-6 : tie.Need-lengths-requires-6
-lengths-requires-6 c κs = search needs
-
-lengths-requires-7 : tie.Need-lengths-requires-7
-lengths-requires-7 c κs = search needs
-
-lengths-requires-8 : tie.Need-lengths-requires-8
-lengths-requires-8 c κs = search needs
-
-lengths-requires-9 : tie.Need-lengths-requires-9
-lengths-requires-9 c κs = search needs
-
 returns : tie.Need-returns
 unfolding bodyRule
-returns c = rule-of _ 1 _ (rule 4 65536 4) (c .lengths .ensures) (c .before .match .keys1) refl (lit< tt)
+returns c = rule-of _ 1 _ (rule 4 65536 4) refl (c .match .keys1) refl (lit< tt)
 
 returns-2 : tie.Need-returns-2
 unfolding bodyRule
-returns-2 c = rule-of _ 2 _ (rule 4 65536 4) (c .lengths2 .ensures) (c .before .match .keys2) refl (lit< tt)
+returns-2 c = rule-of _ 2 _ (rule 4 65536 4) refl (c .match .keys2) refl (lit< tt)
 
 returns-3 : tie.Need-returns-3
 unfolding bodyRule
-returns-3 c = rule-of _ 3 _ (rule 0 4 256) (c .lengths3 .ensures) (c .before .match .keys3) refl (lit< tt)
+returns-3 c = rule-of _ 3 _ (rule 0 4 256) refl (c .match .keys3) refl (lit< tt)
 
 returns-4 : tie.Need-returns-4
 unfolding bodyRule
-returns-4 c = rule-of _ 4 _ (rule 8 1 65535) (c .lengths4 .ensures) (c .before .match .keys4) refl (lit< tt)
+returns-4 c = rule-of _ 4 _ (rule 8 1 65535) refl (c .match .keys4) refl (lit< tt)
 
 returns-5 : tie.Need-returns-5
 unfolding bodyRule
-returns-5 c = rule-of _ 5 _ (rule 8 65536 8) (c .lengths5 .ensures) (c .before .match .keys5) refl (lit< tt)
+returns-5 c = rule-of _ 5 _ (rule 8 65536 8) refl (c .match .keys5) refl (lit< tt)
 
 returns-6 : tie.Need-returns-6
 unfolding bodyRule
-returns-6 c = rule-of _ 6 _ (rule 4 2 66) (c .lengths6 .ensures) (c .before .match .keys6) refl (lit< tt)
+returns-6 c = rule-of _ 6 _ (rule 4 2 66) refl (c .match .keys6) refl (lit< tt)
 
 returns-7 : tie.Need-returns-7
 unfolding bodyRule
-returns-7 c = rule-of _ 7 _ (rule 0 2 1024) (c .lengths7 .ensures) (c .before .match .keys7) refl (lit< tt)
+returns-7 c = rule-of _ 7 _ (rule 0 2 1024) refl (c .match .keys7) refl (lit< tt)
 
 returns-8 : tie.Need-returns-8
 unfolding bodyRule
-returns-8 c = rule-of _ 8 _ (rule 0 2 8192) (c .lengths8 .ensures) (c .before .match .keys8) refl (lit< tt)
+returns-8 c = rule-of _ 8 _ (rule 0 2 8192) refl (c .match .keys8) refl (lit< tt)
 
 returns-9 : tie.Need-returns-9
 unfolding bodyRule
-returns-9 c =
-    ⊎-elim
-    (λ zeroth. rule-of _ 0 _ (rule 65536 1 0) (c .lengths9 .ensures) (zeroth .keys9) refl (lit< tt))
-    (λ other.
-    let k = c .before .before .args .kind in
-    let r = other .rest in
+returns-9 c = rule-of _ 0 _ (rule 65536 1 0) refl (c .match .keys9) refl (lit< tt)
+
+returns-10 : tie.Need-returns-10
+returns-10 c =
+    let k = c .before .args .kind in
+    let r = c .match .rest in
     let from1 = above 0 k zero-le (r .1) in
     let from2 = above 1 k from1 (r .0 .0 .0 .0 .0 .0 .0 .0 .1) in
     let from3 = above 2 k from2 (r .0 .0 .0 .0 .0 .0 .0 .1) in
@@ -98,22 +69,12 @@ returns-9 c =
     let from6 = above 5 k from5 (r .0 .0 .0 .0 .1) in
     let from7 = above 6 k from6 (r .0 .0 .0 .1) in
     let from8 = above 7 k from7 (r .0 .0 .1) in
-    rule-past k _ (c .lengths9 .ensures) (above 8 k from8 (r .0 .1)))
-    (c .before .match .came)
+    rule-past k _ refl (above 8 k from8 (r .0 .1))
 
 pub body-rule-spec : {M : Type 1} → statement M
 body-rule-spec =
     tie.close
     (tie.spec
-    lengths-requires
-    lengths-requires-2
-    lengths-requires-3
-    lengths-requires-4
-    lengths-requires-5
-    lengths-requires-6
-    lengths-requires-7
-    lengths-requires-8
-    lengths-requires-9
     returns
     returns-2
     returns-3
@@ -122,4 +83,5 @@ body-rule-spec =
     returns-6
     returns-7
     returns-8
-    returns-9)
+    returns-9
+    returns-10)

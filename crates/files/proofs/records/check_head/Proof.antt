@@ -1,7 +1,8 @@
 -- Each test is the negation of the definition's at the same place, and the body is checked by the rule of its kind.
+use mathlib.Core.Path.{ap, _∙_}
 use borrow.Author.Needs.{needs}
 use borrow.Author.Tests.{ne-eqb}
-use Rattle.files.specs.Records.{headAt}
+use Rattle.files.specs.Records.{bodyRule, headAt}
 use Rattle.files.proofs.Guards.{forms}
 use Rattle.files.proofs.records.check_head.Statement.{statement}
 use Rattle.files.proofs.records.check_head.Tie as tie
@@ -49,7 +50,7 @@ returns-4 : tie.Need-returns-4
 unfolding headAt
 returns-4 c =
     rw (
-      ← c .before .before .body-rule .ensures .is,
+      ← (c .before .before .body-rule .ensures .is ∙ ap bodyRule (c .before .before .before .if3 .left)),
       ← c .before .body-length .ensures .is,
     )
     (search forms depth 12 fits 5000)
