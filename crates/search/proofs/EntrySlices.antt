@@ -26,10 +26,6 @@ vals = LL.vals T₀.the-type T′.the-laws
 pub tells : Tells R (Is R) vals
 tells = LL.tells T₀.the-type T′.the-laws
 
--- an entry whose two numbers fit is one
-pub is-entry : (e : Entry) → e .minutes < 2 ^ 64 → e .steps < 2 ^ 16 → Is R e (vals e)
-is-entry e m s = LL.owes T₀.the-type T′.the-laws e ((refl, m), ((refl, s), tt))
-
 -- element i lies i * 16 past the start
 pub place-entry : (o i : ℕ) → place (mem R .size) o i ≡ i * 16 + o
 place-entry o i = place-is 16 o i

@@ -3,7 +3,6 @@
 --     lend-array       a local that holds a `[T; n]` is lent as a `&ν [T]` for a new lifetime ν, for a call
 --     array-home       ν is ended, and the local's room comes back
 --     lend-array-mut, array-mut-home       the same as a `&ν mut [T]`: the local comes back at the list that the callee's `post` said
---     told             a fact that is shown is put into the context, as where a contract has more than one `ensures`
 --     big-lit          a constant that MIR writes as `intBig`, as 4096: `Types/Run.antt` has no rule for one
 -- n is the count of the machine value, which is the list's length: in a loop the list changes, and the machine value does not.
 use mathlib.Core.Path.{_≡_, refl, sym, subst, ap, _∙_}
@@ -46,9 +45,6 @@ first (v ∷ vs) = v
 -- what is had beside the cell and what the element owns while an element of a `&κ mut [T]` is taken
 abbrev pub Taken : (R : RattleType) → Lft → Share → GName → List (R .Denot) → ℕ → ℕ → ℕ → Fml
 Taken R κ q γ ys i b o = fsep (others (shares R) fullShare ys i b o) (fsep (fobor κ q (Held R (length ys) b o γ)) (fsep (fobs γ (codedHoleys R .code (heres R ys))) (fauth γ (codedHoleys R .code (heres R ys)))))
-
-pub told : {M : Type 1} {𝓤 : URA M} {H : Heap 𝓤} {A : Atoms 𝓤} {K : Type 0} (W : Given 𝓤 H A) {Γ : List (Item 𝓤)} {G : Goal 𝓤 H} (φ : Type 0) → φ → Step K W (raw (fact 𝓤 φ) ∷ Γ) G Γ G
-told {𝓤 = 𝓤} W φ x = use0 W (raw (fact 𝓤 φ)) (factI 𝓤 φ (emp 𝓤) x)
 
 module _ {M : Type 1} {𝓤 : URA M} {H : Heap 𝓤} {A : Atoms 𝓤} {K : Type 0} {W : Given 𝓤 H A} {Γ : List (Item 𝓤)} {E : Env 𝓤 H} where
   pub big-lit : K → {w : Width} {n : ℕ} → Fits w n → Opd K W Γ E (intBig w n) (vint w n)

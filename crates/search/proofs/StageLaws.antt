@@ -9,7 +9,6 @@ use lib.Dec.{leb}
 use lib.ListN.{length, getD, take, drop, length-append, length-map, replicate, length-replicate}
 use lib.Seq.{take-append-seam}
 use borrow.Author.Tests.{leb-true, le-leb}
-use Rattle.files.specs.declared.Outcome.{Outcome}
 use Rattle.files.specs.Accepted.{validSigner, acceptedTask}
 use Rattle.files.specs.Bytes.{Octets}
 use Rattle.files.specs.OriginFile.{Origin, originOf}
@@ -19,14 +18,14 @@ use Rattle.files.specs.Stages.{Stage, outcomeOf, leftBy, answerBy}
 use Rattle.files.specs.Task.{Task, actionCount}
 use Rattle.files.specs.TaskFile.{checkTask, taskOf}
 use Rattle.files.proofs.Guards.{is-done, is-refused, done-number, passed, both-done}
-use Rattle.files.proofs.Logic.{split, split-option, and-join, clash}
+use Rattle.files.proofs.Logic.{split, split-option, and-join}
 use Rattle.files.proofs.OriginRoundTrip.{origin-read-as}
 use Rattle.files.proofs.Stages.{left-last, by-first, by-second, given-whole, given-refused}
 use Rattle.files.proofs.TaskChecked.{task-accepted}
 use Rattle.files.proofs.TaskRoundTrip.{task-read-as}
 use Rattle.files.proofs.Listed.{task-check-done}
 use Rattle.files.proofs.Valid.{Valid, task-valid}
-use Rattle.plans.specs.Plan.{IsPlan, Total, totalOf}
+use Rattle.plans.specs.Plan.{IsPlan, totalOf}
 use Rattle.marking.specs.Mark.{validLevel}
 use Rattle.reduction.specs.declared.Reduced.{Reduced}
 use Rattle.reduction.specs.Task.{keptActions, keptAt, reducedBy, originBy, reducedTask, originsAt, byOriginal}
@@ -44,7 +43,7 @@ use Rattle.search.specs.FirstPlan.{firstPlan}
 use Rattle.search.specs.Least.{PlanFirst}
 use Rattle.search.specs.Entries.{entriesIn}
 use Rattle.search.specs.Planner.{planLevel, searched, searchedStates, planFound, planMade, statesFit, planFits, SearchBuffers, searchBuffers, searchStages, lent, unplanned, planWhole, planStages}
-use Rattle.search.specs.Found.{foundPlan, foundStates, foundWhole, notFound, Searches, SearchesRoom, bothTogether, PlansRoom}
+use Rattle.search.specs.Found.{foundPlan, foundStates, foundWhole, notFound, SearchesRoom, bothTogether, PlansRoom}
 use Rattle.search.proofs.FoundLaws.{no-entries, plan-is}
 use Rattle.search.proofs.LeastPlans.{search-least}
 

@@ -1,4 +1,4 @@
--- What the search of one task comes to, its plan written by other numbers, and the planner's stages on columns.
+-- What the search of one task comes to, its plan written by other numbers, and the planner's stages for a table of so many entries.
 use Prim.Native.Nat.{ℕ, _≤_}
 use mathlib.Core.Path.{_≡_}
 use mathlib.Core.Bool.{cond}

@@ -52,7 +52,7 @@ pub fn plan(
 {
     let mut entries = [0u64; 8192];
     let room = table.len();
-    let run = stages::plan_columns(
+    let run = stages::run_stages(
         task,
         signer,
         actions,

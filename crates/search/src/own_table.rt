@@ -18,7 +18,7 @@ pub fn plan(
     ensures { λ r. ⌜ PlansAlone (now (task .entry)) signer (buffers (now (actions .entry)) (now (facts .entry)) (now (reduced .entry)) (now (origin .entry))) (now (plan .entry)) r (buffers (now (actions .exit)) (now (facts .exit)) (now (reduced .exit)) (now (origin .exit))) (now (plan .exit)) ⌝ }
 {
     let mut entries = [0u64; 8192];
-    let run = stages::plan_columns(
+    let run = stages::run_stages(
         task,
         signer,
         actions,

@@ -220,7 +220,7 @@ fn together(first: reduction::Reduced, found: Found) -> Run
 }
 
 // All stages, for a table of `room` entries.
-pub fn plan_columns(
+pub fn run_stages(
     task: &[u8],
     signer: u32,
     actions: &mut [u8],

@@ -1,7 +1,7 @@
 -- `capi::shortest_plan` meets its contract: a walk of its MIR, by hand, with no branch and no loop. What the caller lent is passed on, the buffers and the table to `search::plan` and `out` to `numbers::write_planned`, which is covered.
 -- All that the proof knows of the two callees is that they meet their contracts.
 -- Assumes nothing.
-use mathlib.Core.Path.{_≡_, refl, _∙_, ap, subst}
+use mathlib.Core.Path.{_≡_, refl, ap, subst}
 use Prim.Native.Nat.{ℕ, _<_, _^_}
 use mathlib.Core.List.{List, [], _∷_}
 use lib.ListN.{length}

@@ -1,11 +1,10 @@
--- `search::plan` meets its contract: a walk of its MIR, by hand, with no branch and no loop. A local array is lent to `stages::plan_columns`, which is covered, and then to `work_table::fill`; what the caller lent is passed on.
+-- `search::plan` meets its contract: a walk of its MIR, by hand, with no branch and no loop. A local array is lent to `stages::run_stages`, which is covered, and then to `work_table::fill`; what the caller lent is passed on.
 -- All that the proof knows of the two callees is that they meet their contracts.
 -- Assumes nothing.
-use mathlib.Core.Path.{_≡_, refl, sym, _∙_, ap, subst}
+use mathlib.Core.Path.{_≡_, refl, sym, ap, subst}
 use Prim.Native.Nat.{ℕ, _<_, _≤_, _^_}
 use native.Mathlib.Nat.{le-of-eq}
 use native.Mathlib.Omega.{arith}
-use mathlib.Core.Bool.{cond}
 use mathlib.Core.List.{List, [], _∷_}
 use lib.ListN.{length, replicate}
 use lib.Dec.{lit<}
@@ -59,10 +58,10 @@ use Rattle.search.proofs.stages.Run.Laws as O′
 use Rattle.search.proofs.EntrySlices.{R}
 use Rattle.search.proofs.PlannerRight.{plans-right}
 use Rattle.search.proofs.Hand.{big-lit, ref, lend-array, array-home, lend-array-mut, array-mut-home}
-use Rattle.search.proofs.stages.plan_columns as d
-use Rattle.search.proofs.stages.plan_columns.Symbol as d-def
-use Rattle.search.proofs.stages.plan_columns.Symbol.{name as #search·stages·plan-columns}
-use Rattle.search.proofs.stages.plan_columns.Met as d-thm
+use Rattle.search.proofs.stages.run_stages as d
+use Rattle.search.proofs.stages.run_stages.Symbol as d-def
+use Rattle.search.proofs.stages.run_stages.Symbol.{name as #search·stages·run-stages}
+use Rattle.search.proofs.stages.run_stages.Met as d-thm
 use Rattle.search.proofs.work_table.fill as g
 use Rattle.search.proofs.work_table.fill.Symbol as g-def
 use Rattle.search.proofs.work_table.fill.Symbol.{name as #search·work-table·fill}
@@ -78,8 +77,8 @@ stayed = (stay-dropped (shrSliceOf (0 ∷ []) tt (plain (λ _. u8))) yes, (stay-
 
 -- the contracts that the proof cites
 module _ {M : Type 1} (𝓤 : URA M) (H : Heap 𝓤) (A : Atoms 𝓤) (mem : Memory → SProp 𝓤) (run : Routine → Fun 𝓤) where
-  abbrev Columns : Contract 𝓤
-  Columns = tripleOf 𝓤 H A d.signature (d.spec 𝓤 H A mem run)
+  abbrev Staged : Contract 𝓤
+  Staged = tripleOf 𝓤 H A d.signature (d.spec 𝓤 H A mem run)
 
   abbrev Fill : Contract 𝓤
   Fill = tripleOf 𝓤 H A g.signature (g.spec 𝓤 H A mem run)
@@ -186,15 +185,15 @@ module _ {M : Type 1} (𝓤 : URA M) (H : Heap 𝓤) (A : Atoms 𝓤) (W : Given
       nothing ! $ move ! (6 ∷ 0 ∷ []) $ fjoin ! $ move ! (5 ∷ 0 ∷ []) $ fjoin ! $ move ! (4 ∷ 0 ∷ []) $ fjoin ! $ move ! (3 ∷ 0 ∷ []) $ fjoin ! $ move ! (2 ∷ 0 ∷ []) $ fjoin ! $ move ! (1 ∷ 0 ∷ []) $ fjoin ! $ nothing ! $ fjoin ! $ nothing ! $ fjoin ! $ frame ! $
       owned ! P (Is P) (LL.makes P₀.the-type P′.the-plain 𝓤 H A) (r .planned) (P′.lowered (r .planned) ∷ []) is $ done !
 
-  -- what `plan_columns`'s triple binds outside, and that it is had
-  abbrev lfts-columns : ℕ → Lfts 7
-  lfts-columns ν = (κ₀, (κ₁, (κ₂, (κ₃, (κ₄, (ν ∷ [], (κ₆, tt)))))))
+  -- what `run_stages`'s triple binds outside, and that it is had
+  abbrev lfts-stages : ℕ → Lfts 7
+  lfts-stages ν = (κ₀, (κ₁, (κ₂, (κ₃, (κ₄, (ν ∷ [], (κ₆, tt)))))))
 
-  abbrev columns-args : GName → ℕ → RefT (List ℕ) × (ℕ × (RefT (List ℕ) × (RefT (List ℕ) × (RefT (List ℕ) × (RefT (List ℕ) × (RefT (List ℕ) × (ℕ × (RefT (List ℕ) × Unit {0}))))))))
-  columns-args δ l₉ = (ref bk ok γk tk, (sg, (ref ba oa γa xa, (ref bf of γf xf, (ref br or γr xr, (ref bo oo γo xo, (ref l₉ 0 δ z64, (length ys, (ref bp op γp xp, tt)))))))))
+  abbrev stages-args : GName → ℕ → RefT (List ℕ) × (ℕ × (RefT (List ℕ) × (RefT (List ℕ) × (RefT (List ℕ) × (RefT (List ℕ) × (RefT (List ℕ) × (ℕ × (RefT (List ℕ) × Unit {0}))))))))
+  stages-args δ l₉ = (ref bk ok γk tk, (sg, (ref ba oa γa xa, (ref bf of γf xf, (ref br or γr xr, (ref bo oo γo xo, (ref l₉ 0 δ z64, (length ys, (ref bp op γp xp, tt)))))))))
 
-  abbrev to-columns : ℕ → GName → ℕ → Columns 𝓤 H A at-mem run .Ghost
-  to-columns ν δ l₉ = ((lfts-columns ν, (q₀, (q₁, (q₂, (q₃, (q₄, (fullShare, (q₆, tt))))))), tt, columns-args δ l₉, (kv ∷ [], (vint w32 sg ∷ [], (av ∷ [], (fv ∷ [], (rv ∷ [], (ov ∷ [], (sliceVal (l₉, 0) 8192 ∷ [], (vint w64 (length ys) ∷ [], (pv ∷ [], tt)))))))))), tt)
+  abbrev to-stages : ℕ → GName → ℕ → Staged 𝓤 H A at-mem run .Ghost
+  to-stages ν δ l₉ = ((lfts-stages ν, (q₀, (q₁, (q₂, (q₃, (q₄, (fullShare, (q₆, tt))))))), tt, stages-args δ l₉, (kv ∷ [], (vint w32 sg ∷ [], (av ∷ [], (fv ∷ [], (rv ∷ [], (ov ∷ [], (sliceVal (l₉, 0) 8192 ∷ [], (vint w64 (length ys) ∷ [], (pv ∷ [], tt)))))))))), tt)
 
   abbrev Tokens : ℕ → Item 𝓤
   Tokens ν = ‵ (flft κ₀ q₀) ⊛ ‵ (flft κ₁ q₁) ⊛ ‵ (flft κ₂ q₂) ⊛ ‵ (flft κ₃ q₃) ⊛ ‵ (flft κ₄ q₄) ⊛ ‵ (flft (ν ∷ []) fullShare) ⊛ ‵ (flft κ₆ q₆) ⊛ ‵ ftrue
@@ -204,8 +203,8 @@ module _ {M : Type 1} (𝓤 : URA M) (H : Heap 𝓤) (A : Atoms 𝓤) (W : Given
       ∷ ‵ (ShrSlice (named 0) κ₀ u8 .own (ref bk ok γk tk) (kv ∷ [])) ∷ ‵ (MutSlice (named 1) κ₁ u8 .own (ref ba oa γa xa) (av ∷ [])) ∷ ‵ (MutSlice (named 2) κ₂ u8 .own (ref bf of γf xf) (fv ∷ [])) ∷ ‵ (MutSlice (named 3) κ₃ u8 .own (ref br or γr xr) (rv ∷ [])) ∷ ‵ (MutSlice (named 4) κ₄ u8 .own (ref bo oo γo xo) (ov ∷ []))
       ∷ ‵ (MutSlice (named 5) (ν ∷ []) u64 .own (ref l₉ 0 δ z64) (sliceVal (l₉, 0) 8192 ∷ [])) ∷ ‵ (MutSlice (named 6) κ₆ u8 .own (ref bp op γp xp) (pv ∷ [])) ∷ []
 
-  goes-columns : (ν : ℕ) (δ : GName) (l₉ : ℕ) → length z64 ≡ 8192 → ent 𝓤 (⋆ 𝓤 H A (Handed ν δ l₉)) (Columns 𝓤 H A at-mem run .pre (to-columns ν δ l₉))
-  goes-columns ν δ l₉ e =
+  goes-stages : (ν : ℕ) (δ : GName) (l₉ : ℕ) → length z64 ≡ 8192 → ent 𝓤 (⋆ 𝓤 H A (Handed ν δ l₉)) (Staged 𝓤 H A at-mem run .pre (to-stages ν δ l₉))
+  goes-stages ν δ l₉ e =
       qed W (Handed ν δ l₉) ∵ says ! (le-of-eq (sym e)) $
       nothing ! $ move ! (7 ∷ 0 ∷ []) $ join ! $ move ! (6 ∷ 0 ∷ []) $ join ! $ move ! (5 ∷ 0 ∷ []) $ join ! $ move ! (4 ∷ 0 ∷ []) $ join ! $ move ! (3 ∷ 0 ∷ []) $ join ! $ move ! (2 ∷ 0 ∷ []) $ join ! $ move ! (1 ∷ 0 ∷ []) $ join ! $ frame ! $
       nothing ! $ move ! (7 ∷ 0 ∷ []) $ fjoin ! $ owned ! usize (Is usize) (uint-makes 𝓤 H A W w64) (length ys) _ (refl, gt .0) $ fjoin ! $ move ! (6 ∷ 0 ∷ []) $ fjoin ! $ move ! (5 ∷ 0 ∷ []) $ fjoin ! $ move ! (4 ∷ 0 ∷ []) $ fjoin ! $ move ! (3 ∷ 0 ∷ []) $ fjoin ! $ move ! (2 ∷ 0 ∷ []) $ fjoin ! $ owned ! u32 (Is u32) (uint-makes 𝓤 H A W w32) sg _ (refl, gsg) $ fjoin ! $ move ! (1 ∷ 0 ∷ []) $ fjoin ! $ done !
@@ -239,9 +238,9 @@ module _ {M : Type 1} (𝓤 : URA M) (H : Heap 𝓤) (A : Atoms 𝓤) (W : Given
       nothing ! $ move ! (2 ∷ 0 ∷ []) $ join ! $ move ! (1 ∷ 0 ∷ []) $ join ! $ frame ! $
       nothing ! $ owned ! usize (Is usize) (uint-makes 𝓤 H A W w64) n _ (refl, small few) $ fjoin ! $ move ! (2 ∷ 0 ∷ []) $ fjoin ! $ move ! (1 ∷ 0 ∷ []) $ fjoin ! $ done !
 
-  walk : (C : Calls 𝓤 H) (Λ : Loops 𝓤 H) → FmC 𝓤 H (W .laws) C → Triple 𝓤 (C #search·stages·plan-columns) (Columns 𝓤 H A at-mem run) → Triple 𝓤 (C #search·work-table·fill) (Fill 𝓤 H A at-mem run)
+  walk : (C : Calls 𝓤 H) (Λ : Loops 𝓤 H) → FmC 𝓤 H (W .laws) C → Triple 𝓤 (C #search·stages·run-stages) (Staged 𝓤 H A at-mem run) → Triple 𝓤 (C #search·work-table·fill) (Fill 𝓤 H A at-mem run)
       → ent 𝓤 (onEntry 𝓤 H A f.signature κs (q₀, (q₁, (q₂, (q₃, (q₄, (q₅, (q₆, tt))))))) a at) (WpFn 𝓤 H C Λ code.function (kv ∷ vint w32 sg ∷ av ∷ fv ∷ rv ∷ ov ∷ tv ∷ pv ∷ []) Post)
-  walk C Λ fm k-columns k-fill =
+  walk C Λ fm k-stages k-fill =
       qed W ((‵ (flft κ₀ q₀) ⊛ ‵ (flft κ₁ q₁) ⊛ ‵ (flft κ₂ q₂) ⊛ ‵ (flft κ₃ q₃) ⊛ ‵ (flft κ₄ q₄) ⊛ ‵ (flft κ₅ q₅) ⊛ ‵ (flft κ₆ q₆) ⊛ ‵ ftrue) ∷ ‵ (owns (ShrSlice (named 0) κ₀ u8 ∷ u32 ∷ MutSlice (named 1) κ₁ u8 ∷ MutSlice (named 2) κ₂ u8 ∷ MutSlice (named 3) κ₃ u8 ∷ MutSlice (named 4) κ₄ u8 ∷ MutSlice (named 5) κ₅ R ∷ MutSlice (named 6) κ₆ u8 ∷ []) a at) ∷ []) ∵
       enter ! C Λ code.function (kv ∷ vint w32 sg ∷ av ∷ fv ∷ rv ∷ ov ∷ tv ∷ pv ∷ []) _ $
       alloc1 ! (λ l₀. alloc1 ! (λ l₁. alloc1 ! (λ l₂. alloc1 ! (λ l₃. alloc1 ! (λ l₄. alloc1 ! (λ l₅. alloc1 ! (λ l₆. alloc1 ! (λ l₇. alloc1 ! (λ l₈. alloc1 ! (λ l₉. alloc1 ! (λ l₁₀. alloc1 ! (λ l₁₁. alloc1 ! (λ l₁₂. alloc1 ! (λ l₁₃. alloc1 ! (λ l₁₄. alloc1 ! (λ l₁₅. alloc1 ! (λ l₁₆. alloc1 ! (λ l₁₇. alloc1 ! (λ l₁₈. alloc1 ! (λ l₁₉. alloc1 ! (λ l₂₀. alloc1 ! (λ l₂₁. alloc1 ! (λ l₂₂. alloc1 ! (λ l₂₃. alloc1 ! (λ l₂₄. alloc1 ! (λ l₂₅. alloc1 ! (λ l₂₆. alloc1 ! (λ l₂₇. alloc1 ! (λ l₂₈. alloc1 ! (λ l₂₉. alloc0 ! $ params1 ! $
@@ -259,11 +258,11 @@ module _ {M : Type 1} (𝓤 : URA M) (H : Heap 𝓤) (A : Atoms 𝓤) (W : Given
       assigns ! (addr ! (from ! (fld ! refl (hop ! (look-in ! 57 (sub ! 0 refl (whole !))) (stop !))))) (from ! (stop !)) (init ! 27 refl (tt, tt)) $ assigns ! (agg ! (and-then ! (load ! (from ! (stop !)) (look ! 27 refl)) (and-then ! (load ! (from ! (fld ! refl (stop !))) (look-in ! 57 (sub ! 1 refl (whole !)))) (no-more !)))) (from ! (stop !)) (init ! 25 refl (tt, (tt, (record { fits = gp .0 }, tt)))) $
       -- the stages, on the array
       move ! (55 ∷ 0 ∷ []) $ lend-array-mut ! tt u64 tt (named 5) 8192 z64 v64 l₉ room64 (λ ν δ e.
-      move ! (9 ∷ 8 ∷ 7 ∷ 6 ∷ 5 ∷ 0 ∷ 3 ∷ 16 ∷ 15 ∷ 14 ∷ 13 ∷ 12 ∷ 1 ∷ 10 ∷ []) $ cut (Handed ν δ l₉) (raw (Columns 𝓤 H A at-mem run .pre (to-columns ν δ l₉)) ∷ []) _ (goes-columns ν δ l₉ e) $
-      calls-at ! fm (Columns 𝓤 H A at-mem run) k-columns (to-columns ν δ l₉) (and-then ! (load ! (from ! (stop !)) (look ! 59 refl)) (and-then ! (load ! (from ! (stop !)) (look ! 57 refl)) (and-then ! (load ! (from ! (stop !)) (look ! 34 refl)) (and-then ! (load ! (from ! (stop !)) (look ! 30 refl)) (and-then ! (load ! (from ! (stop !)) (look ! 26 refl)) (and-then ! (load ! (from ! (stop !)) (look ! 22 refl)) (and-then ! (load ! (from ! (stop !)) (look ! 18 refl)) (and-then ! (load ! (from ! (stop !)) (look ! 42 refl)) (and-then ! (load ! (from ! (stop !)) (look ! 14 refl)) (no-more !)))))))))) (λ w.
-      use1 W (later (some (λ (r : Run). (Tokens ν ⊛ ‵ (O .own r (w ∷ []))) ⊛ raw (ensured 𝓤 H A d.ended (d.clauses 𝓤 H A at-mem run) (lfts-columns ν) (columns-args δ l₉) tt r)))) (id⊢ 𝓤 _) $ await ! tt $ pick ! (λ r. split ! $ move ! (1 ∷ []) $
+      move ! (9 ∷ 8 ∷ 7 ∷ 6 ∷ 5 ∷ 0 ∷ 3 ∷ 16 ∷ 15 ∷ 14 ∷ 13 ∷ 12 ∷ 1 ∷ 10 ∷ []) $ cut (Handed ν δ l₉) (raw (Staged 𝓤 H A at-mem run .pre (to-stages ν δ l₉)) ∷ []) _ (goes-stages ν δ l₉ e) $
+      calls-at ! fm (Staged 𝓤 H A at-mem run) k-stages (to-stages ν δ l₉) (and-then ! (load ! (from ! (stop !)) (look ! 59 refl)) (and-then ! (load ! (from ! (stop !)) (look ! 57 refl)) (and-then ! (load ! (from ! (stop !)) (look ! 34 refl)) (and-then ! (load ! (from ! (stop !)) (look ! 30 refl)) (and-then ! (load ! (from ! (stop !)) (look ! 26 refl)) (and-then ! (load ! (from ! (stop !)) (look ! 22 refl)) (and-then ! (load ! (from ! (stop !)) (look ! 18 refl)) (and-then ! (load ! (from ! (stop !)) (look ! 42 refl)) (and-then ! (load ! (from ! (stop !)) (look ! 14 refl)) (no-more !)))))))))) (λ w.
+      use1 W (later (some (λ (r : Run). (Tokens ν ⊛ ‵ (O .own r (w ∷ []))) ⊛ raw (ensured 𝓤 H A d.ended (d.clauses 𝓤 H A at-mem run) (lfts-stages ν) (stages-args δ l₉) tt r)))) (id⊢ 𝓤 _) $ await ! tt $ pick ! (λ r. split ! $ move ! (1 ∷ []) $
       -- what they say
-      use1 W (some (λ (zs : Last). ‵ (lasts d.ended (lfts-columns ν) (columns-args δ l₉) zs) ⊛ Said r zs)) (id⊢ 𝓤 _) $ pick ! (λ zs. split ! $ move ! (1 ∷ []) $ heard ! (Ran r (actions-of zs) (facts-of zs) (reduced-of zs) (origin-of zs) (entries-of zs) (plan-of zs)) (λ ran.
+      use1 W (some (λ (zs : Last). ‵ (lasts d.ended (lfts-stages ν) (stages-args δ l₉) zs) ⊛ Said r zs)) (id⊢ 𝓤 _) $ pick ! (λ zs. split ! $ move ! (1 ∷ []) $ heard ! (Ran r (actions-of zs) (facts-of zs) (reduced-of zs) (origin-of zs) (entries-of zs) (plan-of zs)) (λ ran.
       fsplit ! $ move ! (1 ∷ []) $ fsplit ! $ move ! (2 ∷ []) $ drop ! $ drop ! $ fsplit ! $ fsplit ! $ move ! (1 ∷ []) $ feqL ! (λ len-actions. move ! (1 ∷ []) $ fsplit ! $ fsplit ! $ move ! (1 ∷ []) $ feqL ! (λ len-facts. move ! (1 ∷ []) $ fsplit ! $ fsplit ! $ move ! (1 ∷ []) $ feqL ! (λ len-reduced. move ! (1 ∷ []) $ fsplit ! $ fsplit ! $ move ! (1 ∷ []) $ feqL ! (λ len-origin. move ! (1 ∷ []) $ fsplit ! $ fsplit ! $ move ! (1 ∷ []) $ feqL ! (λ _. move ! (1 ∷ []) $ fsplit ! $ drop ! $ fsplit ! $ fsplit ! $ move ! (1 ∷ []) $ feqL ! (λ len-plan. move ! (1 ∷ []) $ drop ! $
       move ! (6 ∷ []) $ split ! $ move ! (1 ∷ []) $ facts ! O (Is O) (shows 𝓤 H A O) r (w ∷ []) (λ k.
       land ! (from ! (stop !)) (init ! 46 refl (LL.lawful O₀.the-type O′.the-laws 𝓤 H A W .typed r (w ∷ []) k .0)) $ rewrite ! 46 (λ (u : Val). ‵ (fat fullShare O′.mir l₁₁ 0 u)) (ap only (O′.lowers .val-is r (w ∷ []) k)) refl $
@@ -288,7 +287,7 @@ module _ {M : Type 1} (𝓤 : URA M) (H : Heap 𝓤) (A : Atoms 𝓤) (W : Given
       keep ! (7 ∷ 6 ∷ 5 ∷ 4 ∷ 3 ∷ 0 ∷ 2 ∷ 12 ∷ 11 ∷ 10 ∷ 9 ∷ 1 ∷ 8 ∷ []) $ by ! (exits r (actions-of zs) (facts-of zs) (reduced-of zs) (origin-of zs) (ts .0) (plan-of zs) len-actions len-facts len-reduced len-origin len-table len-plan (plans-right tk sg lent-first (r .planned) _ (subst (λ (l : List Entry). Plans tk sg lent-first (r .planned) (lentOf (actions-of zs) (facts-of zs) (reduced-of zs) (origin-of zs) l (plan-of zs))) (sym is) (ran .plans ys refl))) (planned-is r (w ∷ []) k)))))))))))))))))))))))))))))))))))))))))))))))))))))
 
 module _ {M : Type 1} (𝓤 : URA M) (H : Heap 𝓤) (A : Atoms 𝓤) (W : Given 𝓤 H A) (mem : Memory → SProp 𝓤) (run : Routine → Fun 𝓤) where
-  walks : (𝓣 : Tables 𝓤 H) → Triple 𝓤 (𝓣 .C #search·stages·plan-columns) (Columns 𝓤 H A mem run) → Triple 𝓤 (𝓣 .C #search·work-table·fill) (Fill 𝓤 H A mem run)
+  walks : (𝓣 : Tables 𝓤 H) → Triple 𝓤 (𝓣 .C #search·stages·run-stages) (Staged 𝓤 H A mem run) → Triple 𝓤 (𝓣 .C #search·work-table·fill) (Fill 𝓤 H A mem run)
       → Walks 𝓤 H A f.ended stayed (WpFn 𝓤 H (𝓣 .C) (𝓣 .Λ) code.function) (f.clauses 𝓤 H A mem run)
   walks 𝓣 k₁ k₂ = walked 𝓤 H A f.ended stayed (f.clauses 𝓤 H A mem run) (WpFn 𝓤 H (𝓣 .C) (𝓣 .Λ) code.function) (λ κs. (slice-vals, (uint-vals w32, (slice-vals, (slice-vals, (slice-vals, (slice-vals, (slice-vals, (slice-vals, tt)))))))))
       (λ κs. (shr-slice-tells (named 0) (κs .0) u8, (uint-tells w32, (mut-slice-tells (named 1) (κs .1 .0) u8, (mut-slice-tells (named 2) (κs .1 .1 .0) u8, (mut-slice-tells (named 3) (κs .1 .1 .1 .0) u8, (mut-slice-tells (named 4) (κs .1 .1 .1 .1 .0) u8, (mut-slice-tells (named 5) (κs .1 .1 .1 .1 .1 .0) R, (mut-slice-tells (named 6) (κs .1 .1 .1 .1 .1 .1 .0) u8, tt)))))))))
@@ -299,7 +298,7 @@ module _ {M : Type 1} (𝓤 : URA M) (H : Heap 𝓤) (A : Atoms 𝓤) (W : Given
       (a .1 .1 .1 .1 .1 .1 .0 .ptr .0) (a .1 .1 .1 .1 .1 .1 .0 .ptr .1) (a .1 .1 .1 .1 .1 .1 .0 .name) (a .1 .1 .1 .1 .1 .1 .0 .now) (a .1 .1 .1 .1 .1 .1 .1 .0 .ptr .0) (a .1 .1 .1 .1 .1 .1 .1 .0 .ptr .1) (a .1 .1 .1 .1 .1 .1 .1 .0 .name) (a .1 .1 .1 .1 .1 .1 .1 .0 .now)
       (are .0 .0 .1) (are .1 .0 .1) (are .1 .1 .0 .0 .1) (are .1 .1 .1 .0 .0 .1) (are .1 .1 .1 .1 .0 .0 .1) (are .1 .1 .1 .1 .1 .0 .0 .1) (are .1 .1 .1 .1 .1 .1 .0 .0 .1) (are .1 .1 .1 .1 .1 .1 .1 .0 .0 .1) (𝓣 .C) (𝓣 .Λ) (fmOf 𝓤 H (W .laws) 𝓣) k₁ k₂))
 
-meets : {M : Type 1} (𝓤 : URA M) (H : Heap 𝓤) (A : Atoms 𝓤) → Given 𝓤 H A → (mem : Memory → SProp 𝓤) (run : Routine → Fun 𝓤) (𝓣 : Tables 𝓤 H) → Triple 𝓤 (𝓣 .C #search·stages·plan-columns) (Columns 𝓤 H A mem run) → Triple 𝓤 (𝓣 .C #search·work-table·fill) (Fill 𝓤 H A mem run)
+meets : {M : Type 1} (𝓤 : URA M) (H : Heap 𝓤) (A : Atoms 𝓤) → Given 𝓤 H A → (mem : Memory → SProp 𝓤) (run : Routine → Fun 𝓤) (𝓣 : Tables 𝓤 H) → Triple 𝓤 (𝓣 .C #search·stages·run-stages) (Staged 𝓤 H A mem run) → Triple 𝓤 (𝓣 .C #search·work-table·fill) (Fill 𝓤 H A mem run)
     → Meets 𝓤 H A f.signature (WpFn 𝓤 H (𝓣 .C) (𝓣 .Λ) code.function) (f.spec 𝓤 H A mem run)
 meets 𝓤 H A W mem run 𝓣 k₁ k₂ =
     walk-meets 𝓤 H A f.ended stayed W (goes-dropped 𝓤 H A W 7 (shrSliceOf (0 ∷ []) tt (plain (λ _. u8))) yes (λ κs x f. refl), (goes-dropped 𝓤 H A W 7 (plain (λ _. u32)) yes (λ κs x f. refl), (goes-gave-slice 𝓤 H A W 7 1 tt (plain (λ _. u8)), (goes-gave-slice 𝓤 H A W 7 2 tt (plain (λ _. u8)), (goes-gave-slice 𝓤 H A W 7 3 tt (plain (λ _. u8)), (goes-gave-slice 𝓤 H A W 7 4 tt (plain (λ _. u8)), (goes-gave-slice 𝓤 H A W 7 5 tt (plain (λ _. R)), (goes-gave-slice 𝓤 H A W 7 6 tt (plain (λ _. u8)), tt)))))))) (f.clauses 𝓤 H A mem run)
@@ -311,5 +310,5 @@ plan-spec 𝓤 H 𝓜 𝓖 𝓡 =
     entered 𝓤 H (tripleOf 𝓤 H (𝓖 .A) f.signature (f.spec 𝓤 H (𝓖 .A) (𝓜 .mem) (𝓡 .run)))
     (tables 𝓤 H 𝓜 𝓡 code.env .C) (tables 𝓤 H 𝓜 𝓡 code.env .Λ) #search·plan code.function (code.unfolded 𝓤 H 𝓜 𝓡)
     (meets 𝓤 H (𝓖 .A) (givenOf 𝓤 H 𝓜 𝓖) (𝓜 .mem) (𝓡 .run) (tablesOf 𝓤 H 𝓜 (tables 𝓤 H 𝓜 𝓡 code.env))
-    (cited 𝓤 H (Columns 𝓤 H (𝓖 .A) (𝓜 .mem) (𝓡 .run)) 𝓜 𝓡 code.env #search·stages·plan-columns d-def.routine code.calls-search·stages·plan-columns (d-thm.met 𝓤 H 𝓜 𝓖 𝓡))
+    (cited 𝓤 H (Staged 𝓤 H (𝓖 .A) (𝓜 .mem) (𝓡 .run)) 𝓜 𝓡 code.env #search·stages·run-stages d-def.routine code.calls-search·stages·run-stages (d-thm.met 𝓤 H 𝓜 𝓖 𝓡))
     (cited 𝓤 H (Fill 𝓤 H (𝓖 .A) (𝓜 .mem) (𝓡 .run)) 𝓜 𝓡 code.env #search·work-table·fill g-def.routine code.calls-search·work-table·fill (g-thm.met 𝓤 H 𝓜 𝓖 𝓡)))

@@ -3,11 +3,11 @@ use borrow.Author.Needs.{needs}
 use Rattle.search.proofs.own_table.plan.Statement.{statement}
 use Rattle.search.proofs.own_table.plan.Tie as tie
 
-slice-aggregate-plan-columns : tie.Need-slice-aggregate-plan-columns
-slice-aggregate-plan-columns c = search needs
+slice-aggregate-run-stages : tie.Need-slice-aggregate-run-stages
+slice-aggregate-run-stages c = search needs
 
-plan-columns-requires : tie.Need-plan-columns-requires
-plan-columns-requires c κs = search needs
+run-stages-requires : tie.Need-run-stages-requires
+run-stages-requires c κs = search needs
 
 same-length : tie.Need-same-length
 same-length c = search needs
@@ -25,14 +25,14 @@ same-length-5 : tie.Need-same-length-5
 same-length-5 c = search needs
 
 returns : tie.Need-returns
-returns c table len = (_, c .before .before .before .before .before .before .before .before .before .before .before .before .plan-columns .ensures .plans table len)
+returns c table len = (_, c .before .before .before .before .before .before .before .before .before .before .before .before .run-stages .ensures .plans table len)
 
 pub plan-spec : {M : Type 1} → statement M
 plan-spec =
     tie.close
     (tie.spec
-    slice-aggregate-plan-columns
-    plan-columns-requires
+    slice-aggregate-run-stages
+    run-stages-requires
     same-length
     same-length-2
     same-length-3

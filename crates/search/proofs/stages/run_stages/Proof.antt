@@ -6,8 +6,8 @@ use Rattle.files.specs.Bytes.{Octets}
 use Rattle.search.specs.Entries.{entriesIn}
 use Rattle.search.proofs.StageLaws.{plans-early, reduced-part, origin-part, reduced-fits, origin-fits, file-checked, enough-numbers, plans-late}
 use borrow.Author.Needs.{needs}
-use Rattle.search.proofs.stages.plan_columns.Statement.{statement}
-use Rattle.search.proofs.stages.plan_columns.Tie as tie
+use Rattle.search.proofs.stages.run_stages.Statement.{statement}
+use Rattle.search.proofs.stages.run_stages.Tie as tie
 
 -- from each call to the one before it
 abbrev to-start : tie.After-reduce → tie.Start
@@ -109,8 +109,8 @@ returns-2 c =
     let g = origin-part _ _ _ _ _ (k .reduce .ensures) z (octets k) (small k) in
     plans-late _ _ _ _ _ (k .reduce .ensures) z (octets k) (small k) _ _ f g _ _ _ (entriesIn _) _ (h .search-file .ensures) _ (c .together .ensures)
 
-pub plan-columns-spec : {M : Type 1} → statement M
-plan-columns-spec =
+pub run-stages-spec : {M : Type 1} → statement M
+run-stages-spec =
     tie.close
     (tie.spec
     reduce-requires
