@@ -10,7 +10,7 @@ use Rattle.reduction.proofs.named.push_action.Tie as tie
 returns : tie.Need-returns
 returns c =
     let e = not-true (c .before .args .test) (c .if1 .taken) in
-    (rw e refl, omega (arith, bit-false (c .before .args .test) e))
+    record { numbers = rw e refl; counted = omega (arith, bit-false (c .before .args .test) e) }
 
 cast-numbers : tie.Need-cast-numbers
 cast-numbers c = search needs
@@ -30,7 +30,7 @@ same-length c = search needs
 returns-2 : tie.Need-returns-2
 returns-2 c =
     let e = not-false (c .before .args .test) (c .if1 .left) in
-    (rw e refl, omega (arith, bit-true (c .before .args .test) e))
+    record { numbers = rw e refl; counted = omega (arith, bit-true (c .before .args .test) e) }
 
 pub push-action-spec : {M : Type 1} → statement M
 push-action-spec =
