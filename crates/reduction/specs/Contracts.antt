@@ -40,9 +40,9 @@ pub record RowNumbered (numbers : List ℕ) (count : ℕ) (old : List ℕ) (from
   pub within : from + 64 ≤ length old
 
 -- the numbers of the kept variables and of the kept actions
-pub record KeptNumbered (numbers : List ℕ) (count : ℕ) (originals : List ℕ) (actions : ℕ) : Type 0 where
-  pub variables : Numbered numbers count 64
-  pub actions : Numbered originals actions 512
+pub record KeptNumbered (numbers : List ℕ) (variableCount : ℕ) (originals : List ℕ) (actionCount : ℕ) : Type 0 where
+  pub variables : Numbered numbers variableCount 64
+  pub actions : Numbered originals actionCount 512
 
 -- the first `count` cells of the row at `to` are set, and the cells before them are as they were
 pub record RowSet (before after : List ℕ) (to count : ℕ) (cell : ℕ → ℕ) : Type 0 where

@@ -39,8 +39,9 @@ mul-map-row-2 c = omega (arith, c .before .before .before .before .before .befor
 
 map-row-requires : tie.Need-map-row-requires Inv-loop μ-loop
 map-row-requires c κs =
-    let original = c .before .before .before .before .before .before .pre .source .actions .known (c .before .before .before .before .loop .j) (c .before .before .before .loop-test .taken) in
-    record { source = record { variables = c .before .before .before .before .before .before .pre .source .variables; within = omega (arith, original) }; room = omega arith }
+    let given = c .before .before .before .before .before .before .pre .source in
+    let original = given .actions .known (c .before .before .before .before .loop .j) (c .before .before .before .loop-test .taken) in
+    record { source = record { variables = given .variables; within = omega (arith, original) }; room = omega arith }
 
 add-j : tie.Need-add-j Inv-loop μ-loop
 add-j c = search needs
