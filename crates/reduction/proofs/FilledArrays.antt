@@ -23,9 +23,9 @@ use Rattle.reduction.proofs.NamedHeld.{named-held, changed-held, keeps-
 use Rattle.reduction.proofs.ReducedHeld.{chosen-alike, number-known, reduced-held, origin-held}
 
 -- numbers that a loop chose are below its bound
-pub chosen-numbered : (K : ℕ → Bool) (n limit count : ℕ) (numbers : List ℕ) → n ≤ limit → ChosenAre numbers count n K → Numbered numbers count limit
-chosen-numbered K n limit count numbers h chosen =
-    record { few = omega (arith, chosen .atMost); known = λ i l. omega (arith, number-known K n numbers count (chosen .are) i l .0) }
+module _ {K : ℕ → Bool} {n limit count : ℕ} {numbers : List ℕ} (h : n ≤ limit) (chosen : ChosenAre numbers count n K) where
+  pub chosen-numbered : Numbered numbers count limit
+  chosen-numbered = record { few = omega (arith, chosen .atMost); known = λ i l. omega (arith, number-known K n numbers count (chosen .are) i l .0) }
 
 module _ (d : Arrays) (ok : Valid (held d)) (kept marks changed values numbers originals : List ℕ) (count actions : ℕ)
     (m : (i : ℕ) → i < 2048 → getD marks i 0 ≡ bit (namedAt (d .goal) (d .conditions) (d .sizes) kept (d .variables) (d .actions) i))

@@ -79,41 +79,32 @@ kept-variables-requires c κs = record { source = variables-few (to-start (to-na
 originals-requires : tie.Need-originals-requires
 originals-requires c κs = record { source = actions-few (begun (c .before)); room = omega arith }
 
-variables-kept : (k : tie.After-kept-variables) → k .kept-variables .result ≤ 64
-variables-kept k = omega (arith, k .kept-variables .ensures .atMost, variables-few (begun k))
-
-actions-kept : (n : tie.After-originals) → n .originals .result ≤ 512
-actions-kept n = omega (arith, n .originals .ensures .atMost, actions-few (begun (to-kept-variables n)))
-
 new-sizes-requires : tie.Need-new-sizes-requires
 new-sizes-requires c κs =
-    let n = c .before .before .before in
-    let k = to-kept-variables n in
-    record { source = chosen-numbered _ _ 64 _ _ (variables-few (begun k)) (k .kept-variables .ensures); room = omega arith }
+    let k = to-kept-variables (c .before .before .before) in
+    record { source = chosen-numbered (variables-few (begun k)) (k .kept-variables .ensures); room = omega arith }
 
 map-row-requires : tie.Need-map-row-requires
 map-row-requires c κs =
-    let n = to-originals (c .before .before .before .before) in
-    let k = to-kept-variables n in
-    record { source = record { variables = chosen-numbered _ _ 64 _ _ (variables-few (begun k)) (k .kept-variables .ensures); within = omega arith }; room = omega arith }
+    let k = to-kept-variables (to-originals (c .before .before .before .before)) in
+    record { source = record { variables = chosen-numbered (variables-few (begun k)) (k .kept-variables .ensures); within = omega arith }; room = omega arith }
 
 map-row-requires-2 : tie.Need-map-row-requires-2
 map-row-requires-2 c κs =
-    let n = to-originals (to-new-sizes (c .before .before .before .before)) in
-    let k = to-kept-variables n in
-    record { source = record { variables = chosen-numbered _ _ 64 _ _ (variables-few (begun k)) (k .kept-variables .ensures); within = omega arith }; room = omega arith }
+    let k = to-kept-variables (to-originals (to-new-sizes (c .before .before .before .before))) in
+    record { source = record { variables = chosen-numbered (variables-few (begun k)) (k .kept-variables .ensures); within = omega arith }; room = omega arith }
 
 map-costs-requires : tie.Need-map-costs-requires
 map-costs-requires c κs =
     let n = to-originals (to-new-sizes (to-map-row (c .before .before))) in
-    record { source = chosen-numbered _ _ 512 _ _ (actions-few (begun (to-kept-variables n))) (n .originals .ensures); room = omega arith }
+    record { source = chosen-numbered (actions-few (begun (to-kept-variables n))) (n .originals .ensures); room = omega arith }
 
 map-rows-requires : tie.Need-map-rows-requires
 map-rows-requires c κs =
     let n = to-originals (to-new-sizes (to-map-row (to-map-row2 (c .before .before .before .before)))) in
     let k = to-kept-variables n in
     record {
-      source = record { variables = chosen-numbered _ _ 64 _ _ (variables-few (begun k)) (k .kept-variables .ensures); actions = chosen-numbered _ _ 512 _ _ (actions-few (begun k)) (n .originals .ensures) };
+      source = record { variables = chosen-numbered (variables-few (begun k)) (k .kept-variables .ensures); actions = chosen-numbered (actions-few (begun k)) (n .originals .ensures) };
       room = omega arith;
     }
 
@@ -122,19 +113,19 @@ map-rows-requires-2 c κs =
     let n = to-originals (to-new-sizes (to-map-row (to-map-row2 (to-map-costs (c .before .before .before .before))))) in
     let k = to-kept-variables n in
     record {
-      source = record { variables = chosen-numbered _ _ 64 _ _ (variables-few (begun k)) (k .kept-variables .ensures); actions = chosen-numbered _ _ 512 _ _ (actions-few (begun k)) (n .originals .ensures) };
+      source = record { variables = chosen-numbered (variables-few (begun k)) (k .kept-variables .ensures); actions = chosen-numbered (actions-few (begun k)) (n .originals .ensures) };
       room = omega arith;
     }
 
 map-sizes-requires : tie.Need-map-sizes-requires
 map-sizes-requires c κs =
     let k = to-kept-variables (to-originals (to-new-sizes (to-map-row (to-map-row2 (to-map-costs (to-map-rows (c .before .before))))))) in
-    record { source = chosen-numbered _ _ 64 _ _ (variables-few (begun k)) (k .kept-variables .ensures); room = omega arith }
+    record { source = chosen-numbered (variables-few (begun k)) (k .kept-variables .ensures); room = omega arith }
 
 value-rows-requires : tie.Need-value-rows-requires
 value-rows-requires c κs =
     let k = to-kept-variables (to-originals (to-new-sizes (to-map-row (to-map-row2 (to-map-costs (to-map-rows (to-map-rows2 (c .before .before .before)))))))) in
-    record { source = chosen-numbered _ _ 64 _ _ (variables-few (begun k)) (k .kept-variables .ensures); room = omega arith }
+    record { source = chosen-numbered (variables-few (begun k)) (k .kept-variables .ensures); room = omega arith }
 
 returns : tie.Need-returns
 returns c =
@@ -154,7 +145,7 @@ returns c =
     record {
       writable =
           record {
-            limits = record { fewVariables = variables-kept k; fewActions = actions-kept n };
+            limits = record { fewVariables = chosen-numbered (variables-few s) (k .kept-variables .ensures) .few; fewActions = chosen-numbered (actions-few s) (n .originals .ensures) .few };
             fewValues = ranges-small (task s) (valid s) _ _ _ (v .new-values .result) _ _ _ _ (f .named-facts .ensures) (h .changed .ensures) (v .new-values .ensures) (k .kept-variables .ensures) (n .originals .ensures) _ (z .map-sizes .ensures);
           };
       task = λ A bits.

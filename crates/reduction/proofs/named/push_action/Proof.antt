@@ -10,7 +10,7 @@ use Rattle.reduction.proofs.named.push_action.Tie as tie
 returns : tie.Need-returns
 returns c =
     let e = not-true (c .before .args .test) (c .if1 .taken) in
-    record { numbers = rw e refl; counted = omega (arith, bit-false (c .before .args .test) e) }
+    rw e (search (needs, bit-false (c .before .args .test) e))
 
 cast-numbers : tie.Need-cast-numbers
 cast-numbers c = search needs

@@ -41,7 +41,7 @@ map-row-requires : tie.Need-map-row-requires Inv-loop μ-loop
 map-row-requires c κs =
     let given = c .before .before .before .before .before .before .pre .source in
     let original = given .actions .known (c .before .before .before .before .loop .j) (c .before .before .before .loop-test .taken) in
-    record { source = record { variables = given .variables; within = omega (arith, original) }; room = omega arith }
+    search (needs, original, given .variables)
 
 add-j : tie.Need-add-j Inv-loop μ-loop
 add-j c = search needs

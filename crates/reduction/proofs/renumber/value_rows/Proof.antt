@@ -35,7 +35,7 @@ mul-copy-row-2 c = omega (arith, c .before .before .before .before .before .befo
 copy-row-requires : tie.Need-copy-row-requires Inv-loop μ-loop
 copy-row-requires c κs =
     let number = c .before .before .before .before .before .before .pre .source .known (c .before .before .before .before .loop .i) (c .before .before .before .loop-test .taken) in
-    record { source = omega (arith, number); room = omega arith }
+    search (needs, number)
 
 add-i : tie.Need-add-i Inv-loop μ-loop
 add-i c = search needs
