@@ -14,6 +14,7 @@ use Rattle.marking.specs.Links.{threatened}
 use Rattle.marking.specs.Dense.{isMarked}
 use Rattle.files.proofs.HeldTask.{variables-held, size-held}
 use Rattle.files.proofs.Truth.{bit-marked}
+use Rattle.reduction.specs.Contracts.{ChosenAre, Numbered}
 use Rattle.reduction.specs.Dense.{namedAt, changedAt, namedValue, keepsAt, newValueAt, newSizeAt, mappedCell}
 use Rattle.reduction.specs.Named.{named, keptVariable}
 use Rattle.reduction.specs.Renumber.{newValue}
@@ -22,21 +23,22 @@ use Rattle.reduction.proofs.NamedHeld.{named-held, changed-held, keeps-
 use Rattle.reduction.proofs.ReducedHeld.{chosen-alike, number-known, reduced-held, origin-held}
 
 -- numbers that a loop chose are below its bound
-pub number-below : (K : ℕ → Bool) (n bound count : ℕ) (numbers : List ℕ) → n ≤ bound → rowNumbers numbers 0 count ≡ chosenBelow n K → (i : ℕ) → i < count → getD numbers i 0 < bound
-number-below K n bound count numbers h are i l = omega (arith, number-known K n numbers count are i l .0)
+module _ {K : ℕ → Bool} {n limit count : ℕ} {numbers : List ℕ} (h : n ≤ limit) (chosen : ChosenAre numbers count n K) where
+  pub chosen-numbered : Numbered numbers count limit
+  chosen-numbered = record { few = omega (arith, chosen .atMost); known = λ i l. omega (arith, number-known K n numbers count (chosen .are) i l .0) }
 
 module _ (d : Arrays) (ok : Valid (held d)) (kept marks changed values numbers originals : List ℕ) (count actions : ℕ)
     (m : (i : ℕ) → i < 2048 → getD marks i 0 ≡ bit (namedAt (d .goal) (d .conditions) (d .sizes) kept (d .variables) (d .actions) i))
     (ch : (v : ℕ) → v < 64 → getD changed v 0 ≡ bit (changedAt (d .effects) (d .starts) kept (d .variables) (d .actions) v))
     (vals : (v e : ℕ) → v < d .variables → e < 32 → getD values (32 * v + e) 0 ≡ newValueAt marks v e)
-    (nums : rowNumbers numbers 0 count ≡ chosenBelow (d .variables) (keepsAt marks changed (d .starts)))
-    (acts : rowNumbers originals 0 actions ≡ chosenBelow (d .actions) (isMarked kept)) where
+    (nums : ChosenAre numbers count (d .variables) (keepsAt marks changed (d .starts)))
+    (acts : ChosenAre originals actions (d .actions) (isMarked kept)) where
   few : d .variables ≤ 64
   few = omega (arith, ok .variables-few, variables-held d)
 
   pub ranges-small : (range : ℕ → ℕ) → ((i : ℕ) → i < count → range i ≡ getD (d .sizes) (getD numbers i 0) 0) → (i : ℕ) → i < count → range i ≤ 32
   ranges-small range r i l =
-      let known = number-known (keepsAt marks changed (d .starts)) (d .variables) numbers count nums i l .0 in
+      let known = number-known (keepsAt marks changed (d .starts)) (d .variables) numbers count (nums .are) i l .0 in
       omega (arith, r i l, size-held d (getD numbers i 0) known, ok .size-most (getD numbers i 0))
 
   module _ (A : ℕ → Bool) (bits : (a : ℕ) → a < d .actions → getD kept a 0 ≡ bit (A a)) where
@@ -51,10 +53,10 @@ module _ (d : Arrays) (ok : Valid (held d)) (kept marks changed values numbers o
         ap (λ (n : ℕ). eqb n 1) (ch v (omega (arith, few))) ∙ bit-marked test ∙ changed-held d ok kept A bits v h
 
     are : rowNumbers numbers 0 count ≡ chosenBelow (d .variables) (keptVariable (held d) A)
-    are = nums ∙ chosen-alike (d .variables) (keepsAt marks changed (d .starts)) (keptVariable (held d) A) (keeps-held d ok kept A bits marks changed fact change)
+    are = nums .are ∙ chosen-alike (d .variables) (keepsAt marks changed (d .starts)) (keptVariable (held d) A) (keeps-held d ok kept A bits marks changed fact change)
 
     chosen-actions : rowNumbers originals 0 actions ≡ chosenBelow (d .actions) A
-    chosen-actions = acts ∙ chosen-alike (d .actions) (isMarked kept) A (λ a l. ap (λ (n : ℕ). eqb n 1) (bits a l) ∙ bit-marked (A a))
+    chosen-actions = acts .are ∙ chosen-alike (d .actions) (isMarked kept) A (λ a l. ap (λ (n : ℕ). eqb n 1) (bits a l) ∙ bit-marked (A a))
 
     value : (v e : ℕ) → v < d .variables → e < sizeOf (held d) v → getD values (32 * v + e) 0 ≡ newValue (held d) A v e
     value v e h k = vals v e h (omega (arith, ok .size-most v)) ∙ newValue-held d ok kept A bits marks changed fact change v e h k

@@ -14,6 +14,7 @@ use Rattle.files.proofs.Done.{facts}
 use Rattle.files.proofs.Guards.{is-done, is-refused}
 use Rattle.files.proofs.Logic.{cond-case}
 use Rattle.files.proofs.TaskChecked.{action-count}
+use Rattle.reduction.specs.Contracts.{HasAction}
 use Rattle.reduction.specs.Stretch.{sideOf, stretchOutcome, conditionBytes, stretch}
 
 -- the actions in a row from `at` on
@@ -48,11 +49,7 @@ module _ (s : List ℕ) (a at n : ℕ) (place : at ≡ actionPlace s a) (count :
       rw (long, place) refl
 
 -- where a stretch is done, the side's file is accepted and has the action
-pub record Passed (full reduced : List ℕ) (side a : ℕ) : Type 0 where
-  pub accepted : checkTask (sideOf side full reduced) .number ≡ 0
-  pub below : a < actionsIn (sideOf side full reduced)
-
-pub stretch-passed : (full reduced : List ℕ) (side a : ℕ) → stretchOutcome full reduced side a .number ≡ 0 → Passed full reduced side a
+pub stretch-passed : (full reduced : List ℕ) (side a : ℕ) → stretchOutcome full reduced side a .number ≡ 0 → HasAction (sideOf side full reduced) a
 unfolding stretchOutcome inSecond sideOf
 stretch-passed full reduced side a e =
     let found = simp facts at e in
@@ -76,13 +73,6 @@ pub stretch-refused : (full reduced : List ℕ) (side a : ℕ) → (stretchOutco
 unfolding stretch
 stretch-refused full reduced side a d = rw (is-refused (stretchOutcome full reduced side a) d) refl
 
--- the fields of equal outcomes
-module _ {o r : Outcome} (e : o ≡ r) where
-  pub number : o .number ≡ r .number
-  number = ap (λ (x : Outcome). x .number) e
-
-  pub file : o .file ≡ r .file
-  file = ap (λ (x : Outcome). x .file) e
-
-  pub place : o .place ≡ r .place
-  place = ap (λ (x : Outcome). x .place) e
+-- equal outcomes have the same number
+pub number : {o r : Outcome} → o ≡ r → o .number ≡ r .number
+number e = ap (λ (x : Outcome). x .number) e

@@ -21,8 +21,9 @@ use Rattle.files.proofs.Pairs.{pairs-length, pairs-stand}
 use Rattle.files.proofs.Stages.{both-last, answer-by}
 use Rattle.files.proofs.Stands.{Stands}
 use Rattle.reduction.specs.Answers.{stretched, stretchRefusals, conditionsOf, StretchAnswers, StretchLength}
+use Rattle.reduction.specs.Contracts.{HasAction}
 use Rattle.reduction.specs.Stretch.{sideOf, stretchOutcome, conditionBytes, stretch}
-use Rattle.reduction.proofs.StretchLaws.{Passed, stretch-passed, pairs-within}
+use Rattle.reduction.proofs.StretchLaws.{stretch-passed, pairs-within}
 
 -- what stands at a place is what is cut out there
 stands-cut : (f xs : List ℕ) (at : ℕ) → Stands f at xs → take (length xs) (drop at f) ≡ xs
@@ -86,7 +87,7 @@ module _ (full reduced : List ℕ) (side a : ℕ) where
   unfolding sideOf
   side-octets p q = cond-case Octets (eqb side 0) full reduced (λ _. p) (λ _. q)
 
-  done-passed : isDone o ≡ true → Passed full reduced side a
+  done-passed : isDone o ≡ true → HasAction (sideOf side full reduced) a
   done-passed e = stretch-passed full reduced side a (ap (λ (x : Outcome). x .number) (listed-itself _ o stretch-listed e))
 
   numbers-are : stretched o (stretch full reduced side a) ≡ cond (isDone o) (stretched o (conditionBytes (sideOf side full reduced) a)) (stretched o [])

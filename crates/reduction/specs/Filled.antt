@@ -1,11 +1,12 @@
 -- The reduced task and its origins as arrays, and their files as they are written.
-use Prim.Native.Nat.{ℕ, _≤_, _<_}
+use Prim.Native.Nat.{ℕ, _<_}
 use mathlib.Core.Path.{_≡_}
 use mathlib.Core.Bool.{Bool}
 use mathlib.Core.List.{List}
 use lib.ListN.{length, getD}
 use Rattle.files.specs.Below.{bit}
-use Rattle.files.specs.Dense.{Arrays, OriginArrays, OriginSizes, held, heldOrigin}
+use Rattle.files.specs.Contracts.{OriginWithin}
+use Rattle.files.specs.Dense.{Arrays, OriginArrays, held, heldOrigin}
 use Rattle.files.specs.OriginFile.{Origin, originFile}
 use Rattle.files.specs.Outcome.{after}
 use Rattle.files.specs.Task.{Task}
@@ -18,15 +19,9 @@ use Rattle.reduction.specs.declared.arrays.Written.{Written}
 abbrev pub Marks : List ℕ → ℕ → (ℕ → Bool) → Type 0
 Marks kept count A = (a : ℕ) → a < count → getD kept a 0 ≡ bit (A a)
 
--- arrays of so many variables and actions, the variables' old sizes among them, can be written
-pub record Writable (variables actions : ℕ) (sizes : List ℕ) : Type 0 where
-  pub variables-few : variables ≤ 64
-  pub actions-few : actions ≤ 512
-  pub sizes-small : OriginSizes sizes variables
-
 -- arrays hold the reduced task and its origins, for the actions that are marked
 pub record Fills (t : Task) (kept : List ℕ) (count : ℕ) (d : Arrays) (o : OriginArrays) : Type 0 where
-  pub writable : Writable (d .variables) (d .actions) (o .sizes)
+  pub writable : OriginWithin (d .variables) (d .actions) (o .sizes)
   pub task : (A : ℕ → Bool) → Marks kept count A → held d ≡ reducedBy t A
   pub origins : (A : ℕ → Bool) → Marks kept count A → heldOrigin o ≡ originBy t A
 

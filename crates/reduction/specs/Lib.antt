@@ -8,3 +8,4 @@ pub mod Stretch
 pub mod Answers
 pub mod Dense
 pub mod Filled
+pub mod Contracts

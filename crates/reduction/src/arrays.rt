@@ -2,8 +2,9 @@
 ghost use mathlib.Core.Path.{_≡_};
 ghost use mathlib.Core.Bool.{true};
 ghost use Rattle.files.specs.Accepted.{acceptedTask};
+ghost use Rattle.files.specs.Contracts.{OriginWithin};
 ghost use Rattle.files.specs.Dense.{held, arrays, heldOrigin, originArrays};
-ghost use Rattle.reduction.specs.Filled.{Writable, Fills, Writes, WritesReduced};
+ghost use Rattle.reduction.specs.Filled.{Fills, Writes, WritesReduced};
 use crate::named;
 use crate::renumber;
 use files::outcomes;
@@ -99,7 +100,7 @@ fn write(
     reduced: &mut [u8],
     origin: &mut [u8],
 ) -> Written
-    requires { ⌜ Writable (counts .variables) (counts .actions) (now «old_sizes») ⌝ }
+    requires { ⌜ OriginWithin (counts .variables) (counts .actions) (now «old_sizes») ⌝ }
     ensures { λ r. ⌜ Writes (held (arrays (counts .variables) (counts .actions) (now (sizes .entry)) (now (starts .entry)) (now (goal .entry)) (now (costs .entry)) (now (conditions .entry)) (now (effects .entry)))) (heldOrigin (originArrays (counts .variables) (counts .actions) (now (numbers .entry)) (now («old_sizes» .entry)) (now («new_values» .entry)) (now (originals .entry)))) signer (now (reduced .entry)) (now (origin .entry)) r (now (reduced .exit)) (now (origin .exit)) ⌝ }
 {
     let v = counts.variables;

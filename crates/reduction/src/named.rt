@@ -1,12 +1,12 @@
 // Named facts, and the variables and actions that are kept.
 ghost use mathlib.Core.Path.{_≡_};
-ghost use mathlib.Core.Bool.{cond};
-ghost use Prim.Native.Nat.{ℕ, _+_, _≤_, _<_};
+ghost use Prim.Native.Nat.{ℕ, _≤_, _<_};
 ghost use lib.Dec.{eqb};
-ghost use lib.ListN.{length, getD, set};
-ghost use Rattle.files.specs.Below.{bit, chosenBelow};
-ghost use Rattle.files.specs.Dense.{rowNumbers};
+ghost use lib.ListN.{getD};
+ghost use Rattle.files.specs.Below.{bit};
+ghost use Rattle.files.specs.Contracts.{IsAtMost, WithinLimits, Writable};
 ghost use Rattle.marking.specs.Dense.{isMarked};
+ghost use Rattle.reduction.specs.Contracts.{MarksWithin, Pushable, Pushed, ChosenAre};
 ghost use Rattle.reduction.specs.Dense.{namedAt, changedAt, namedIn, otherNamed, keepsAt};
 use files::limits;
 use marking::gains;
@@ -15,7 +15,7 @@ use marking::rounds::Scope;
 
 // The action marks of a task as an array.
 pub fn kept_actions(marks: &[u8], actions: usize) -> [u8; 512]
-    requires { ⌜ (actions ≤ 512) × (actions ≤ length (now marks)) ⌝ }
+    requires { ⌜ MarksWithin (now marks) actions ⌝ }
     ensures { λ r. ⌜ ((a : ℕ) → a < actions → getD r a 0 ≡ getD (now (marks .entry)) a 0) ⌝ }
 {
     let mut kept = [0u8; 512];
@@ -35,7 +35,7 @@ pub fn named_facts(
     conditions: &[u8; 32768],
     kept: &[u8; 512],
 ) -> [u8; 2048]
-    requires { ⌜ (scope .variables ≤ 64) × (scope .actions ≤ 512) ⌝ }
+    requires { ⌜ WithinLimits (scope .variables) (scope .actions) ⌝ }
     ensures { λ r. ⌜ ((i : ℕ) → i < 2048 → getD r i 0 ≡ bit (namedAt (now (goal .entry)) (now (conditions .entry)) (now (sizes .entry)) (now (kept .entry)) (scope .variables) (scope .actions) i)) ⌝ }
 {
     let none = [0u8; 512];
@@ -47,7 +47,7 @@ pub fn named_facts(
 
 // The variables that kept actions set to other values than their start values.
 pub fn changed(scope: Scope, starts: &[u8; 64], effects: &[u8; 32768], kept: &[u8; 512]) -> [u8; 64]
-    requires { ⌜ (scope .variables ≤ 64) × (scope .actions ≤ 512) ⌝ }
+    requires { ⌜ WithinLimits (scope .variables) (scope .actions) ⌝ }
     ensures { λ r. ⌜ ((v : ℕ) → v < 64 → getD r v 0 ≡ bit (changedAt (now (effects .entry)) (now (starts .entry)) (now (kept .entry)) (scope .variables) (scope .actions) v)) ⌝ }
 {
     let none = [0u8; 512];
@@ -59,7 +59,7 @@ pub fn changed(scope: Scope, starts: &[u8; 64], effects: &[u8; 32768], kept: &[u
 // How many values of a variable are named.
 pub fn named_in(named: &[u8; 2048], v: usize) -> u8
     requires { ⌜ v < 64 ⌝ }
-    ensures { λ r. ⌜ (r ≡ namedIn (now (named .entry)) v) × (r ≤ 32) ⌝ }
+    ensures { λ r. ⌜ IsAtMost r (namedIn (now (named .entry)) v) 32 ⌝ }
 {
     let mut count: u8 = 0;
     let mut d: usize = 0;
@@ -114,8 +114,8 @@ pub fn kept_variables(
     changed: &[u8; 64],
     starts: &[u8; 64],
 ) -> usize
-    requires { ⌜ (scope .variables ≤ 64) × (64 ≤ length (now numbers)) ⌝ }
-    ensures { λ r. ⌜ (rowNumbers (now (numbers .exit)) 0 r ≡ chosenBelow (scope .variables) (keepsAt (now (named .entry)) (now (changed .entry)) (now (starts .entry)))) × (r ≤ scope .variables) ⌝ }
+    requires { ⌜ Writable (scope .variables ≤ 64) 64 (now numbers) ⌝ }
+    ensures { λ r. ⌜ ChosenAre (now (numbers .exit)) r (scope .variables) (keepsAt (now (named .entry)) (now (changed .entry)) (now (starts .entry))) ⌝ }
 {
     let mut count: usize = 0;
     let mut v: usize = 0;
@@ -129,8 +129,8 @@ pub fn kept_variables(
 
 // Appends a number where the test passes.
 fn push_variable(numbers: &mut [u8], count: usize, v: usize, test: bool) -> usize
-    requires { ⌜ (v < 64) × (count ≤ v) × (64 ≤ length (now numbers)) ⌝ }
-    ensures { λ r. ⌜ (now (numbers .exit) ≡ cond test (set (now (numbers .entry)) count v) (now (numbers .entry))) × (r ≡ count + bit test) ⌝ }
+    requires { ⌜ Pushable (now numbers) count v 64 ⌝ }
+    ensures { λ r. ⌜ Pushed (now (numbers .entry)) (now (numbers .exit)) count v test r ⌝ }
 {
     if !test {
         return count;
@@ -141,8 +141,8 @@ fn push_variable(numbers: &mut [u8], count: usize, v: usize, test: bool) -> usiz
 
 // The numbers of the kept actions, in order; how many there are.
 pub fn originals(numbers: &mut [u16], kept: &[u8; 512], actions: usize) -> usize
-    requires { ⌜ (actions ≤ 512) × (512 ≤ length (now numbers)) ⌝ }
-    ensures { λ r. ⌜ (rowNumbers (now (numbers .exit)) 0 r ≡ chosenBelow actions (isMarked (now (kept .entry)))) × (r ≤ actions) ⌝ }
+    requires { ⌜ Writable (actions ≤ 512) 512 (now numbers) ⌝ }
+    ensures { λ r. ⌜ ChosenAre (now (numbers .exit)) r actions (isMarked (now (kept .entry))) ⌝ }
 {
     let mut count: usize = 0;
     let mut a: usize = 0;
@@ -154,8 +154,8 @@ pub fn originals(numbers: &mut [u16], kept: &[u8; 512], actions: usize) -> usize
 }
 
 fn push_action(numbers: &mut [u16], count: usize, a: usize, test: bool) -> usize
-    requires { ⌜ (a < 512) × (count ≤ a) × (512 ≤ length (now numbers)) ⌝ }
-    ensures { λ r. ⌜ (now (numbers .exit) ≡ cond test (set (now (numbers .entry)) count a) (now (numbers .entry))) × (r ≡ count + bit test) ⌝ }
+    requires { ⌜ Pushable (now numbers) count a 512 ⌝ }
+    ensures { λ r. ⌜ Pushed (now (numbers .entry)) (now (numbers .exit)) count a test r ⌝ }
 {
     if !test {
         return count;

@@ -4,6 +4,8 @@ ghost use Prim.Native.Nat.{ℕ, _+_, _*_, _≤_, _<_};
 ghost use mathlib.Core.Bool.{cond};
 ghost use lib.Dec.{eqb};
 ghost use lib.ListN.{length, getD};
+ghost use Rattle.files.specs.Contracts.{Writable};
+ghost use Rattle.reduction.specs.Contracts.{Numbered, RowNumbered, KeptNumbered, RowSet};
 ghost use Rattle.reduction.specs.Dense.{newValueAt, newSizeAt, mappedCell};
 use crate::named;
 use files::limits;
@@ -17,8 +19,8 @@ fn number(mark: u8, rank: u8, rest: u8) -> u8
 
 // The new numbers of a variable's values.
 fn number_values(values: &mut [u8], named: &[u8; 2048], v: usize)
-    requires { ⌜ (v < 64) × (2048 ≤ length (now values)) ⌝ }
-    ensures { λ r. ⌜ (length (now (values .exit)) ≡ length (now (values .entry))) × ((d : ℕ) → d < 32 → getD (now (values .exit)) (32 * v + d) 0 ≡ newValueAt (now (named .entry)) v d) × ((i : ℕ) → i < 32 * v → getD (now (values .exit)) i 0 ≡ getD (now (values .entry)) i 0) ⌝ }
+    requires { ⌜ Writable (v < 64) 2048 (now values) ⌝ }
+    ensures { λ r. ⌜ RowSet (now (values .entry)) (now (values .exit)) (32 * v) 32 (newValueAt (now (named .entry)) v) ⌝ }
 {
     let rest = named::named_in(named, v);
     let mut rank: u8 = 0;
@@ -78,8 +80,8 @@ pub fn map_row(
     count: usize,
     values: &[u8; 2048],
 )
-    requires { ⌜ (count ≤ 64) × (to + 64 ≤ length (now row)) × (from + 64 ≤ length (now old)) × ((i : ℕ) → i < count → getD (now numbers) i 0 < 64) ⌝ }
-    ensures { λ r. ⌜ (length (now (row .exit)) ≡ length (now (row .entry))) × ((i : ℕ) → i < count → getD (now (row .exit)) (to + i) 0 ≡ mappedCell (now (values .entry)) (getD (now (numbers .entry)) i 0) (getD (now (old .entry)) (from + getD (now (numbers .entry)) i 0) 0)) × ((j : ℕ) → j < to → getD (now (row .exit)) j 0 ≡ getD (now (row .entry)) j 0) ⌝ }
+    requires { ⌜ Writable (RowNumbered (now numbers) count (now old) from) (to + 64) (now row) ⌝ }
+    ensures { λ r. ⌜ RowSet (now (row .entry)) (now (row .exit)) to count (λ i. mappedCell (now (values .entry)) (getD (now (numbers .entry)) i 0) (getD (now (old .entry)) (from + getD (now (numbers .entry)) i 0) 0)) ⌝ }
 {
     let mut i: usize = 0;
     while i < count {
@@ -99,7 +101,7 @@ pub fn map_rows(
     count: usize,
     values: &[u8; 2048],
 )
-    requires { ⌜ (count ≤ 64) × (actions ≤ 512) × (32768 ≤ length (now rows)) × ((j : ℕ) → j < actions → getD (now originals) j 0 < 512) × ((i : ℕ) → i < count → getD (now numbers) i 0 < 64) ⌝ }
+    requires { ⌜ Writable (KeptNumbered (now numbers) count (now originals) actions) 32768 (now rows) ⌝ }
     ensures { λ r. ⌜ ((j i : ℕ) → j < actions → i < count → getD (now (rows .exit)) (64 * j + i) 0 ≡ mappedCell (now (values .entry)) (getD (now (numbers .entry)) i 0) (getD (now (old .entry)) (64 * getD (now (originals .entry)) j 0 + getD (now (numbers .entry)) i 0) 0)) ⌝ }
 {
     let mut j: usize = 0;
@@ -120,7 +122,7 @@ pub fn map_rows(
 
 // The costs of the kept actions.
 pub fn map_costs(costs: &mut [u32], old: &[u32; 512], originals: &[u16; 512], actions: usize)
-    requires { ⌜ (actions ≤ 512) × (512 ≤ length (now costs)) × ((j : ℕ) → j < actions → getD (now originals) j 0 < 512) ⌝ }
+    requires { ⌜ Writable (Numbered (now originals) actions 512) 512 (now costs) ⌝ }
     ensures { λ r. ⌜ ((j : ℕ) → j < actions → getD (now (costs .exit)) j 0 ≡ getD (now (old .entry)) (getD (now (originals .entry)) j 0) 0) ⌝ }
 {
     let mut j: usize = 0;
@@ -132,7 +134,7 @@ pub fn map_costs(costs: &mut [u32], old: &[u32; 512], originals: &[u16; 512], ac
 
 // The domain sizes of the kept variables, as they were.
 pub fn map_sizes(sizes: &mut [u8], old: &[u8; 64], numbers: &[u8; 64], count: usize)
-    requires { ⌜ (count ≤ 64) × (64 ≤ length (now sizes)) × ((i : ℕ) → i < count → getD (now numbers) i 0 < 64) ⌝ }
+    requires { ⌜ Writable (Numbered (now numbers) count 64) 64 (now sizes) ⌝ }
     ensures { λ r. ⌜ ((i : ℕ) → i < count → getD (now (sizes .exit)) i 0 ≡ getD (now (old .entry)) (getD (now (numbers .entry)) i 0) 0) ⌝ }
 {
     let mut i: usize = 0;
@@ -150,7 +152,7 @@ pub fn new_sizes(
     numbers: &[u8; 64],
     count: usize,
 )
-    requires { ⌜ (count ≤ 64) × (64 ≤ length (now sizes)) × ((i : ℕ) → i < count → getD (now numbers) i 0 < 64) ⌝ }
+    requires { ⌜ Writable (Numbered (now numbers) count 64) 64 (now sizes) ⌝ }
     ensures { λ r. ⌜ ((i : ℕ) → i < count → getD (now (sizes .exit)) i 0 ≡ newSizeAt (now (named .entry)) (getD (now (numbers .entry)) i 0) (getD (now (old .entry)) (getD (now (numbers .entry)) i 0) 0)) ⌝ }
 {
     let mut i: usize = 0;
@@ -163,7 +165,7 @@ pub fn new_sizes(
 
 // The new numbers of each kept variable's values, a row of 32 each.
 pub fn value_rows(rows: &mut [u8], values: &[u8; 2048], numbers: &[u8; 64], count: usize)
-    requires { ⌜ (count ≤ 64) × (2048 ≤ length (now rows)) × ((i : ℕ) → i < count → getD (now numbers) i 0 < 64) ⌝ }
+    requires { ⌜ Writable (Numbered (now numbers) count 64) 2048 (now rows) ⌝ }
     ensures { λ r. ⌜ ((i d : ℕ) → i < count → d < 32 → getD (now (rows .exit)) (32 * i + d) 0 ≡ getD (now (values .entry)) (32 * getD (now (numbers .entry)) i 0 + d) 0) ⌝ }
 {
     let mut i: usize = 0;
@@ -180,8 +182,8 @@ pub fn value_rows(rows: &mut [u8], values: &[u8; 2048], numbers: &[u8; 64], coun
 
 // Copies 32 cells.
 fn copy_row(row: &mut [u8], to: usize, old: &[u8], from: usize)
-    requires { ⌜ (to + 32 ≤ length (now row)) × (from + 32 ≤ length (now old)) ⌝ }
-    ensures { λ r. ⌜ (length (now (row .exit)) ≡ length (now (row .entry))) × ((d : ℕ) → d < 32 → getD (now (row .exit)) (to + d) 0 ≡ getD (now (old .entry)) (from + d) 0) × ((j : ℕ) → j < to → getD (now (row .exit)) j 0 ≡ getD (now (row .entry)) j 0) ⌝ }
+    requires { ⌜ Writable (from + 32 ≤ length (now old)) (to + 32) (now row) ⌝ }
+    ensures { λ r. ⌜ RowSet (now (row .entry)) (now (row .exit)) to 32 (λ d. getD (now (old .entry)) (from + d) 0) ⌝ }
 {
     let mut d: usize = 0;
     while d < limits::MOST_VALUES {

@@ -1,7 +1,6 @@
 // The condition pairs of an action, as they stand in the full or the reduced file.
 ghost use mathlib.Core.Path.{_≡_};
-ghost use Prim.Native.Nat.{_<_};
-ghost use Rattle.files.specs.TaskFile.{checkTask, actionsIn};
+ghost use Rattle.reduction.specs.Contracts.{HasAction};
 ghost use Rattle.reduction.specs.Stretch.{sideOf, stretchOutcome, conditionBytes};
 use files::Outcome;
 use files::outcomes;
@@ -38,7 +37,7 @@ pub fn outcome<'a>(full: &'a [u8], reduced: &'a [u8], side: u32, action: usize) 
 
 // The condition pairs of an action of an accepted file, which lie within it.
 pub fn pairs_of<'a>(s: &'a [u8], action: usize) -> &'a [u8]
-    requires { ⌜ (checkTask (now s) .number ≡ 0) × (action < actionsIn (now s)) ⌝ }
+    requires { ⌜ HasAction (now s) action ⌝ }
     ensures { λ r. ⌜ now r ≡ conditionBytes (now (s .entry)) action ⌝ }
 {
     let at = task::action_place(s, action);

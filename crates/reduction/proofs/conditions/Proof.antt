@@ -28,8 +28,7 @@ side-of-requires c κs = search needs
 pairs-of-requires : tie.Need-pairs-of-requires
 pairs-of-requires c κs =
     let e = c .before .before .before .outcome .ensures in
-    let passed = stretch-passed _ _ _ _ (sym (number e) ∙ c .before .if1 .left) in
-    rw (c .side-of .ensures) (passed .accepted, passed .below)
+    rw (c .side-of .ensures) (stretch-passed _ _ _ _ (sym (number e) ∙ c .before .if1 .left))
 
 returns-2 : tie.Need-returns-2
 returns-2 c =

@@ -5,7 +5,7 @@ use denote.Ref.{now}
 use Rattle.files.specs.Dense.{Arrays, held, arrays}
 use Rattle.files.proofs.Valid.{Valid, task-valid}
 use Rattle.files.proofs.HeldTask.{variables-held, actions-held}
-use Rattle.reduction.proofs.FilledArrays.{number-below, ranges-small, task-filled, origin-filled}
+use Rattle.reduction.proofs.FilledArrays.{chosen-numbered, ranges-small, task-filled, origin-filled}
 use Rattle.reduction.proofs.arrays.fill.Statement.{statement}
 use Rattle.reduction.proofs.arrays.fill.Tie as tie
 
@@ -65,80 +65,67 @@ abbrev begun : tie.After-kept-variables → tie.Start
 begun c = to-start (to-named-facts (to-changed (to-new-values c)))
 
 named-facts-requires : tie.Need-named-facts-requires
-named-facts-requires c κs = (variables-few c, actions-few c)
+named-facts-requires c κs = record { fewVariables = variables-few c; fewActions = actions-few c }
 
 changed-requires : tie.Need-changed-requires
-changed-requires c κs = (variables-few (to-start c), actions-few (to-start c))
+changed-requires c κs = record { fewVariables = variables-few (to-start c); fewActions = actions-few (to-start c) }
 
 new-values-requires : tie.Need-new-values-requires
 new-values-requires c κs = variables-few (to-start (to-named-facts (c .before)))
 
 kept-variables-requires : tie.Need-kept-variables-requires
-kept-variables-requires c κs = (variables-few (to-start (to-named-facts (to-changed (c .before .before .before)))), omega arith)
+kept-variables-requires c κs = record { source = variables-few (to-start (to-named-facts (to-changed (c .before .before .before)))); room = omega arith }
 
 originals-requires : tie.Need-originals-requires
-originals-requires c κs = (actions-few (begun (c .before)), omega arith)
-
-variables-kept : (k : tie.After-kept-variables) → k .kept-variables .result ≤ 64
-variables-kept k = omega (arith, k .kept-variables .ensures .1, variables-few (begun k))
-
-actions-kept : (n : tie.After-originals) → n .originals .result ≤ 512
-actions-kept n = omega (arith, n .originals .ensures .1, actions-few (begun (to-kept-variables n)))
+originals-requires c κs = record { source = actions-few (begun (c .before)); room = omega arith }
 
 new-sizes-requires : tie.Need-new-sizes-requires
 new-sizes-requires c κs =
-    let n = c .before .before .before in
-    let k = to-kept-variables n in
-    (variables-kept k, omega arith, number-below _ _ 64 _ _ (variables-few (begun k)) (k .kept-variables .ensures .0))
+    let k = to-kept-variables (c .before .before .before) in
+    record { source = chosen-numbered (variables-few (begun k)) (k .kept-variables .ensures); room = omega arith }
 
 map-row-requires : tie.Need-map-row-requires
 map-row-requires c κs =
-    let n = to-originals (c .before .before .before .before) in
-    let k = to-kept-variables n in
-    (variables-kept k, omega arith, omega arith, number-below _ _ 64 _ _ (variables-few (begun k)) (k .kept-variables .ensures .0))
+    let k = to-kept-variables (to-originals (c .before .before .before .before)) in
+    record { source = record { variables = chosen-numbered (variables-few (begun k)) (k .kept-variables .ensures); within = omega arith }; room = omega arith }
 
 map-row-requires-2 : tie.Need-map-row-requires-2
 map-row-requires-2 c κs =
-    let n = to-originals (to-new-sizes (c .before .before .before .before)) in
-    let k = to-kept-variables n in
-    (variables-kept k, omega arith, omega arith, number-below _ _ 64 _ _ (variables-few (begun k)) (k .kept-variables .ensures .0))
+    let k = to-kept-variables (to-originals (to-new-sizes (c .before .before .before .before))) in
+    record { source = record { variables = chosen-numbered (variables-few (begun k)) (k .kept-variables .ensures); within = omega arith }; room = omega arith }
 
 map-costs-requires : tie.Need-map-costs-requires
 map-costs-requires c κs =
     let n = to-originals (to-new-sizes (to-map-row (c .before .before))) in
-    (actions-kept n, omega arith, number-below _ _ 512 _ _ (actions-few (begun (to-kept-variables n))) (n .originals .ensures .0))
+    record { source = chosen-numbered (actions-few (begun (to-kept-variables n))) (n .originals .ensures); room = omega arith }
 
 map-rows-requires : tie.Need-map-rows-requires
 map-rows-requires c κs =
     let n = to-originals (to-new-sizes (to-map-row (to-map-row2 (c .before .before .before .before)))) in
-    let k = to-kept-variables n in (
-      variables-kept k,
-      actions-kept n,
-      omega arith,
-      number-below _ _ 512 _ _ (actions-few (begun k)) (n .originals .ensures .0),
-      number-below _ _ 64 _ _ (variables-few (begun k)) (k .kept-variables .ensures .0),
-    )
+    let k = to-kept-variables n in
+    record {
+      source = record { variables = chosen-numbered (variables-few (begun k)) (k .kept-variables .ensures); actions = chosen-numbered (actions-few (begun k)) (n .originals .ensures) };
+      room = omega arith;
+    }
 
 map-rows-requires-2 : tie.Need-map-rows-requires-2
 map-rows-requires-2 c κs =
     let n = to-originals (to-new-sizes (to-map-row (to-map-row2 (to-map-costs (c .before .before .before .before))))) in
-    let k = to-kept-variables n in (
-      variables-kept k,
-      actions-kept n,
-      omega arith,
-      number-below _ _ 512 _ _ (actions-few (begun k)) (n .originals .ensures .0),
-      number-below _ _ 64 _ _ (variables-few (begun k)) (k .kept-variables .ensures .0),
-    )
+    let k = to-kept-variables n in
+    record {
+      source = record { variables = chosen-numbered (variables-few (begun k)) (k .kept-variables .ensures); actions = chosen-numbered (actions-few (begun k)) (n .originals .ensures) };
+      room = omega arith;
+    }
 
 map-sizes-requires : tie.Need-map-sizes-requires
 map-sizes-requires c κs =
     let k = to-kept-variables (to-originals (to-new-sizes (to-map-row (to-map-row2 (to-map-costs (to-map-rows (c .before .before))))))) in
-    (variables-kept k, omega arith, number-below _ _ 64 _ _ (variables-few (begun k)) (k .kept-variables .ensures .0))
+    record { source = chosen-numbered (variables-few (begun k)) (k .kept-variables .ensures); room = omega arith }
 
 value-rows-requires : tie.Need-value-rows-requires
 value-rows-requires c κs =
     let k = to-kept-variables (to-originals (to-new-sizes (to-map-row (to-map-row2 (to-map-costs (to-map-rows (to-map-rows2 (c .before .before .before)))))))) in
-    (variables-kept k, omega arith, number-below _ _ 64 _ _ (variables-few (begun k)) (k .kept-variables .ensures .0))
+    record { source = chosen-numbered (variables-few (begun k)) (k .kept-variables .ensures); room = omega arith }
 
 returns : tie.Need-returns
 returns c =
@@ -158,20 +145,19 @@ returns c =
     record {
       writable =
           record {
-            variables-few = variables-kept k;
-            actions-few = actions-kept n;
-            sizes-small = ranges-small (task s) (valid s) _ _ _ (v .new-values .result) _ _ _ _ (f .named-facts .ensures) (h .changed .ensures) (v .new-values .ensures) (k .kept-variables .ensures .0) (n .originals .ensures .0) _ (z .map-sizes .ensures);
+            limits = record { fewVariables = chosen-numbered (variables-few s) (k .kept-variables .ensures) .few; fewActions = chosen-numbered (actions-few s) (n .originals .ensures) .few };
+            fewValues = ranges-small (task s) (valid s) _ _ _ (v .new-values .result) _ _ _ _ (f .named-facts .ensures) (h .changed .ensures) (v .new-values .ensures) (k .kept-variables .ensures) (n .originals .ensures) _ (z .map-sizes .ensures);
           };
       task = λ A bits.
-          task-filled (task s) (valid s) _ _ _ (v .new-values .result) _ _ _ _ (f .named-facts .ensures) (h .changed .ensures) (v .new-values .ensures) (k .kept-variables .ensures .0) (n .originals .ensures .0) A bits _ _ _ _ _ _
+          task-filled (task s) (valid s) _ _ _ (v .new-values .result) _ _ _ _ (f .named-facts .ensures) (h .changed .ensures) (v .new-values .ensures) (k .kept-variables .ensures) (n .originals .ensures) A bits _ _ _ _ _ _
           (w .new-sizes .ensures)
-          (t .map-row .ensures .1)
-          (g .map-row2 .ensures .1)
+          (t .map-row .ensures .row)
+          (g .map-row2 .ensures .row)
           (o .map-costs .ensures)
           (q .map-rows .ensures)
           (e .map-rows2 .ensures);
       origins = λ A bits.
-          origin-filled (task s) (valid s) _ _ _ (v .new-values .result) _ _ _ _ (f .named-facts .ensures) (h .changed .ensures) (v .new-values .ensures) (k .kept-variables .ensures .0) (n .originals .ensures .0) A bits _ _
+          origin-filled (task s) (valid s) _ _ _ (v .new-values .result) _ _ _ _ (f .named-facts .ensures) (h .changed .ensures) (v .new-values .ensures) (k .kept-variables .ensures) (n .originals .ensures) A bits _ _
           (z .map-sizes .ensures)
           (c .value-rows .ensures);
     }

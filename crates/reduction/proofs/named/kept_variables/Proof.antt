@@ -29,7 +29,7 @@ abbrev μ-loop : tie.MeasureT-loop
 loop-holds : tie.Need-loop-holds Inv-loop μ-loop
 loop-holds c =
     let a = c .before .args in
-    (chosen-none (now (a .numbers)) (keepsAt (now (a .named)) (now (a .changed)) (now (a .starts))), omega arith, omega arith, c .before .pre .0, c .before .pre .1, refl)
+    (chosen-none (now (a .numbers)) (keepsAt (now (a .named)) (now (a .changed)) (now (a .starts))), omega arith, omega arith, c .before .pre .source, c .before .pre .room, refl)
 
 keeps-requires : tie.Need-keeps-requires Inv-loop μ-loop
 keeps-requires c κs = search needs
@@ -49,9 +49,9 @@ loop-again c =
     let k = p .before .before in
     let l = k .before .before .before .loop in
     let a = k .before .before .before .before .before .args in
-    let same = pushed-length (k .keeps .result) (l .numbers) _ (l .count) (l .v) (p .push-variable .ensures .0) in (
-      chosen-next (keepsAt (now (a .named)) (now (a .changed)) (now (a .starts))) (k .keeps .result) (l .numbers) _ (l .v) (l .count) _ (omega arith) (l .inv .0) (k .keeps .ensures) (p .push-variable .ensures .0) (p .push-variable .ensures .1),
-      omega (arith, p .push-variable .ensures .1, bit-most (k .keeps .result)),
+    let same = pushed-length (k .keeps .result) (l .numbers) _ (l .count) (l .v) (p .push-variable .ensures .numbers) in (
+      chosen-next (keepsAt (now (a .named)) (now (a .changed)) (now (a .starts))) (k .keeps .result) (l .numbers) _ (l .v) (l .count) _ (omega arith) (l .inv .0) (k .keeps .ensures) (p .push-variable .ensures .numbers) (p .push-variable .ensures .counted),
+      omega (arith, p .push-variable .ensures .counted, bit-most (k .keeps .result)),
       omega arith,
       l .inv .3,
       omega (arith, same),
@@ -64,10 +64,11 @@ same-length c = c .before .before .loop .inv .5
 returns : tie.Need-returns Inv-loop μ-loop
 returns c =
     let l = c .before .before .loop in
-    let a = c .before .before .before .before .args in (
-      at-end (λ n. rowNumbers (l .numbers) 0 (l .count) ≡ chosenBelow n (keepsAt (now (a .named)) (now (a .changed)) (now (a .starts)))) (l .v) (a .scope .variables) (l .inv .2) (c .if1 .left) (l .inv .0),
-      omega arith,
-    )
+    let a = c .before .before .before .before .args in
+    record {
+      are = at-end (λ n. rowNumbers (l .numbers) 0 (l .count) ≡ chosenBelow n (keepsAt (now (a .named)) (now (a .changed)) (now (a .starts)))) (l .v) (a .scope .variables) (l .inv .2) (c .if1 .left) (l .inv .0);
+      atMost = omega arith;
+    }
 
 pub kept-variables-spec : {M : Type 1} → statement M
 kept-variables-spec =

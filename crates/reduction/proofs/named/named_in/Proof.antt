@@ -59,10 +59,11 @@ returns : tie.Need-returns Inv-loop μ-loop
 unfolding namedIn
 returns c =
     let l = c .before .loop in
-    let s = c .before .before .args in (
-      at-end (λ n. l .count ≡ countBelow n (namedValue (now (s .named)) (s .v))) (l .d) 32 (l .inv .2) (c .loop-test .left) (l .inv .0),
-      omega arith,
-    )
+    let s = c .before .before .args in
+    record {
+      is = at-end (λ n. l .count ≡ countBelow n (namedValue (now (s .named)) (s .v))) (l .d) 32 (l .inv .2) (c .loop-test .left) (l .inv .0);
+      atMost = omega arith;
+    }
 
 pub named-in-spec : {M : Type 1} → statement M
 named-in-spec =

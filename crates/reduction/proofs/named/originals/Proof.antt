@@ -29,7 +29,7 @@ abbrev μ-loop : tie.MeasureT-loop
 loop-holds : tie.Need-loop-holds Inv-loop μ-loop
 loop-holds c =
     let s = c .before .args in
-    (chosen-none (now (s .numbers)) (isMarked (now (s .kept))), omega arith, omega arith, c .before .pre .0, c .before .pre .1, refl)
+    (chosen-none (now (s .numbers)) (isMarked (now (s .kept))), omega arith, omega arith, c .before .pre .source, c .before .pre .room, refl)
 
 element-copy-out-push-action : tie.Need-element-copy-out-push-action Inv-loop μ-loop
 element-copy-out-push-action c = search needs
@@ -49,9 +49,9 @@ loop-again c =
     let l = p .before .before .before .before .loop in
     let s = p .before .before .before .before .before .before .args in
     let marked = isMarked (now (s .kept)) (l .a) in
-    let same = pushed-length marked (l .numbers) _ (l .count) (l .a) (p .push-action .ensures .0) in (
-      chosen-next (isMarked (now (s .kept))) marked (l .numbers) _ (l .a) (l .count) _ (omega arith) (l .inv .0) refl (p .push-action .ensures .0) (p .push-action .ensures .1),
-      omega (arith, p .push-action .ensures .1, bit-most marked),
+    let same = pushed-length marked (l .numbers) _ (l .count) (l .a) (p .push-action .ensures .numbers) in (
+      chosen-next (isMarked (now (s .kept))) marked (l .numbers) _ (l .a) (l .count) _ (omega arith) (l .inv .0) refl (p .push-action .ensures .numbers) (p .push-action .ensures .counted),
+      omega (arith, p .push-action .ensures .counted, bit-most marked),
       omega arith,
       l .inv .3,
       omega (arith, same),
@@ -64,10 +64,11 @@ same-length c = c .before .loop .inv .5
 returns : tie.Need-returns Inv-loop μ-loop
 returns c =
     let l = c .before .loop in
-    let s = c .before .before .before .args in (
-      at-end (λ n. rowNumbers (l .numbers) 0 (l .count) ≡ chosenBelow n (isMarked (now (s .kept)))) (l .a) (s .actions) (l .inv .2) (c .loop-test .left) (l .inv .0),
-      omega arith,
-    )
+    let s = c .before .before .before .args in
+    record {
+      are = at-end (λ n. rowNumbers (l .numbers) 0 (l .count) ≡ chosenBelow n (isMarked (now (s .kept)))) (l .a) (s .actions) (l .inv .2) (c .loop-test .left) (l .inv .0);
+      atMost = omega arith;
+    }
 
 pub originals-spec : {M : Type 1} → statement M
 originals-spec =

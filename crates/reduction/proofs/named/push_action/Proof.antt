@@ -1,6 +1,4 @@
 -- The test decides which of the two lists it is.
-use mathlib.Core.Path.{refl}
-use native.Mathlib.Omega.{arith}
 use borrow.Author.Needs.{needs}
 use borrow.Author.Tests.{not-true, not-false}
 use Rattle.files.proofs.BelowLaws.{bit-true, bit-false}
@@ -10,7 +8,7 @@ use Rattle.reduction.proofs.named.push_action.Tie as tie
 returns : tie.Need-returns
 returns c =
     let e = not-true (c .before .args .test) (c .if1 .taken) in
-    (rw e refl, omega (arith, bit-false (c .before .args .test) e))
+    rw e (search (needs, bit-false (c .before .args .test) e))
 
 cast-numbers : tie.Need-cast-numbers
 cast-numbers c = search needs
@@ -30,7 +28,7 @@ same-length c = search needs
 returns-2 : tie.Need-returns-2
 returns-2 c =
     let e = not-false (c .before .args .test) (c .if1 .left) in
-    (rw e refl, omega (arith, bit-true (c .before .args .test) e))
+    rw e (search (needs, bit-true (c .before .args .test) e))
 
 pub push-action-spec : {M : Type 1} → statement M
 push-action-spec =

@@ -57,7 +57,7 @@ same-length c = c .before .loop .inv .0
 returns : tie.Need-returns Inv-loop μ-loop
 returns c =
     let l = c .before .loop in
-    (l .inv .0, λ d h. l .inv .1 d (omega arith), l .inv .2)
+    record { same = l .inv .0; row = λ d h. l .inv .1 d (omega arith); earlier = l .inv .2 }
 
 pub copy-row-spec : {M : Type 1} → statement M
 copy-row-spec =

@@ -28,13 +28,13 @@ element-copy-out-costs : tie.Need-element-copy-out-costs Inv-loop μ-loop
 element-copy-out-costs c = search needs
 
 cast-costs : tie.Need-cast-costs Inv-loop μ-loop
-cast-costs c = omega (arith, c .before .before .before .pre .2 (c .before .before .loop .j) (c .before .loop-test .taken))
+cast-costs c = omega (arith, c .before .before .before .pre .source .known (c .before .before .loop .j) (c .before .loop-test .taken))
 
 mul-costs-2 : tie.Need-mul-costs-2 Inv-loop μ-loop
-mul-costs-2 c = omega (arith, c .before .before .before .pre .2 (c .before .before .loop .j) (c .before .loop-test .taken))
+mul-costs-2 c = omega (arith, c .before .before .before .pre .source .known (c .before .before .loop .j) (c .before .loop-test .taken))
 
 element-copy-out-costs-2 : tie.Need-element-copy-out-costs-2 Inv-loop μ-loop
-element-copy-out-costs-2 c = c .before .before .before .pre .2 (c .before .before .loop .j) (c .before .loop-test .taken)
+element-copy-out-costs-2 c = c .before .before .before .pre .source .known (c .before .before .loop .j) (c .before .loop-test .taken)
 
 mul-costs-3 : tie.Need-mul-costs-3 Inv-loop μ-loop
 mul-costs-3 c = search needs

@@ -28,16 +28,16 @@ element-copy-out-v : tie.Need-element-copy-out-v Inv-loop μ-loop
 element-copy-out-v c = search needs
 
 cast-v : tie.Need-cast-v Inv-loop μ-loop
-cast-v c = omega (arith, c .before .before .before .before .before .pre .3 (c .before .before .loop .i) (c .before .loop-test .taken))
+cast-v c = omega (arith, c .before .before .before .before .before .pre .source .variables .known (c .before .before .loop .i) (c .before .loop-test .taken))
 
 add-mapped : tie.Need-add-mapped Inv-loop μ-loop
-add-mapped c = omega (arith, c .before .before .before .before .before .pre .3 (c .before .before .loop .i) (c .before .loop-test .taken))
+add-mapped c = omega (arith, c .before .before .before .before .before .pre .source .variables .known (c .before .before .loop .i) (c .before .loop-test .taken))
 
 shared-slice-read-mapped : tie.Need-shared-slice-read-mapped Inv-loop μ-loop
-shared-slice-read-mapped c = omega (arith, c .before .before .before .before .before .before .pre .3 (c .before .before .before .loop .i) (c .before .before .loop-test .taken))
+shared-slice-read-mapped c = omega (arith, c .before .before .before .before .before .before .pre .source .variables .known (c .before .before .before .loop .i) (c .before .before .loop-test .taken))
 
 mapped-requires : tie.Need-mapped-requires Inv-loop μ-loop
-mapped-requires c κs = c .before .before .before .before .before .before .pre .3 (c .before .before .before .loop .i) (c .before .before .loop-test .taken)
+mapped-requires c κs = c .before .before .before .before .before .before .pre .source .variables .known (c .before .before .before .loop .i) (c .before .before .loop-test .taken)
 
 add-row : tie.Need-add-row Inv-loop μ-loop
 add-row c = search needs
@@ -67,7 +67,7 @@ same-length c = c .before .loop .inv .0
 returns : tie.Need-returns Inv-loop μ-loop
 returns c =
     let l = c .before .loop in
-    (l .inv .0, λ i h. l .inv .1 i (omega arith), l .inv .2)
+    record { same = l .inv .0; row = λ i h. l .inv .1 i (omega arith); earlier = l .inv .2 }
 
 pub map-row-spec : {M : Type 1} → statement M
 map-row-spec =

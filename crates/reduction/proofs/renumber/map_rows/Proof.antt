@@ -29,18 +29,19 @@ element-copy-out-a : tie.Need-element-copy-out-a Inv-loop μ-loop
 element-copy-out-a c = search needs
 
 cast-a : tie.Need-cast-a Inv-loop μ-loop
-cast-a c = omega (arith, c .before .before .before .before .pre .3 (c .before .before .loop .j) (c .before .loop-test .taken))
+cast-a c = omega (arith, c .before .before .before .before .pre .source .actions .known (c .before .before .loop .j) (c .before .loop-test .taken))
 
 mul-map-row : tie.Need-mul-map-row Inv-loop μ-loop
 mul-map-row c = search needs
 
 mul-map-row-2 : tie.Need-mul-map-row-2 Inv-loop μ-loop
-mul-map-row-2 c = omega (arith, c .before .before .before .before .before .before .pre .3 (c .before .before .before .before .loop .j) (c .before .before .before .loop-test .taken))
+mul-map-row-2 c = omega (arith, c .before .before .before .before .before .before .pre .source .actions .known (c .before .before .before .before .loop .j) (c .before .before .before .loop-test .taken))
 
 map-row-requires : tie.Need-map-row-requires Inv-loop μ-loop
 map-row-requires c κs =
-    let original = c .before .before .before .before .before .before .pre .3 (c .before .before .before .before .loop .j) (c .before .before .before .loop-test .taken) in
-    (omega arith, omega arith, omega (arith, original), c .before .before .before .before .before .before .pre .4)
+    let given = c .before .before .before .before .before .before .pre .source in
+    let original = given .actions .known (c .before .before .before .before .loop .j) (c .before .before .before .loop-test .taken) in
+    search (needs, original, given .variables)
 
 add-j : tie.Need-add-j Inv-loop μ-loop
 add-j c = search needs
@@ -52,7 +53,7 @@ loop-again : tie.Need-loop-again Inv-loop μ-loop
 loop-again c =
     let l = c .before .before .before .before .before .before .before .loop in
     let row = c .before .before .map-row .ensures in
-    (row .0 ∙ l .inv .0, below-more _ _ (λ k h i m. row .2 (64 * k + i) (omega arith) ∙ l .inv .1 k h i m) (row .1), omega arith)
+    (row .same ∙ l .inv .0, below-more _ _ (λ k h i m. row .earlier (64 * k + i) (omega arith) ∙ l .inv .1 k h i m) (row .row), omega arith)
 
 same-length : tie.Need-same-length Inv-loop μ-loop
 same-length c = c .before .loop .inv .0

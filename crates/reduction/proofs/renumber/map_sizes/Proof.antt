@@ -25,10 +25,10 @@ element-copy-out-sizes : tie.Need-element-copy-out-sizes Inv-loop μ-loop
 element-copy-out-sizes c = search needs
 
 cast-sizes : tie.Need-cast-sizes Inv-loop μ-loop
-cast-sizes c = omega (arith, c .before .before .before .pre .2 (c .before .before .loop .i) (c .before .loop-test .taken))
+cast-sizes c = omega (arith, c .before .before .before .pre .source .known (c .before .before .loop .i) (c .before .loop-test .taken))
 
 element-copy-out-sizes-2 : tie.Need-element-copy-out-sizes-2 Inv-loop μ-loop
-element-copy-out-sizes-2 c = c .before .before .before .pre .2 (c .before .before .loop .i) (c .before .loop-test .taken)
+element-copy-out-sizes-2 c = c .before .before .before .pre .source .known (c .before .before .loop .i) (c .before .loop-test .taken)
 
 slice-write-sizes : tie.Need-slice-write-sizes Inv-loop μ-loop
 slice-write-sizes c = search needs

@@ -18,14 +18,14 @@ returns : tie.Need-returns
 unfolding newSizeAt
 returns c =
     let a = c .before .before .args in
-    let named = c .before .named-in .ensures .0 in
+    let named = c .before .named-in .ensures .is in
     omega (arith, named, bit-true _ (lt-ltb (namedIn (now (a .named)) (a .v)) (a .size) (omega (arith, named))))
 
 returns-2 : tie.Need-returns-2
 unfolding newSizeAt
 returns-2 c =
     let a = c .before .before .args in
-    let named = c .before .named-in .ensures .0 in
+    let named = c .before .named-in .ensures .is in
     omega (arith, named, bit-false _ (le-ltb (namedIn (now (a .named)) (a .v)) (a .size) (omega (arith, named))))
 
 pub new-size-spec : {M : Type 1} → statement M

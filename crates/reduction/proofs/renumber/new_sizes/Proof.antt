@@ -26,13 +26,13 @@ element-copy-out-v : tie.Need-element-copy-out-v Inv-loop μ-loop
 element-copy-out-v c = search needs
 
 cast-v : tie.Need-cast-v Inv-loop μ-loop
-cast-v c = omega (arith, c .before .before .before .before .pre .2 (c .before .before .loop .i) (c .before .loop-test .taken))
+cast-v c = omega (arith, c .before .before .before .before .pre .source .known (c .before .before .loop .i) (c .before .loop-test .taken))
 
 element-copy-out-new-size : tie.Need-element-copy-out-new-size Inv-loop μ-loop
-element-copy-out-new-size c = c .before .before .before .before .pre .2 (c .before .before .loop .i) (c .before .loop-test .taken)
+element-copy-out-new-size c = c .before .before .before .before .pre .source .known (c .before .before .loop .i) (c .before .loop-test .taken)
 
 new-size-requires : tie.Need-new-size-requires Inv-loop μ-loop
-new-size-requires c κs = c .before .before .before .before .before .pre .2 (c .before .before .before .loop .i) (c .before .before .loop-test .taken)
+new-size-requires c κs = c .before .before .before .before .before .pre .source .known (c .before .before .before .loop .i) (c .before .before .loop-test .taken)
 
 slice-write-sizes : tie.Need-slice-write-sizes Inv-loop μ-loop
 slice-write-sizes c = search needs

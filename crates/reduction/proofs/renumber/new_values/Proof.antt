@@ -37,7 +37,7 @@ loop-again : tie.Need-loop-again Inv-loop μ-loop
 loop-again c =
     let l = c .before .before .before .before .loop in
     let row = c .before .number-values .ensures in
-    (row .0 ∙ l .inv .0, below-more _ _ (λ w h d m. row .2 (32 * w + d) (omega arith) ∙ l .inv .1 w h d m) (row .1), omega arith)
+    (row .same ∙ l .inv .0, below-more _ _ (λ w h d m. row .earlier (32 * w + d) (omega arith) ∙ l .inv .1 w h d m) (row .row), omega arith)
 
 returns : tie.Need-returns Inv-loop μ-loop
 returns c = λ v d h k. c .before .loop .inv .1 v (omega arith) d k

@@ -84,7 +84,7 @@ loop-again c =
     let test = namedValue (now (a .named)) (a .v) in (
       length-set (l .values) _ _ ∙ l .inv .0,
       row-next (newValueAt (now (a .named)) (a .v)) (l .values) (32 * a .v) (l .d) _ (omega arith) (l .inv .1)
-          (c .before .before .number .ensures ∙ ap₂ (λ (x y : ℕ). cond (test (l .d)) x y) (l .inv .3) (c .before .before .before .before .before .before .named-in .ensures .0)),
+          (c .before .before .number .ensures ∙ ap₂ (λ (x y : ℕ). cond (test (l .d)) x y) (l .inv .3) (c .before .before .before .before .before .before .named-in .ensures .is)),
       below-next (now (a .values)) (l .values) (32 * a .v) (l .d) _ (l .inv .2),
       count-next test (l .d) (l .rank) _ (l .inv .3) (c .marked .ensures),
       omega (arith, bit-most (test (l .d))),
@@ -97,7 +97,7 @@ same-length c = c .before .loop .inv .0
 returns : tie.Need-returns Inv-loop μ-loop
 returns c =
     let l = c .before .loop in
-    (l .inv .0, λ d h. l .inv .1 d (omega arith), l .inv .2)
+    record { same = l .inv .0; row = λ d h. l .inv .1 d (omega arith); earlier = l .inv .2 }
 
 pub number-values-spec : {M : Type 1} → statement M
 number-values-spec =

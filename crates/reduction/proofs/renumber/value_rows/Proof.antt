@@ -27,15 +27,15 @@ element-copy-out-copy-row : tie.Need-element-copy-out-copy-row Inv-loop μ-loop
 element-copy-out-copy-row c = search needs
 
 cast-copy-row : tie.Need-cast-copy-row Inv-loop μ-loop
-cast-copy-row c = omega (arith, c .before .before .before .before .before .before .pre .2 (c .before .before .before .before .loop .i) (c .before .before .before .loop-test .taken))
+cast-copy-row c = omega (arith, c .before .before .before .before .before .before .pre .source .known (c .before .before .before .before .loop .i) (c .before .before .before .loop-test .taken))
 
 mul-copy-row-2 : tie.Need-mul-copy-row-2 Inv-loop μ-loop
-mul-copy-row-2 c = omega (arith, c .before .before .before .before .before .before .pre .2 (c .before .before .before .before .loop .i) (c .before .before .before .loop-test .taken))
+mul-copy-row-2 c = omega (arith, c .before .before .before .before .before .before .pre .source .known (c .before .before .before .before .loop .i) (c .before .before .before .loop-test .taken))
 
 copy-row-requires : tie.Need-copy-row-requires Inv-loop μ-loop
 copy-row-requires c κs =
-    let number = c .before .before .before .before .before .before .pre .2 (c .before .before .before .before .loop .i) (c .before .before .before .loop-test .taken) in
-    (omega arith, omega (arith, number))
+    let number = c .before .before .before .before .before .before .pre .source .known (c .before .before .before .before .loop .i) (c .before .before .before .loop-test .taken) in
+    search (needs, number)
 
 add-i : tie.Need-add-i Inv-loop μ-loop
 add-i c = search needs
@@ -47,7 +47,7 @@ loop-again : tie.Need-loop-again Inv-loop μ-loop
 loop-again c =
     let l = c .before .before .before .before .before .before .before .loop in
     let row = c .before .before .copy-row .ensures in
-    (row .0 ∙ l .inv .0, below-more _ _ (λ k h d m. row .2 (32 * k + d) (omega arith) ∙ l .inv .1 k h d m) (row .1), omega arith)
+    (row .same ∙ l .inv .0, below-more _ _ (λ k h d m. row .earlier (32 * k + d) (omega arith) ∙ l .inv .1 k h d m) (row .row), omega arith)
 
 same-length : tie.Need-same-length Inv-loop μ-loop
 same-length c = c .before .loop .inv .0

@@ -66,7 +66,10 @@ kept-actions-requires : tie.Need-kept-actions-requires
 kept-actions-requires c κs =
     let m = c .before .before .before .before .before .before .before .before in
     let s = to-start m in
-    (actions-few s, marks-room (task s) (valid s) (s .args .scope .level) _ _ (ap (λ (b : MarkBuffers). b .actions) (marks-left _ _ _ _ _ (m .mark-task .ensures) (c .before .if1 .left))))
+    record {
+      few = actions-few s;
+      within = marks-room (task s) (valid s) (s .args .scope .level) _ _ (ap (λ (b : MarkBuffers). b .actions) (marks-left _ _ _ _ _ (m .mark-task .ensures) (c .before .if1 .left)));
+    }
 
 write-reduced-requires : tie.Need-write-reduced-requires
 write-reduced-requires c κs = to-start (to-mark (c .before .before .before)) .pre

@@ -6,7 +6,7 @@ use Rattle.reduction.proofs.stretch.pairs_of.Statement.{statement}
 use Rattle.reduction.proofs.stretch.pairs_of.Tie as tie
 
 action-place-requires : tie.Need-action-place-requires
-action-place-requires c κs = omega (arith, actions-few _ (c .before .pre .0))
+action-place-requires c κs = omega (arith, actions-few _ (c .before .pre .accepted))
 
 conditions-in-requires : tie.Need-conditions-in-requires
 conditions-in-requires c κs = search needs
@@ -28,7 +28,7 @@ part-result-start c = search needs
 
 part-result-end : tie.Need-part-result-end
 part-result-end c =
-    part-within _ _ _ _ (c .before .action-place .ensures .is) (c .conditions-in .ensures .is) (c .before .before .before .pre .0) (c .before .before .before .pre .1)
+    part-within _ _ _ _ (c .before .action-place .ensures .is) (c .conditions-in .ensures .is) (c .before .before .before .pre .accepted) (c .before .before .before .pre .below)
 
 returns : tie.Need-returns
 returns c = part-is _ _ _ _ (c .before .before .action-place .ensures .is) (c .before .conditions-in .ensures .is)
