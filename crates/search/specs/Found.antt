@@ -7,6 +7,7 @@ use mathlib.Core.Option.{Option·map, Option·getD}
 use lib.ListN.{length}
 use Rattle.files.specs.declared.Outcome.{Outcome}
 use Rattle.files.specs.Outcome.{done, isDone, overwrite}
+use Rattle.files.specs.OriginFile.{originOf}
 use Rattle.files.specs.PlanFile.{planFile}
 use Rattle.files.specs.Stages.{ByStages}
 use Rattle.files.specs.Task.{Task}
@@ -14,6 +15,7 @@ use Rattle.plans.specs.Plan.{totalOf}
 use Rattle.reduction.specs.Reduce.{Buffers}
 use Rattle.reduction.specs.declared.Reduced.{Reduced}
 use Rattle.search.specs.States.{stateCount}
+use Rattle.search.specs.Entries.{Holds}
 use Rattle.search.specs.FirstPlan.{firstPlan}
 use Rattle.search.specs.Planner.{statesFit, SearchBuffers, searchBuffers, searchStages, unplanned, lent, Plans}
 use Rattle.search.specs.declared.Entry.{Entry}
@@ -24,6 +26,12 @@ use Rattle.search.specs.declared.stages.Run.{Run}
 -- the plan by the task's own numbers
 unfoldable pub foundPlan : Task → List ℕ
 foundPlan t = Option·getD (firstPlan t) []
+
+-- what the search asks beside a task or a file that is well given: room for every entry, and an original number for each action
+pub record CanPlan (given : Type 0) (entries origin : List ℕ) (actions : ℕ) : Type 0 where
+  pub source : given
+  pub room : Holds entries 4096
+  pub numbers : actions ≤ length (originOf origin .actions)
 
 -- how many entries of the table are filled
 unfoldable pub foundStates : Task → ℕ → ℕ

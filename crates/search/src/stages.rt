@@ -1,11 +1,8 @@
 // The planner's stages, with the work table as a slice of numbers.
 ghost use mathlib.Core.Path.{_≡_};
 ghost use mathlib.Core.Bool.{true};
-ghost use Prim.Native.Nat.{_≤_};
-ghost use lib.ListN.{length};
 ghost use Rattle.files.specs.Accepted.{acceptedTask};
 ghost use Rattle.files.specs.Dense.{held, arrays};
-ghost use Rattle.files.specs.OriginFile.{originOf};
 ghost use Rattle.files.specs.Outcome.{done};
 ghost use Rattle.files.specs.Task.{actionCount};
 ghost use Rattle.files.specs.TaskFile.{checkTask, taskOf};
@@ -13,7 +10,7 @@ ghost use Rattle.reduction.specs.Preserved.{byOriginFile};
 ghost use Rattle.reduction.specs.Reduce.{buffers};
 ghost use Rattle.search.specs.Entries.{Holds, entriesIn};
 ghost use Rattle.search.specs.Planner.{unplanned};
-ghost use Rattle.search.specs.Found.{notFound, bothTogether, SearchesRoom, PlansRoom};
+ghost use Rattle.search.specs.Found.{CanPlan, notFound, bothTogether, SearchesRoom, PlansRoom};
 use crate::Planned;
 use crate::entries;
 use crate::first_plan;
@@ -71,7 +68,7 @@ fn search_task(
     conditions: &[u8; 32768],
     effects: &[u8; 32768],
 ) -> Found
-    requires { ⌜ (acceptedTask (held (arrays variables actions (now sizes) (now starts) (now goal) (now costs) (now conditions) (now effects))) ≡ true) × Holds (now entries) 4096 × (actions ≤ length (originOf (now origin) .actions)) ⌝ }
+    requires { ⌜ CanPlan (acceptedTask (held (arrays variables actions (now sizes) (now starts) (now goal) (now costs) (now conditions) (now effects))) ≡ true) (now entries) (now origin) actions ⌝ }
     ensures { λ r. ⌜ SearchesRoom (held (arrays variables actions (now (sizes .entry)) (now (starts .entry)) (now (goal .entry)) (now (costs .entry)) (now (conditions .entry)) (now (effects .entry)))) (byOriginFile (now (origin .entry))) signer room (now (plan .entry)) r (entriesIn (now (entries .exit)) (r .states)) (now (plan .exit)) ⌝ }
 {
     let count = states::count(sizes, variables);
@@ -133,7 +130,7 @@ fn search_file(
     origin: &[u8],
     reduced: &[u8],
 ) -> Found
-    requires { ⌜ (checkTask (now reduced) ≡ done) × Holds (now entries) 4096 × (actionCount (taskOf (now reduced)) ≤ length (originOf (now origin) .actions)) ⌝ }
+    requires { ⌜ CanPlan (checkTask (now reduced) ≡ done) (now entries) (now origin) (actionCount (taskOf (now reduced))) ⌝ }
     ensures { λ r. ⌜ SearchesRoom (taskOf (now (reduced .entry))) (byOriginFile (now (origin .entry))) signer room (now (plan .entry)) r (entriesIn (now (entries .exit)) (r .states)) (now (plan .exit)) ⌝ }
 {
     let mut sizes = [0u8; 64];

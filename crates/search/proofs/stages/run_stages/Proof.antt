@@ -73,11 +73,12 @@ search-file-requires c κs =
     let s = to-start k in
     let z = c .before .before .before .before .before .before .if1 .left in
     let f = reduced-part _ _ _ _ _ (k .reduce .ensures) z (octets k) (small k) in
-    let g = origin-part _ _ _ _ _ (k .reduce .ensures) z (octets k) (small k) in (
-      file-checked _ _ _ _ _ (k .reduce .ensures) z (octets k) (small k) _ _ f g,
-      s .pre,
-      enough-numbers _ _ _ _ _ (k .reduce .ensures) z (octets k) (small k) _ _ f g,
-    )
+    let g = origin-part _ _ _ _ _ (k .reduce .ensures) z (octets k) (small k) in
+    record {
+      source = file-checked _ _ _ _ _ (k .reduce .ensures) z (octets k) (small k) _ _ f g;
+      room = s .pre;
+      numbers = enough-numbers _ _ _ _ _ (k .reduce .ensures) z (octets k) (small k) _ _ f g;
+    }
 
 together-requires : tie.Need-together-requires
 together-requires c κs = search needs

@@ -21,7 +21,7 @@ abbrev to-read : tie.After-actions-in → tie.After-read-task
 to-read c = c .before .before
 
 passes : (d : tie.After-read-task) → d .read-task .result .number ≡ 0
-passes d = ap (λ (o : Outcome). o .number) (d .read-task .ensures .outcome ∙ to-start d .pre .0)
+passes d = ap (λ (o : Outcome). o .number) (d .read-task .ensures .outcome ∙ to-start d .pre .source)
 
 read-task-requires : tie.Need-read-task-requires
 read-task-requires c κs = search needs
@@ -38,12 +38,13 @@ search-task-requires c κs =
     let s = to-start (to-read a) in
     let file = now (s .args .reduced) in
     let octets : Octets file = λ i. omega (arith, to-read a .before .before .before .before .before .before .before .shared-slice-known2 .given i) in
-    let checked : checkTask file .number ≡ 0 = ap (λ (o : Outcome). o .number) (s .pre .0) in
-    let is = held-by _ _ _ _ _ _ _ _ _ _ _ (a .before .variables-in .ensures .is) (a .actions-in .ensures .is) (to-read a .read-task .ensures .task (passes (to-read a))) in (
-      ap acceptedTask is ∙ task-accepted file octets checked,
-      s .pre .1,
-      omega (arith, s .pre .2, a .actions-in .ensures .is, action-count file),
-    )
+    let checked : checkTask file .number ≡ 0 = ap (λ (o : Outcome). o .number) (s .pre .source) in
+    let is = held-by _ _ _ _ _ _ _ _ _ _ _ (a .before .variables-in .ensures .is) (a .actions-in .ensures .is) (to-read a .read-task .ensures .task (passes (to-read a))) in
+    record {
+      source = ap acceptedTask is ∙ task-accepted file octets checked;
+      room = s .pre .room;
+      numbers = omega (arith, s .pre .numbers, a .actions-in .ensures .is, action-count file);
+    }
 
 same-length : tie.Need-same-length
 same-length c = search needs

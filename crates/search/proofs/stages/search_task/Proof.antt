@@ -49,7 +49,7 @@ states-are : (k : tie.After-search) → to-count k .count .result ≡ stateCount
 states-are k = states-of (to-count k) (few k)
 
 valid : (s : tie.Start) → Valid (held (task-of s))
-valid s = held-valid (task-of s) (s .pre .0)
+valid s = held-valid (task-of s) (s .pre .source)
 
 inside : (k : tie.After-search) → k .search .result < to-count k .count .result
 inside k = omega (arith, start-below _ (valid (to-start (to-count k))), k .search .ensures .start, states-are k)
@@ -60,7 +60,7 @@ fit k = states-fit _ _ (omega (arith, few k, states-are k)) (omega (arith, k .be
 count-requires : tie.Need-count-requires
 count-requires c κs =
     let s = c .before .before .before in
-    record { few = held-few (task-of s) (s .pre .0); least = held-sizes (task-of s) (s .pre .0) }
+    record { few = held-few (task-of s) (s .pre .source); least = held-sizes (task-of s) (s .pre .source) }
 
 refuse-requires : tie.Need-refuse-requires
 refuse-requires c κs = search needs
@@ -97,7 +97,7 @@ search-requires c κs =
     let k = c .before .before .before in
     let l = c .before .before .if1 .left in
     let s = to-start k in
-    record { accepted = s .pre .0; states = states-of k l; few = l; room = omega (arith, s .pre .1) }
+    record { accepted = s .pre .source; states = states-of k l; few = l; room = omega (arith, s .pre .room) }
 
 -- the entry of the start state
 abbrev to-found : tie.After-entry-at → tie.After-search
@@ -106,7 +106,7 @@ to-found c = c .before .before .before .before
 entry-at-requires : tie.Need-entry-at-requires
 entry-at-requires c κs =
     let k = c .before .before .before in
-    omega (arith, inside k, few k, to-start (to-count k) .pre .1, k .search .kept .0)
+    omega (arith, inside k, few k, to-start (to-count k) .pre .room, k .search .kept .0)
 
 is-none-requires : tie.Need-is-none-requires
 is-none-requires c κs = search needs
@@ -169,13 +169,13 @@ write-plan-requires c κs =
     let e = k .search .ensures .start in
     let small : stateCount (t .variables) ≤ 4096 = omega (arith, few k, states-are k) in
     record {
-      accepted = s .pre .0;
+      accepted = s .pre .source;
       few = small;
-      room = omega (arith, s .pre .1, k .search .kept .0);
+      room = omega (arith, s .pre .room, k .search .kept .0);
       table = table;
       reached = start-reached t _ table (valid s) _ e _ (n .before .before .before .before .entry-at .ensures) _ (n .before .before .before .is-none .ensures) (n .before .before .if3 .left);
       plan-room = omega (arith, start-steps t _ table (valid s) _ e _ (n .before .before .before .before .entry-at .ensures), n .needed .ensures, c .before .before .if4 .left);
-      numbers = s .pre .2;
+      numbers = s .pre .numbers;
     }
 
 done-requires : tie.Need-done-requires
