@@ -65,14 +65,13 @@ entryIn entries s = entry (getD entries (2 * s) 0) (getD entries (2 * s + 1) 0 %
 unfoldable pub entriesIn : List ℕ → ℕ → List Entry
 entriesIn entries count = tabulate count (entryIn entries)
 
+-- the entry of a state in a lent table, that of none past its end
+unfoldable pub tableEntry : List Entry → ℕ → Entry
+tableEntry table s = getD table s noEntry
+
 -- entries where that of one state is put
 abbrev pub Put : (entries₀ : List ℕ) (state : ℕ) (e : Entry) (entries : List ℕ) → Type 0
 Put entries₀ state e entries = (s : ℕ) → entryIn entries s ≡ cond (eqb s state) e (entryIn entries₀ s)
-
--- the entries of the first `count` states: none, or with room for one step more
-pub record Bounded (entries : List ℕ) (count : ℕ) : Type 0 where
-  pub room : Holds entries count
-  pub low : (s : ℕ) → s < count → isNone (entryIn entries s) ≡ false → Low (entryIn entries s)
 
 -- a table with room for the entries of `count` states
 pub record CanFill (table : List Entry) (entries : List ℕ) (count : ℕ) : Type 0 where

@@ -2,7 +2,7 @@
 use Prim.Native.Nat.{ℕ, zero, suc, _+_, _-_}
 use mathlib.Core.Bool.{cond}
 use mathlib.Core.List.{List, [], _∷_}
-use mathlib.Core.Option.{Option, none, some}
+use mathlib.Core.Option.{Option, none, some, Option·getD}
 use lib.ListN.{getD}
 use Rattle.files.specs.Task.{Task, actionCount}
 use Rattle.plans.specs.State.{startState, allHold}
@@ -37,3 +37,7 @@ firstPlan t =
     let row = distances t in
     let plan = stepsFrom t row (startNumber t) (stateCount (t .variables) - 1) in
     whereReached (getD row (startNumber t) none) plan
+
+-- the plan by the task's own numbers, no steps where there is none
+unfoldable pub foundPlan : Task → List ℕ
+foundPlan t = Option·getD (firstPlan t) []

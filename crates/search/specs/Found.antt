@@ -1,37 +1,35 @@
--- What the search of one task comes to, its plan written by other numbers, and the planner's stages for a table of so many entries.
-use Prim.Native.Nat.{ℕ, _≤_}
+-- What the search of one task comes to, its plan written by other numbers; and the search of the files that reduction has written.
+use Prim.Native.Nat.{ℕ, _+_, _*_, _≤_, _<_}
 use mathlib.Core.Path.{_≡_}
-use mathlib.Core.Bool.{cond}
-use mathlib.Core.List.{List, []}
-use mathlib.Core.Option.{Option·map, Option·getD}
-use lib.ListN.{length}
+use mathlib.Core.Bool.{true, cond}
+use mathlib.Core.List.{List, [], _++_}
+use mathlib.Core.Option.{Option·map}
+use lib.ListN.{length, take}
 use Rattle.files.specs.declared.Outcome.{Outcome}
-use Rattle.files.specs.Outcome.{done, isDone, overwrite}
-use Rattle.files.specs.OriginFile.{originOf}
+use Rattle.files.specs.Accepted.{acceptedTask}
+use Rattle.files.specs.Bytes.{placed, u16Bytes, u32Bytes}
+use Rattle.files.specs.Outcome.{done, refusal, isDone, fits}
+use Rattle.files.specs.OriginFile.{originOf, originActionsPlace}
 use Rattle.files.specs.PlanFile.{planFile}
+use Rattle.files.specs.Records.{recordBytes}
 use Rattle.files.specs.Stages.{ByStages}
-use Rattle.files.specs.Task.{Task}
+use Rattle.files.specs.Task.{Task, actionCount}
+use Rattle.files.specs.TaskFile.{checkTask, taskOf}
 use Rattle.plans.specs.Plan.{totalOf}
+use Rattle.reduction.specs.Preserved.{byOriginFile}
 use Rattle.reduction.specs.Reduce.{Buffers}
 use Rattle.reduction.specs.declared.Reduced.{Reduced}
 use Rattle.search.specs.States.{stateCount}
-use Rattle.search.specs.Entries.{Holds}
-use Rattle.search.specs.FirstPlan.{firstPlan}
-use Rattle.search.specs.Planner.{statesFit, SearchBuffers, searchBuffers, searchStages, unplanned, lent, Plans}
+use Rattle.search.specs.Table.{tableOf}
+use Rattle.search.specs.Entries.{isNone, Holds}
+use Rattle.search.specs.Rows.{Searchable}
+use Rattle.search.specs.FirstPlan.{startNumber, firstPlan, foundPlan}
+use Rattle.search.specs.ReadOff.{Stepped}
+use Rattle.search.specs.Planner.{statesFit, SearchBuffers, searchStages, unplanned, lent, Plans}
 use Rattle.search.specs.declared.Entry.{Entry}
 use Rattle.search.specs.declared.Planned.{Planned}
 use Rattle.search.specs.declared.stages.Found.{Found}
-use Rattle.search.specs.declared.stages.Run.{Run}
-
--- the plan by the task's own numbers
-unfoldable pub foundPlan : Task → List ℕ
-foundPlan t = Option·getD (firstPlan t) []
-
--- what the search asks beside a task or a file that is well given: room for every entry, and an original number for each action
-pub record CanPlan (given : Type 0) (entries origin : List ℕ) (actions : ℕ) : Type 0 where
-  pub source : given
-  pub room : Holds entries 4096
-  pub numbers : actions ≤ length (originOf origin .actions)
+use Rattle.search.specs.declared.stages.Searched.{Searched}
 
 -- how many entries of the table are filled
 unfoldable pub foundStates : Task → ℕ → ℕ
@@ -57,13 +55,90 @@ abbrev pub Searches : Task → (List ℕ → List ℕ) → ℕ → SearchBuffers
 Searches t original signer b found now =
     ByStages (searchStages t (Option·map original (firstPlan t)) signer b) (foundWhole t original signer) (notFound (foundStates t (length (b .table)))) b found now
 
--- the same for whatever table of `room` entries is lent: the entries that are filled stand at its front
-abbrev pub SearchesRoom : Task → (List ℕ → List ℕ) → ℕ → ℕ → List ℕ → Found → List Entry → List ℕ → Type 0
-SearchesRoom t original signer room plan found entries now =
-    (table : List Entry) → length table ≡ room → Searches t original signer (searchBuffers table plan) found (searchBuffers (overwrite table entries) now)
+-- the files that reduction has written: a task file that is accepted, and an original number for each of its actions
+pub record FilesWritten (first : Reduced) (reduced origin : List ℕ) : Type 0 where
+  pub reduced-fits : first .reduced ≤ length reduced
+  pub origin-fits : first .origin ≤ length origin
+  pub checked : checkTask (take (first .reduced) reduced) ≡ done
+  pub numbers : actionCount (taskOf (take (first .reduced) reduced)) ≤ length (originOf (take (first .origin) origin) .actions)
+
+-- they are written where reduction is done
+abbrev pub CanSearchFiles : Reduced → List ℕ → List ℕ → Type 0
+CanSearchFiles first reduced origin = first .outcome .number ≡ 0 → FilesWritten first reduced origin
+
+-- the search of the reduced file's task by the numbers in the origin file; none where reduction refuses
+pub record SearchesFiles (first : Reduced) (reduced origin : List ℕ) (signer : ℕ) (b : SearchBuffers) (found : Found) (now : SearchBuffers) : Type 0 where
+  pub refused : (first .outcome .number ≡ 0 → ⊥) → (found ≡ notFound 0 (first .outcome)) × (now ≡ b)
+  pub searches : first .outcome .number ≡ 0 → Searches (taskOf (take (first .reduced) reduced)) (byOriginFile (take (first .origin) origin)) signer b found now
+
+-- what is well given, and room for every entry
+pub record CanSearchIn (given : Type 0) (entries : List ℕ) : Type 0 where
+  pub source : given
+  pub room : Holds entries 4096
+
+-- no search, or one that is refused
+abbrev pub unsearched : Outcome → Searched
+unsearched o = record { outcome = o; states = 0; start = 0; variables = 0; actions = 0; named = 0; place = 0 }
+
+-- the table of a task, and its steps in arrays
+pub record TableFound (t : Task) (searched : Searched) (entries : List Entry) (sizes costs conditions effects : List ℕ) : Type 0 where
+  pub accepted : acceptedTask t ≡ true
+  pub few : stateCount (t .variables) ≤ 4096
+  pub states : searched .states ≡ stateCount (t .variables)
+  pub start : searched .start ≡ startNumber t
+  pub stepped : Stepped t (searched .variables) (searched .actions) sizes costs conditions effects
+  pub asked : Searchable (searched .variables) (searched .actions) sizes costs conditions effects
+  pub table : entries ≡ tableOf t
+
+-- the search of the task that arrays hold, for a table of `room` entries
+pub record SearchedIn (t : Task) (room named place : ℕ) (searched : Searched) (entries : List Entry) (sizes costs conditions effects : List ℕ) : Type 0 where
+  pub outcome : searched .outcome ≡ statesFit t room
+  pub refused : (searched .outcome .number ≡ 0 → ⊥) → searched ≡ unsearched (searched .outcome)
+  pub found : searched .outcome .number ≡ 0 → TableFound t searched entries sizes costs conditions effects
+  pub named-is : searched .outcome .number ≡ 0 → searched .named ≡ named
+  pub place-is : searched .outcome .number ≡ 0 → searched .place ≡ place
+
+-- the same of the reduced file, with the place of the actions' numbers in the origin file
+pub record SearchedFiles (first : Reduced) (reduced origin : List ℕ) (room : ℕ) (searched : Searched) (entries : List Entry) (sizes costs conditions effects : List ℕ) : Type 0 where
+  pub refused : (first .outcome .number ≡ 0 → ⊥) → searched ≡ unsearched (first .outcome)
+  pub searched-in : first .outcome .number ≡ 0
+      → SearchedIn (taskOf (take (first .reduced) reduced)) room (first .origin) (originActionsPlace (take (first .origin) origin) + 4) searched entries sizes costs conditions effects
+  pub place-few : searched .place < 8589934600
+
+-- where the table is filled, by the entry of the start state: no plan, no room for it, or its file's length, its cost and its steps
+unfoldable pub planBy : ℕ → Entry → ℕ → Found
+planBy states e room =
+    let size = 16 + 2 * e .steps in
+    let o = cond (isNone e) (refusal 24 0) (fits size room done) in
+    cond (isDone o) (record { outcome = done; states = states; plan = size; cost = record { 0 = e .minutes }; steps = record { 0 = e .steps } }) (notFound states o)
+
+unfoldable pub foundBy : Searched → Entry → ℕ → Found
+foundBy s e room = cond (isDone (s .outcome)) (planBy (s .states) e room) (notFound 0 (s .outcome))
+
+-- the head of the plan file, where there is one, and its sign-off
+unfoldable pub headed : Found → List ℕ → List ℕ
+headed f plan = cond (isDone (f .outcome)) (placed plan 0 (u16Bytes (2 * f .steps .0) ++ u16Bytes 8)) plan
+
+unfoldable pub signedOff : ℕ → Found → List ℕ → List ℕ
+signedOff signer f plan =
+    let at = 4 + 2 * f .steps .0 in
+    cond (isDone (f .outcome)) (placed plan at (recordBytes 5 (u32Bytes signer ++ u32Bytes at))) plan
+
+-- the answer, and the file begun
+pub record Begins (searched : Searched) (e : Entry) (plan : List ℕ) (r : Found) (now : List ℕ) : Type 0 where
+  pub found : r ≡ foundBy searched e (length plan)
+  pub begun : now ≡ headed r plan
+
+-- a file that was begun, and the file ended
+abbrev pub CanFinish : Found → List ℕ → Type 0
+CanFinish begun plan = begun .outcome .number ≡ 0 → 16 + 2 * begun .steps .0 ≤ length plan
+
+pub record Finishes (signer : ℕ) (begun : Found) (plan : List ℕ) (r : Found) (now : List ℕ) : Type 0 where
+  pub found : r ≡ begun
+  pub ended : now ≡ signedOff signer begun plan
 
 -- the answers of reduction and of the search together
-unfoldable pub bothTogether : Reduced → Found → Run
+unfoldable pub bothTogether : Reduced → Found → Planned
 bothTogether first found =
     let planned : Planned =
     record {
@@ -79,15 +154,11 @@ bothTogether first found =
       steps = found .steps;
     }
     in
-    record { planned = cond (isDone (found .outcome)) planned (unplanned (found .outcome)); states = found .states }
+    cond (isDone (found .outcome)) planned (unplanned (found .outcome))
 
--- the planner for whatever table of `room` entries is lent
-pub record PlansRoom (task : List ℕ) (signer room : ℕ) (before : Buffers) (plan : List ℕ) (run : Run) (after : Buffers) (entries : List Entry) (now : List ℕ) : Type 0 where
-  pub plans : (table : List Entry) → length table ≡ room → Plans task signer (lent before table plan) (run .planned) (lent after (overwrite table entries) now)
-  pub states-inside : run .states ≤ room
-  pub states-few : run .states ≤ 4096
-
--- the planner with a table of its own of 4,096 entries: as with any other that is lent
-abbrev pub PlansAlone : List ℕ → ℕ → Buffers → List ℕ → Planned → Buffers → List ℕ → Type 0
-PlansAlone task signer before plan answer after now =
-    (table : List Entry) → length table ≡ 4096 → (left : List Entry) × Plans task signer (lent before table plan) answer (lent after left now)
+-- the planner with a table of its own of 4,096 entries, as with any other that is lent
+pub record PlansAlone (task : List ℕ) (signer : ℕ) (before : Buffers) (plan : List ℕ) (answer : Planned) (after : Buffers) (now : List ℕ) : Type 0 where
+  pub table : List Entry
+  pub long : length table ≡ 4096
+  pub left : List Entry
+  pub plans : Plans task signer (lent before table plan) answer (lent after left now)

@@ -6,6 +6,7 @@ pub mod Least
 pub mod Entries
 pub mod Settling
 pub mod Rows
+pub mod ReadOff
 pub mod Planner
 pub mod Found
 pub mod Answers

@@ -16,7 +16,7 @@ use Rattle.plans.specs.Tally.{listState, meetsCell}
 use Rattle.search.specs.States.{stateCount, stateNumber, stateAt}
 use Rattle.search.specs.Table.{entryOf, distances, tableOf}
 use Rattle.search.specs.FirstPlan.{firstAction, startNumber}
-use Rattle.search.specs.Entries.{isNone, lowered, afterStep, Low, Holds, entryIn, entriesIn, Bounded}
+use Rattle.search.specs.Entries.{isNone, lowered, afterStep, Low, Holds, entryIn, entriesIn}
 use Rattle.search.specs.Settling.{Unchanged}
 use Rattle.search.specs.declared.Entry.{Entry}
 
@@ -123,13 +123,6 @@ pub record StepRow (variables base : ℕ) (sizes weights conditions effects : Li
   pub states-few : rowStates variables sizes ≤ 4096
   pub weight : (v : ℕ) → v < variables → getD weights v 0 ≡ rowWeight sizes v
 
--- arrays and entries hold a task and its table
-pub record Tabled (t : Task) (variables actions : ℕ) (sizes costs conditions effects entries : List ℕ) : Type 0 where
-  pub starts : List ℕ
-  pub variables-are : t .variables ≡ rowVariables variables sizes starts
-  pub actions-are : (a : ℕ) → a < actions → actionOf t a ≡ rowAction variables costs conditions effects a
-  pub entries-are : (s : ℕ) → s < rowStates variables sizes → entryIn entries s ≡ entryOf (getD (distances t) s none)
-
 -- a cell, and a variable of `size` values
 pub record CellFor (condition size : ℕ) : Type 0 where
   pub byte : condition < 256
@@ -222,41 +215,8 @@ pub record TableIn (t : Task) (count : ℕ) (entries : List ℕ) (r : ℕ) : Typ
   pub start : r ≡ startNumber t
   pub table : entriesIn entries count ≡ tableOf t
 
--- a state that has an entry, with its values
-pub record ReadAt (variables actions s : ℕ) (sizes costs conditions effects values entries : List ℕ) : Type 0 where
-  pub asked : Searchable variables actions sizes costs conditions effects
-  pub bounded : Bounded entries (rowStates variables sizes)
-  pub below : s < rowStates variables sizes
-  pub reached : isNone (entryIn entries s) ≡ false
-  pub values-are : (starts : List ℕ) → listState values ≡ stateAt (rowVariables variables sizes starts) s
-
--- and an action
-pub record ReadStep (variables actions s a : ℕ) (sizes costs conditions effects values entries : List ℕ) : Type 0 where
-  pub here : ReadAt variables actions s sizes costs conditions effects values entries
-  pub action : a < actions
-
--- the first action by which a state has its entry
-pub record FirstAction (variables actions s : ℕ) (sizes costs conditions effects entries : List ℕ) (r : ℕ) : Type 0 where
-  pub most : r ≤ actions
-  pub is : (t : Task) → Tabled t variables actions sizes costs conditions effects entries → r ≡ firstAction t (distances t) s 0 actions
-
 -- an action by its place in an origin file
 pub record NumberAt (origin : List ℕ) (place action : ℕ) : Type 0 where
   pub place-is : place ≡ originActionsPlace origin + 4
   pub place-few : place < 8589934600
   pub inside : action < length (originOf origin .actions)
-
--- room for step i in a plan file
-pub record StepRoom (plan : List ℕ) (i : ℕ) : Type 0 where
-  pub few : i ≤ 65536
-  pub room : 6 + 2 * i ≤ length plan
-
--- arrays and entries with a plan, and room for its file
-pub record CanWrite (d : Arrays) (origin entries plan : List ℕ) : Type 0 where
-  pub accepted : acceptedTask (held d) ≡ true
-  pub few : stateCount (held d .variables) ≤ 4096
-  pub room : Holds entries (stateCount (held d .variables))
-  pub table : entriesIn entries (stateCount (held d .variables)) ≡ tableOf (held d)
-  pub reached : isNone (entryIn entries (startNumber (held d))) ≡ false
-  pub plan-room : 16 + 2 * entryIn entries (startNumber (held d)) .steps ≤ length plan
-  pub numbers : d .actions ≤ length (originOf origin .actions)

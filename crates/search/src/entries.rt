@@ -10,7 +10,7 @@ ghost use Rattle.search.specs.Rows.{Offers};
 use crate::Entry;
 
 // The entry of a state from which the goal cannot be reached.
-fn none() -> Entry
+pub fn none() -> Entry
     ensures { λ r. ⌜ r ≡ noEntry ⌝ }
 {
     Entry {

@@ -1,89 +1,95 @@
-// The plan read off the table straight into the plan file, by original numbers.
+// The parts of reading a plan off a table that do not look at the table: where each action leads,
+// whether a state has its entry by way of an action, and the steps of the plan file.
+ghost use Rattle.search.specs.ReadOff.{CanGo, GoesTo, CanNext, NextStates, CanChoose, Chosen, StepPut, CanPut};
 ghost use mathlib.Core.Path.{_≡_};
-ghost use mathlib.Core.List.{[]};
-ghost use mathlib.Core.Option.{none, Option·getD};
-ghost use Prim.Native.Nat.{_+_, _*_};
+ghost use Prim.Native.Nat.{_<_};
 ghost use lib.ListN.{getD};
-ghost use Rattle.files.specs.Bytes.{placed, u16Bytes};
-ghost use Rattle.files.specs.Dense.{held, arrays};
 ghost use Rattle.files.specs.OriginFile.{originOf};
-ghost use Rattle.files.specs.Outcome.{overwrite};
-ghost use Rattle.files.specs.PlanFile.{planFile};
-ghost use Rattle.files.specs.Task.{Task};
-ghost use Rattle.reduction.specs.Preserved.{byOriginFile};
-ghost use Rattle.search.specs.Table.{distances, same, through};
-ghost use Rattle.search.specs.FirstPlan.{firstPlan};
-ghost use Rattle.search.specs.Rows.{Tabled, ReadAt, ReadStep, FirstAction, NumberAt, StepRoom, CanWrite};
+ghost use Rattle.search.specs.Rows.{NumberAt};
+use crate::Entry;
 use crate::entries;
+use crate::stages::Searched;
 use crate::states;
 use plans::OriginalAction;
 use plans::ReducedAction;
 
-// Whether state s has its entry by way of action `a` first.
-fn leads_on(
-    entries: &[u64],
+// The next state of every action; where an action is not applicable, the state itself, whose entry
+// with a step more is never its own.
+pub fn next_states(
+    searched: Searched,
+    state: usize,
     sizes: &[u8; 64],
-    costs: &[u32; 512],
     conditions: &[u8; 32768],
     effects: &[u8; 32768],
-    variables: usize,
-    actions: usize,
-    values: &[u8; 64],
-    s: usize,
-    a: usize,
-) -> bool
-    requires { ⌜ ReadStep variables actions s a (now sizes) (now costs) (now conditions) (now effects) (now values) (now entries) ⌝ }
-    ensures { λ r. ⌜ ((t : Task) → Tabled t variables actions (now (sizes .entry)) (now (costs .entry)) (now (conditions .entry)) (now (effects .entry)) (now (entries .entry)) → r ≡ same (through t (distances t) s a) (getD (distances t) s none)) ⌝ }
+) -> [u16; 512]
+    requires { ⌜ CanNext searched state (now sizes) (now conditions) (now effects) ⌝ }
+    ensures { λ r. ⌜ NextStates searched state (now (sizes .entry)) (now (conditions .entry)) (now (effects .entry)) r ⌝ }
 {
-    let base = 64 * a;
-    if !states::all_hold(conditions, base, variables, values) {
-        return false;
-    }
-    let next = states::number_after(sizes, effects, base, variables, values);
-    let entry = entries::entry_at(entries, next);
-    if entries::is_none(entry) {
-        return false;
-    }
-    entries::same(
-        entries::after_step(entry, costs[a]),
-        entries::entry_at(entries, s),
-    )
-}
-
-// The first action by which state s has its entry.
-fn first_action(
-    entries: &[u64],
-    sizes: &[u8; 64],
-    costs: &[u32; 512],
-    conditions: &[u8; 32768],
-    effects: &[u8; 32768],
-    variables: usize,
-    actions: usize,
-    values: &[u8; 64],
-    s: usize,
-) -> usize
-    requires { ⌜ ReadAt variables actions s (now sizes) (now costs) (now conditions) (now effects) (now values) (now entries) ⌝ }
-    ensures { λ r. ⌜ FirstAction variables actions s (now (sizes .entry)) (now (costs .entry)) (now (conditions .entry)) (now (effects .entry)) (now (entries .entry)) r ⌝ }
-{
+    let variables = searched.variables;
+    let actions = searched.actions;
+    let values = states::values_of(sizes, variables, state);
+    let mut nexts = [0u16; 512];
     let mut a: usize = 0;
     while a < actions {
-        if leads_on(
-            entries,
-            sizes,
-            costs,
-            conditions,
-            effects,
-            variables,
-            actions,
-            values,
-            s,
-            a,
-        ) {
-            return a;
-        }
+        nexts[a] = next_state(sizes, conditions, effects, variables, &values, state, a);
         a += 1;
     }
-    a
+    nexts
+}
+
+// The state that an action leads to, or the state itself.
+fn next_state(
+    sizes: &[u8; 64],
+    conditions: &[u8; 32768],
+    effects: &[u8; 32768],
+    variables: usize,
+    values: &[u8; 64],
+    state: usize,
+    a: usize,
+) -> u16
+    requires { ⌜ CanGo variables state a (now sizes) (now conditions) (now effects) (now values) ⌝ }
+    ensures { λ r. ⌜ GoesTo variables state a (now (sizes .entry)) (now (conditions .entry)) (now (effects .entry)) r ⌝ }
+{
+    let base = 64 * a;
+    if states::all_hold(conditions, base, variables, values) {
+        return states::number_after(sizes, effects, base, variables, values) as u16;
+    }
+    state as u16
+}
+
+// The next state of an action.
+pub fn next_at(nexts: &[u16; 512], a: usize) -> usize
+    requires { ⌜ a < 512 ⌝ }
+    ensures { λ r. ⌜ r ≡ getD (now (nexts .entry)) a 0 ⌝ }
+{
+    nexts[a] as usize
+}
+
+// Before any action was looked at.
+pub fn no_action() -> ReducedAction
+    ensures { λ r. ⌜ r .0 ≡ 0 ⌝ }
+{
+    ReducedAction(0)
+}
+
+// Action `a` where a state has its entry by way of it, else the first one found so far.
+pub fn choose(
+    first: ReducedAction,
+    a: usize,
+    next: Entry,
+    costs: &[u32; 512],
+    own: Entry,
+) -> ReducedAction
+    requires { ⌜ CanChoose a next (now costs) ⌝ }
+    ensures { λ r. ⌜ Chosen (first .0) a next (now (costs .entry)) own (r .0) ⌝ }
+{
+    if entries::is_none(next) {
+        return first;
+    }
+    if entries::same(entries::after_step(next, costs[a]), own) {
+        return ReducedAction(a as u16);
+    }
+    first
 }
 
 // The number in the full task of an action, from kind 7 of the origin file, whose numbers stand
@@ -96,55 +102,20 @@ fn original(origin: &[u8], place: usize, action: ReducedAction) -> OriginalActio
     OriginalAction(number as u16)
 }
 
-// Writes step `i` of a plan file.
-fn put_action(plan: &mut [u8], i: usize, action: OriginalAction)
-    requires { ⌜ StepRoom (now plan) i ⌝ }
-    ensures { λ r. ⌜ now (plan .exit) ≡ placed (now (plan .entry)) (4 + 2 * i) (u16Bytes (action .0)) ⌝ }
-{
-    files::plan::put_step(plan, i, action.0 as usize);
-}
-
-// Writes the file of the plan from the start state on.
-pub fn write_plan(
+// Writes step `i` of a plan file by its original number, and gives the state that it leads to.
+pub fn put_action(
     plan: &mut [u8],
-    signer: u32,
+    i: usize,
+    action: ReducedAction,
+    searched: Searched,
     origin: &[u8],
-    entries: &[u64],
-    variables: usize,
-    actions: usize,
-    sizes: &[u8; 64],
-    starts: &[u8; 64],
-    goal: &[u8; 64],
-    costs: &[u32; 512],
-    conditions: &[u8; 32768],
-    effects: &[u8; 32768],
-)
-    requires { ⌜ CanWrite (arrays variables actions (now sizes) (now starts) (now goal) (now costs) (now conditions) (now effects)) (now origin) (now entries) (now plan) ⌝ }
-    ensures { λ r. ⌜ now (plan .exit) ≡ overwrite (now (plan .entry)) (planFile (byOriginFile (now (origin .entry)) (Option·getD (firstPlan (held (arrays variables actions (now (sizes .entry)) (now (starts .entry)) (now (goal .entry)) (now (costs .entry)) (now (conditions .entry)) (now (effects .entry))))) [])) signer) ⌝ }
+    nexts: &[u16; 512],
+) -> usize
+    requires { ⌜ CanPut (now plan) i (action .0) searched (now origin) ⌝ }
+    ensures { λ r. ⌜ StepPut (now (plan .entry)) i (action .0) searched (now (origin .entry)) (now (nexts .entry)) r (now (plan .exit)) ⌝ }
 {
-    let place = files::origin::actions_place(origin) + 4;
-    let mut s = states::start_number(sizes, starts, variables);
-    let entry = entries::entry_at(entries, s);
-    let fewest = entry.steps as usize;
-    files::plan::put_head(plan, fewest);
-    let mut values = states::values_of(sizes, variables, s);
-    let mut i: usize = 0;
-    while !states::all_hold(goal, 0, variables, &values) {
-        let a = first_action(
-            entries,
-            sizes,
-            costs,
-            conditions,
-            effects,
-            variables,
-            actions,
-            &values,
-            s,
-        );
-        put_action(plan, i, original(origin, place, ReducedAction(a as u16)));
-        s = states::number_after(sizes, effects, 64 * a, variables, &values);
-        values = states::values_of(sizes, variables, s);
-        i += 1;
-    }
-    files::records::put_sign_off(plan, 4 + 2 * i, signer as usize);
+    let named = searched.named;
+    let number = original(&origin[0..named], searched.place, action);
+    files::plan::put_step(plan, i, number.0 as usize);
+    next_at(nexts, action.0 as usize)
 }

@@ -50,20 +50,7 @@ pub fn plan(
 ) -> Planned
     ensures { λ r. ⌜ PlansRight (now (task .entry)) signer (lentOf (now (actions .entry)) (now (facts .entry)) (now (reduced .entry)) (now (origin .entry)) (now (table .entry)) (now (plan .entry))) r (lentOf (now (actions .exit)) (now (facts .exit)) (now (reduced .exit)) (now (origin .exit)) (now (table .exit)) (now (plan .exit))) ⌝ }
 {
-    let mut entries = [0u64; 8192];
-    let room = table.len();
-    let run = stages::run_stages(
-        task,
-        signer,
-        actions,
-        facts,
-        reduced,
-        origin,
-        &mut entries,
-        room,
-        plan,
-    );
-    let states = run.states;
-    work_table::fill(table, &entries, states);
-    run.planned
+    let first = reduction::reduce(task, stages::LEVEL, signer, actions, facts, reduced, origin);
+    let found = work_table::search(first, signer, reduced, origin, table, plan);
+    stages::together(first, found)
 }

@@ -2,8 +2,7 @@
 ghost use Rattle.reduction.specs.Reduce.{buffers};
 ghost use Rattle.search.specs.Found.{PlansAlone};
 use crate::Planned;
-use crate::stages;
-use crate::states;
+use crate::entries;
 
 // Plans as the planner does, with a table that is long enough for every task.
 pub fn plan(
@@ -17,17 +16,16 @@ pub fn plan(
 ) -> Planned
     ensures { λ r. ⌜ PlansAlone (now (task .entry)) signer (buffers (now (actions .entry)) (now (facts .entry)) (now (reduced .entry)) (now (origin .entry))) (now (plan .entry)) r (buffers (now (actions .exit)) (now (facts .exit)) (now (reduced .exit)) (now (origin .exit))) (now (plan .exit)) ⌝ }
 {
-    let mut entries = [0u64; 8192];
-    let run = stages::run_stages(
+    let none = entries::none();
+    let mut table = [none; 4096];
+    crate::plan(
         task,
         signer,
         actions,
         facts,
         reduced,
         origin,
-        &mut entries,
-        states::MOST_STATES,
+        &mut table,
         plan,
-    );
-    run.planned
+    )
 }

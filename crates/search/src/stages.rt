@@ -1,19 +1,15 @@
-// The planner's stages, with the work table as a slice of numbers.
+// The stages of the search that do not look at the table: the search itself, in numbers of its own,
+// and the plan file's head and end with the answer.
 ghost use mathlib.Core.Path.{_≡_};
 ghost use mathlib.Core.Bool.{true};
 ghost use Rattle.files.specs.Accepted.{acceptedTask};
 ghost use Rattle.files.specs.Dense.{held, arrays};
-ghost use Rattle.files.specs.Outcome.{done};
-ghost use Rattle.files.specs.Task.{actionCount};
-ghost use Rattle.files.specs.TaskFile.{checkTask, taskOf};
-ghost use Rattle.reduction.specs.Preserved.{byOriginFile};
-ghost use Rattle.reduction.specs.Reduce.{buffers};
 ghost use Rattle.search.specs.Entries.{Holds, entriesIn};
 ghost use Rattle.search.specs.Planner.{unplanned};
-ghost use Rattle.search.specs.Found.{CanPlan, notFound, bothTogether, SearchesRoom, PlansRoom};
+ghost use Rattle.search.specs.Found.{unsearched, notFound, bothTogether, CanSearchFiles, CanSearchIn, SearchedIn, SearchedFiles, Begins, CanFinish, Finishes};
+use crate::Entry;
 use crate::Planned;
 use crate::entries;
-use crate::first_plan;
 use crate::states;
 use crate::table;
 use files::outcomes;
@@ -21,22 +17,142 @@ use plans::Minutes;
 use plans::Steps;
 
 // The planner marks and reduces at this level.
-const LEVEL: u32 = 4;
+pub const LEVEL: u32 = 4;
+
+// What the search of a task comes to before its plan is read off: how many entries are filled, the
+// number of the start state, the sizes of the task, the length of the origin file, and where the
+// numbers of the actions stand in it. All 0 beside a refusal.
+pub struct Searched {
+    pub outcome: files::Outcome,
+    pub states: usize,
+    pub start: usize,
+    pub variables: usize,
+    pub actions: usize,
+    pub named: usize,
+    pub place: usize,
+}
 
 // What the search of a task comes to: the entries filled, also beside 24 and the plan buffer's 21,
 // and the plan file's length, cost and steps, 0 beside a refusal.
-struct Found {
-    outcome: files::Outcome,
-    states: usize,
-    plan: usize,
-    cost: Minutes,
-    steps: Steps,
+pub struct Found {
+    pub outcome: files::Outcome,
+    pub states: usize,
+    pub plan: usize,
+    pub cost: Minutes,
+    pub steps: Steps,
 }
 
-// The planner's answer, and how many entries of the table are filled.
-pub struct Run {
-    pub planned: Planned,
-    pub states: usize,
+// No search, or one that is refused.
+fn unsearched(outcome: files::Outcome) -> Searched
+    ensures { λ r. ⌜ r ≡ unsearched outcome ⌝ }
+{
+    Searched {
+        outcome: outcome,
+        states: 0,
+        start: 0,
+        variables: 0,
+        actions: 0,
+        named: 0,
+        place: 0,
+    }
+}
+
+// Searches the task that arrays hold, whose actions have their numbers at `place` of an origin file
+// of `named` bytes, for a table of `room` entries.
+fn search_arrays(
+    entries: &mut [u64],
+    room: usize,
+    named: usize,
+    place: usize,
+    variables: usize,
+    actions: usize,
+    sizes: &[u8; 64],
+    starts: &[u8; 64],
+    goal: &[u8; 64],
+    costs: &[u32; 512],
+    conditions: &[u8; 32768],
+    effects: &[u8; 32768],
+) -> Searched
+    requires { ⌜ CanSearchIn (acceptedTask (held (arrays variables actions (now sizes) (now starts) (now goal) (now costs) (now conditions) (now effects))) ≡ true) (now entries) ⌝ }
+    ensures { λ r. ⌜ SearchedIn (held (arrays variables actions (now (sizes .entry)) (now (starts .entry)) (now (goal .entry)) (now (costs .entry)) (now (conditions .entry)) (now (effects .entry)))) room named place r (entriesIn (now (entries .exit)) (r .states)) (now (sizes .entry)) (now (costs .entry)) (now (conditions .entry)) (now (effects .entry)) ⌝ }
+{
+    let count = states::count(sizes, variables);
+    if states::MOST_STATES < count {
+        return unsearched(outcomes::refuse(outcomes::TOO_MANY_STATES, 0));
+    }
+    if room < count {
+        return unsearched(outcomes::refuse(outcomes::SHORT_BUFFER, count));
+    }
+    let start = table::search(
+        entries,
+        count,
+        variables,
+        actions,
+        sizes,
+        starts,
+        goal,
+        costs,
+        conditions,
+        effects,
+    );
+    Searched {
+        outcome: outcomes::done(),
+        states: count,
+        start: start,
+        variables: variables,
+        actions: actions,
+        named: named,
+        place: place,
+    }
+}
+
+// Searches the task of the reduced file, where there is one, and leaves its steps in arrays.
+pub fn search_files(
+    first: reduction::Reduced,
+    reduced: &[u8],
+    origin: &[u8],
+    room: usize,
+    entries: &mut [u64],
+    sizes: &mut [u8; 64],
+    costs: &mut [u32; 512],
+    conditions: &mut [u8; 32768],
+    effects: &mut [u8; 32768],
+) -> Searched
+    requires { ⌜ CanSearchIn (CanSearchFiles first (now reduced) (now origin)) (now entries) ⌝ }
+    ensures { λ r. ⌜ SearchedFiles first (now (reduced .entry)) (now (origin .entry)) room r (entriesIn (now (entries .exit)) (r .states)) (now (sizes .exit)) (now (costs .exit)) (now (conditions .exit)) (now (effects .exit)) ⌝ }
+{
+    let outcome = first.outcome;
+    if outcome.number != 0 {
+        return unsearched(outcome);
+    }
+    let written = first.reduced;
+    let named = first.origin;
+    let file = &reduced[0..written];
+    let mut starts = [0u8; 64];
+    let mut goal = [0u8; 64];
+    files::decode::read_task(
+        file,
+        sizes,
+        &mut starts,
+        &mut goal,
+        costs,
+        conditions,
+        effects,
+    );
+    search_arrays(
+        entries,
+        room,
+        named,
+        files::origin::actions_place(&origin[0..named]) + 4,
+        files::task::variables_in(file),
+        files::task::actions_in(file),
+        sizes,
+        &starts,
+        &goal,
+        costs,
+        conditions,
+        effects,
+    )
 }
 
 // A refusal with so many entries filled.
@@ -52,119 +168,45 @@ fn not_found(outcome: files::Outcome, states: usize) -> Found
     }
 }
 
-// Searches the task that arrays hold, and writes its plan by the numbers in the origin file.
-fn search_task(
-    entries: &mut [u64],
-    room: usize,
-    plan: &mut [u8],
-    signer: u32,
-    origin: &[u8],
-    variables: usize,
-    actions: usize,
-    sizes: &[u8; 64],
-    starts: &[u8; 64],
-    goal: &[u8; 64],
-    costs: &[u32; 512],
-    conditions: &[u8; 32768],
-    effects: &[u8; 32768],
-) -> Found
-    requires { ⌜ CanPlan (acceptedTask (held (arrays variables actions (now sizes) (now starts) (now goal) (now costs) (now conditions) (now effects))) ≡ true) (now entries) (now origin) actions ⌝ }
-    ensures { λ r. ⌜ SearchesRoom (held (arrays variables actions (now (sizes .entry)) (now (starts .entry)) (now (goal .entry)) (now (costs .entry)) (now (conditions .entry)) (now (effects .entry)))) (byOriginFile (now (origin .entry))) signer room (now (plan .entry)) r (entriesIn (now (entries .exit)) (r .states)) (now (plan .exit)) ⌝ }
+// What the search comes to by the entry of the start state. Where there is a plan and room for it,
+// its file is begun.
+pub fn begin(plan: &mut [u8], searched: Searched, entry: Entry) -> Found
+    ensures { λ r. ⌜ Begins searched entry (now (plan .entry)) r (now (plan .exit)) ⌝ }
 {
-    let count = states::count(sizes, variables);
-    if states::MOST_STATES < count {
-        return not_found(outcomes::refuse(outcomes::TOO_MANY_STATES, 0), 0);
+    let outcome = searched.outcome;
+    if outcome.number != 0 {
+        return not_found(outcome, 0);
     }
-    if room < count {
-        return not_found(outcomes::refuse(outcomes::SHORT_BUFFER, count), 0);
-    }
-    let start = table::search(
-        entries,
-        count,
-        variables,
-        actions,
-        sizes,
-        starts,
-        goal,
-        costs,
-        conditions,
-        effects,
-    );
-    let entry = entries::entry_at(entries, start);
+    let states = searched.states;
     if entries::is_none(entry) {
-        return not_found(outcomes::refuse(outcomes::NO_PLAN, 0), count);
+        return not_found(outcomes::refuse(outcomes::NO_PLAN, 0), states);
     }
-    let needed = files::plan::needed(entry.steps as usize);
+    let steps = entry.steps as usize;
+    let needed = files::plan::needed(steps);
     if plan.len() < needed {
-        return not_found(outcomes::refuse(outcomes::SHORT_BUFFER, needed), count);
+        return not_found(outcomes::refuse(outcomes::SHORT_BUFFER, needed), states);
     }
-    first_plan::write_plan(
-        plan,
-        signer,
-        origin,
-        entries,
-        variables,
-        actions,
-        sizes,
-        starts,
-        goal,
-        costs,
-        conditions,
-        effects,
-    );
+    files::plan::put_head(plan, steps);
     Found {
-        outcome: outcomes::done(),
-        states: count,
+        outcome: outcome,
+        states: states,
         plan: needed,
         cost: Minutes(entry.minutes),
         steps: Steps(entry.steps),
     }
 }
 
-// Searches the task of an accepted file.
-fn search_file(
-    entries: &mut [u64],
-    room: usize,
-    plan: &mut [u8],
-    signer: u32,
-    origin: &[u8],
-    reduced: &[u8],
-) -> Found
-    requires { ⌜ CanPlan (checkTask (now reduced) ≡ done) (now entries) (now origin) (actionCount (taskOf (now reduced))) ⌝ }
-    ensures { λ r. ⌜ SearchesRoom (taskOf (now (reduced .entry))) (byOriginFile (now (origin .entry))) signer room (now (plan .entry)) r (entriesIn (now (entries .exit)) (r .states)) (now (plan .exit)) ⌝ }
+// Ends the plan file that was begun.
+pub fn finish(plan: &mut [u8], signer: u32, begun: Found) -> Found
+    requires { ⌜ CanFinish begun (now plan) ⌝ }
+    ensures { λ r. ⌜ Finishes signer begun (now (plan .entry)) r (now (plan .exit)) ⌝ }
 {
-    let mut sizes = [0u8; 64];
-    let mut starts = [0u8; 64];
-    let mut goal = [0u8; 64];
-    let mut costs = [0u32; 512];
-    let mut conditions = [0u8; 32768];
-    let mut effects = [0u8; 32768];
-    files::decode::read_task(
-        reduced,
-        &mut sizes,
-        &mut starts,
-        &mut goal,
-        &mut costs,
-        &mut conditions,
-        &mut effects,
-    );
-    let variables = files::task::variables_in(reduced);
-    let actions = files::task::actions_in(reduced);
-    search_task(
-        entries,
-        room,
-        plan,
-        signer,
-        origin,
-        variables,
-        actions,
-        &sizes,
-        &starts,
-        &goal,
-        &costs,
-        &conditions,
-        &effects,
-    )
+    let outcome = begun.outcome;
+    let steps = begun.steps;
+    if outcome.number == 0 {
+        files::records::put_sign_off(plan, 4 + 2 * (steps.0 as usize), signer as usize);
+    }
+    begun
 }
 
 // Beside a refusal there are no lengths, rounds, cost and steps.
@@ -185,69 +227,26 @@ fn refused(outcome: files::Outcome) -> Planned
     }
 }
 
-// The answer of the stages together.
-fn together(first: reduction::Reduced, found: Found) -> Run
+// The answers of reduction and of the search together.
+pub fn together(first: reduction::Reduced, found: Found) -> Planned
     ensures { λ r. ⌜ r ≡ bothTogether first found ⌝ }
 {
     let outcome = found.outcome;
-    let states = found.states;
     if outcome.number != 0 {
-        return Run {
-            planned: refused(outcome),
-            states: states,
-        };
+        return refused(outcome);
     }
     let cost = found.cost;
     let steps = found.steps;
-    Run {
-        planned: Planned {
-            outcome: outcome,
-            action_marks: first.action_marks,
-            fact_marks: first.fact_marks,
-            reduced: first.reduced,
-            origin: first.origin,
-            table: states,
-            plan: found.plan,
-            rounds: first.rounds,
-            cost: cost,
-            steps: steps,
-        },
-        states: states,
+    Planned {
+        outcome: outcome,
+        action_marks: first.action_marks,
+        fact_marks: first.fact_marks,
+        reduced: first.reduced,
+        origin: first.origin,
+        table: found.states,
+        plan: found.plan,
+        rounds: first.rounds,
+        cost: cost,
+        steps: steps,
     }
-}
-
-// All stages, for a table of `room` entries.
-pub fn run_stages(
-    task: &[u8],
-    signer: u32,
-    actions: &mut [u8],
-    facts: &mut [u8],
-    reduced: &mut [u8],
-    origin: &mut [u8],
-    entries: &mut [u64],
-    room: usize,
-    plan: &mut [u8],
-) -> Run
-    requires { ⌜ Holds (now entries) 4096 ⌝ }
-    ensures { λ r. ⌜ PlansRoom (now (task .entry)) signer room (buffers (now (actions .entry)) (now (facts .entry)) (now (reduced .entry)) (now (origin .entry))) (now (plan .entry)) r (buffers (now (actions .exit)) (now (facts .exit)) (now (reduced .exit)) (now (origin .exit))) (entriesIn (now (entries .exit)) (r .states)) (now (plan .exit)) ⌝ }
-{
-    let first = reduction::reduce(task, LEVEL, signer, actions, facts, reduced, origin);
-    let outcome = first.outcome;
-    if outcome.number != 0 {
-        return Run {
-            planned: refused(outcome),
-            states: 0,
-        };
-    }
-    let written = first.reduced;
-    let named = first.origin;
-    let found = search_file(
-        entries,
-        room,
-        plan,
-        signer,
-        &origin[0..named],
-        &reduced[0..written],
-    );
-    together(first, found)
 }

@@ -1,18 +1,139 @@
-// The work table as it is lent: entries of minutes and steps together.
+// The work table as it is lent: read and written entry by entry, and the plan read off it.
 ghost use mathlib.Core.Path.{_≡_};
+ghost use Prim.Native.Nat.{_<_};
+ghost use lib.ListN.{length, set};
 ghost use Rattle.files.specs.Outcome.{overwrite};
-ghost use Rattle.search.specs.Entries.{entriesIn, CanFill};
+ghost use Rattle.search.specs.Entries.{entriesIn, tableEntry, CanFill};
+ghost use Rattle.search.specs.ReadOff.{CanLead, FirstLed, StepsToWrite, StepsWritten};
+ghost use Rattle.search.specs.Planner.{searchBuffers};
+ghost use Rattle.search.specs.Found.{CanSearchFiles, SearchesFiles};
 use crate::Entry;
 use crate::entries;
+use crate::first_plan;
+use crate::stages;
+use crate::stages::Found;
+use crate::stages::Searched;
+use plans::ReducedAction;
+
+// The entry of a state; that of none past the end of the table.
+pub fn entry_at(table: &[Entry], state: usize) -> Entry
+    ensures { λ r. ⌜ r ≡ tableEntry (now (table .entry)) state ⌝ }
+{
+    if state < table.len() {
+        return table[state];
+    }
+    entries::none()
+}
+
+// Writes the entry of a state.
+pub fn put_entry(table: &mut [Entry], state: usize, entry: Entry)
+    requires { ⌜ state < length (now table) ⌝ }
+    ensures { λ r. ⌜ now (table .exit) ≡ set (now (table .entry)) state entry ⌝ }
+{
+    table[state] = entry;
+}
 
 // Writes the entries of the first `count` states.
-pub fn fill(table: &mut [Entry], entries: &[u64], count: usize)
+fn fill(table: &mut [Entry], entries: &[u64], count: usize)
     requires { ⌜ CanFill (now table) (now entries) count ⌝ }
     ensures { λ r. ⌜ now (table .exit) ≡ overwrite (now (table .entry)) (entriesIn (now (entries .entry)) count) ⌝ }
 {
     let mut state: usize = 0;
     while state < count {
-        table[state] = entries::entry_at(entries, state);
+        put_entry(table, state, entries::entry_at(entries, state));
         state += 1;
     }
+}
+
+// The first action by which a state has its entry. From the last action down, so that the first
+// one stays.
+fn first_action(
+    table: &[Entry],
+    nexts: &[u16; 512],
+    costs: &[u32; 512],
+    actions: usize,
+    state: usize,
+) -> ReducedAction
+    requires { ⌜ CanLead (tableEntry (now table)) (now nexts) (now costs) actions ⌝ }
+    ensures { λ r. ⌜ FirstLed (tableEntry (now (table .entry))) (now (nexts .entry)) (now (costs .entry)) actions state r ⌝ }
+{
+    let own = entry_at(table, state);
+    let mut first = first_plan::no_action();
+    let mut a = actions;
+    while 0 < a {
+        a -= 1;
+        let entry = entry_at(table, first_plan::next_at(nexts, a));
+        first = first_plan::choose(first, a, entry, costs, own);
+    }
+    first
+}
+
+// Writes so many steps into a plan file, read off the table from the start state on.
+fn write_steps(
+    table: &[Entry],
+    plan: &mut [u8],
+    steps: usize,
+    searched: Searched,
+    origin: &[u8],
+    sizes: &[u8; 64],
+    costs: &[u32; 512],
+    conditions: &[u8; 32768],
+    effects: &[u8; 32768],
+)
+    requires { ⌜ StepsToWrite (tableEntry (now table)) (now plan) steps searched (now origin) (now sizes) (now costs) (now conditions) (now effects) ⌝ }
+    ensures { λ r. ⌜ StepsWritten (tableEntry (now (table .entry))) (now (plan .entry)) steps searched (now (origin .entry)) (now (sizes .entry)) (now (costs .entry)) (now (conditions .entry)) (now (effects .entry)) (now (plan .exit)) ⌝ }
+{
+    let mut state = searched.start;
+    let mut i: usize = 0;
+    while i < steps {
+        let nexts = first_plan::next_states(searched, state, sizes, conditions, effects);
+        let action = first_action(table, &nexts, costs, searched.actions, state);
+        state = first_plan::put_action(plan, i, action, searched, origin, &nexts);
+        i += 1;
+    }
+}
+
+// Searches the task of the reduced file, and reads its plan off the table into the plan file.
+pub fn search(
+    first: reduction::Reduced,
+    signer: u32,
+    reduced: &[u8],
+    origin: &[u8],
+    table: &mut [Entry],
+    plan: &mut [u8],
+) -> Found
+    requires { ⌜ CanSearchFiles first (now reduced) (now origin) ⌝ }
+    ensures { λ r. ⌜ SearchesFiles first (now (reduced .entry)) (now (origin .entry)) signer (searchBuffers (now (table .entry)) (now (plan .entry))) r (searchBuffers (now (table .exit)) (now (plan .exit))) ⌝ }
+{
+    let mut entries = [0u64; 8192];
+    let mut sizes = [0u8; 64];
+    let mut costs = [0u32; 512];
+    let mut conditions = [0u8; 32768];
+    let mut effects = [0u8; 32768];
+    let searched = stages::search_files(
+        first,
+        reduced,
+        origin,
+        table.len(),
+        &mut entries,
+        &mut sizes,
+        &mut costs,
+        &mut conditions,
+        &mut effects,
+    );
+    fill(table, &entries, searched.states);
+    let begun = stages::begin(plan, searched, entry_at(table, searched.start));
+    let steps = begun.steps;
+    write_steps(
+        table,
+        plan,
+        steps.0 as usize,
+        searched,
+        origin,
+        &sizes,
+        &costs,
+        &conditions,
+        &effects,
+    );
+    stages::finish(plan, signer, begun)
 }
