@@ -14,7 +14,7 @@ use Rattle.files.specs.Task.{Variable, Action, Task, actionOf}
 use Rattle.plans.specs.State.{State, applicable, apply}
 use Rattle.plans.specs.Tally.{listState, meetsCell}
 use Rattle.search.specs.States.{stateCount, stateNumber, stateAt}
-use Rattle.search.specs.Table.{entryOf, distances, tableOf}
+use Rattle.search.specs.Table.{stepsOf, entryOf, distances, tableOf}
 use Rattle.search.specs.FirstPlan.{firstAction, startNumber}
 use Rattle.search.specs.Entries.{isNone, lowered, afterStep, Low, Holds, entryIn, entriesIn, Bounded}
 use Rattle.search.specs.Settling.{Unchanged}
@@ -258,5 +258,5 @@ pub record CanWrite (d : Arrays) (origin entries plan : List ℕ) : Type 0 where
   pub room : Holds entries (stateCount (held d .variables))
   pub table : entriesIn entries (stateCount (held d .variables)) ≡ tableOf (held d)
   pub reached : isNone (entryIn entries (startNumber (held d))) ≡ false
-  pub plan-room : 16 + 2 * entryIn entries (startNumber (held d)) .steps ≤ length plan
+  pub plan-room : 16 + 2 * stepsOf (entryIn entries (startNumber (held d))) ≤ length plan
   pub numbers : d .actions ≤ length (originOf origin .actions)

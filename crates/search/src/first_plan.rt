@@ -16,6 +16,7 @@ ghost use Rattle.search.specs.FirstPlan.{firstPlan};
 ghost use Rattle.search.specs.Rows.{Tabled, ReadAt, ReadStep, FirstAction, NumberAt, StepRoom, CanWrite};
 use crate::entries;
 use crate::states;
+use plans::Minutes;
 use plans::OriginalAction;
 use plans::ReducedAction;
 
@@ -45,7 +46,7 @@ fn leads_on(
         return false;
     }
     entries::same(
-        entries::after_step(entry, costs[a]),
+        entries::after_step(entry, Minutes(costs[a] as u64)),
         entries::entry_at(entries, s),
     )
 }
@@ -125,7 +126,7 @@ pub fn write_plan(
     let place = files::origin::actions_place(origin) + 4;
     let mut s = states::start_number(sizes, starts, variables);
     let entry = entries::entry_at(entries, s);
-    let fewest = entry.steps as usize;
+    let fewest = entry.steps.0 as usize;
     files::plan::put_head(plan, fewest);
     let mut values = states::values_of(sizes, variables, s);
     let mut i: usize = 0;

@@ -94,7 +94,7 @@ fn search_task(
     if entries::is_none(entry) {
         return not_found(outcomes::refuse(outcomes::NO_PLAN, 0), count);
     }
-    let needed = files::plan::needed(entry.steps as usize);
+    let needed = files::plan::needed(entry.steps.0 as usize);
     if plan.len() < needed {
         return not_found(outcomes::refuse(outcomes::SHORT_BUFFER, needed), count);
     }
@@ -116,8 +116,8 @@ fn search_task(
         outcome: outcomes::done(),
         states: count,
         plan: needed,
-        cost: Minutes(entry.minutes),
-        steps: Steps(entry.steps),
+        cost: Minutes(entry.minutes.0),
+        steps: Steps(entry.steps.0),
     }
 }
 

@@ -53,11 +53,14 @@ returns-2 c =
     leads-far _ _ _ _ _ _ _ _ _ _ (pre .action) (here .values-are) t tabled (here .below) (here .reached) _ (c .before .before .before .before .before .before .all-hold .ensures) (not-false _ (c .before .before .before .before .before .if1 .left)) _ (c .before .before .before .number-after .ensures) _ (c .before .before .entry-at .ensures) _ (c .before .is-none .ensures)
     (here .bounded .low _ (here .below) (here .reached)) (c .if2 .taken)
 
-mul-after-step : tie.Need-mul-after-step
-mul-after-step c = search needs
+mul-t22 : tie.Need-mul-t22
+mul-t22 c = search needs
 
-element-copy-out-after-step : tie.Need-element-copy-out-after-step
-element-copy-out-after-step c = omega (arith, c .before .before .before .before .before .before .before .before .before .pre .action, c .before .before .before .before .before .before .before .before .before .pre .here .asked .actions-few)
+element-copy-out-t25 : tie.Need-element-copy-out-t25
+element-copy-out-t25 c = omega (arith, c .before .before .before .before .before .before .before .before .before .pre .action, c .before .before .before .before .before .before .before .before .before .pre .here .asked .actions-few)
+
+cast-t26 : tie.Need-cast-t26
+cast-t26 c = let start = c .before .before .before .before .before .before .before .before .before .before in omega (arith, start .pre .here .asked .cost-most (start .args .a) (start .pre .action))
 
 after-step-requires : tie.Need-after-step-requires
 after-step-requires c κs =
@@ -94,8 +97,9 @@ leads-on-spec =
     entry-at-requires
     is-none-requires
     returns-2
-    mul-after-step
-    element-copy-out-after-step
+    mul-t22
+    element-copy-out-t25
+    cast-t26
     after-step-requires
     entry-at-requires-2
     same-requires

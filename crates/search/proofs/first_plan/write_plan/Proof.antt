@@ -11,7 +11,7 @@ use Rattle.files.specs.Dense.{Arrays, arrays, held}
 use Rattle.search.specs.States.{stateCount}
 use Rattle.search.specs.FirstPlan.{startNumber}
 use Rattle.search.specs.Entries.{entryIn}
-use Rattle.search.specs.declared.Entry.{Entry}
+use Rattle.search.specs.Table.{stepsOf}
 use Rattle.search.proofs.EntryLaws.{steps-fit}
 use Rattle.search.proofs.Radix.{start-below}
 use Rattle.search.proofs.HeldStates.{held-states, held-start, held-sizes, held-starts, held-few, held-valid}
@@ -61,13 +61,13 @@ start-inside c = omega (arith, start-is c, start-below (held (task (to-start c))
 abbrev to-found : tie.After-entry-at Inv-loop μ-loop → tie.After-start-number Inv-loop μ-loop
 to-found c = c .before
 
-start-room : (c : tie.After-entry-at Inv-loop μ-loop) → 16 + 2 * c .entry-at .result .steps ≤ length (now (to-start (to-found c) .args .plan))
+start-room : (c : tie.After-entry-at Inv-loop μ-loop) → 16 + 2 * c .entry-at .result .steps .0 ≤ length (now (to-start (to-found c) .args .plan))
 start-room c =
     let s = to-start (to-found c) in
-    omega (arith, s .pre .plan-room, ap (λ (e : Entry). e .steps) (c .entry-at .ensures), ap (λ (n : ℕ). entryIn (now (s .args .entries)) n .steps) (start-is (to-found c)))
+    omega (arith, s .pre .plan-room, ap stepsOf (c .entry-at .ensures), ap (λ (n : ℕ). stepsOf (entryIn (now (s .args .entries)) n)) (start-is (to-found c)))
 
-few-steps : (c : tie.After-entry-at Inv-loop μ-loop) → c .entry-at .result .steps < 65536
-few-steps c = omega (arith, ap (λ (e : Entry). e .steps) (c .entry-at .ensures), steps-fit (now (to-start (to-found c) .args .entries)) (to-found c .start-number .result))
+few-steps : (c : tie.After-entry-at Inv-loop μ-loop) → c .entry-at .result .steps .0 < 65536
+few-steps c = omega (arith, ap stepsOf (c .entry-at .ensures), steps-fit (now (to-start (to-found c) .args .entries)) (to-found c .start-number .result))
 
 abbrev to-number : tie.After-values-of Inv-loop μ-loop → tie.After-entry-at Inv-loop μ-loop
 to-number c = c .before .before .before .before .before .before
@@ -79,7 +79,7 @@ to-loop c = c .before .before .before
 abbrev begun : tie.At-loop Inv-loop μ-loop → Started
 begun c = to-start (to-found (to-number (c .before)))
 
-more : (c : tie.Then1 Inv-loop μ-loop) → to-loop (c .before) .loop .i < to-number (to-loop (c .before) .before) .entry-at .result .steps
+more : (c : tie.Then1 Inv-loop μ-loop) → to-loop (c .before) .loop .i < to-number (to-loop (c .before) .before) .entry-at .result .steps .0
 more c =
     let l = to-loop (c .before) in
     let s = begun l in
@@ -102,7 +102,7 @@ abbrev to-action : tie.After-number-after-arg Inv-loop μ-loop → tie.After-fir
 to-action c = c .before .before .before .before .before .before
 
 -- after the last turn
-ended : (c : tie.Else1 Inv-loop μ-loop) → to-loop (c .before) .loop .i ≡ to-number (to-loop (c .before) .before) .entry-at .result .steps
+ended : (c : tie.Else1 Inv-loop μ-loop) → to-loop (c .before) .loop .i ≡ to-number (to-loop (c .before) .before) .entry-at .result .steps .0
 ended c =
     let l = to-loop (c .before) in
     let s = begun l in

@@ -11,7 +11,7 @@ use Rattle.files.specs.PlanFile.{planFile}
 use Rattle.plans.specs.Plan.{Total}
 use Rattle.files.proofs.Valid.{Valid}
 use Rattle.files.proofs.Guards.{refusal-number}
-use Rattle.search.specs.declared.Entry.{Entry}
+use Rattle.search.specs.Table.{stepsOf}
 use Rattle.search.specs.States.{stateCount}
 use Rattle.search.specs.Planner.{statesFit}
 use Rattle.search.proofs.HeldStates.{held-states, held-valid, held-sizes, held-few}
@@ -111,8 +111,8 @@ entry-at-requires c κs =
 is-none-requires : tie.Need-is-none-requires
 is-none-requires c κs = search needs
 
-few-steps : (c : tie.After-entry-at) → c .entry-at .result .steps < 65536
-few-steps c = omega (arith, ap (λ (e : Entry). e .steps) (c .entry-at .ensures), steps-fit (to-found c .search .last .0) (to-found c .search .result))
+few-steps : (c : tie.After-entry-at) → c .entry-at .result .steps .0 < 65536
+few-steps c = omega (arith, ap stepsOf (c .entry-at .ensures), steps-fit (to-found c .search .last .0) (to-found c .search .result))
 
 refuse-requires-3 : tie.Need-refuse-requires-3
 refuse-requires-3 c κs = search needs
