@@ -161,9 +161,11 @@ module _ (look : ℕ → Entry) (nexts costs : List ℕ) (actions s : ℕ) where
       led-later : (b : ℕ) → a ≤ b → b < actions → tight t (distances t) s b ≡ true → tight t (distances t) s a ≡ false → r ≡ firstAction t (distances t) s a (actions - a)
       led-later b low high e n =
           let later : suc a ≤ b = split-le b a (λ q. let here : a ≡ b = omega arith in clash (ap (tight t (distances t) s) here ∙ e) n) (λ q. omega arith) in
-          chosen-is
-          ∙ rw n (led .is t k b later high e)
-          ∙ ap (λ (m : ℕ). firstAction t (distances t) s m (actions - suc a)) (omega arith)
+          let first-stays : r ≡ first = chosen-is ∙ rw n refl in
+          let next : suc a ≡ a + 1 = omega arith in
+          first-stays
+          ∙ led .is t k b later high e
+          ∙ ap (λ (m : ℕ). firstAction t (distances t) s m (actions - suc a)) next
           ∙ sym (one-less ∙ first-later t (distances t) s a (actions - suc a) n)
 
     pub led-next : Led look nexts costs actions s a r

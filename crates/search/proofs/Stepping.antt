@@ -24,7 +24,7 @@ use Rattle.plans.specs.State.{State, allHold}
 use Rattle.plans.specs.Tally.{listState}
 use Rattle.reduction.specs.Preserved.{byOriginFile}
 use Rattle.search.specs.States.{stateCount, stateAt}
-use Rattle.search.specs.Table.{distances, nextState}
+use Rattle.search.specs.Table.{stepsOf, distances, nextState}
 use Rattle.search.specs.FirstPlan.{firstAction, stepsFrom, startNumber, firstPlan}
 use Rattle.search.specs.declared.Entry.{Entry}
 use Rattle.search.specs.Entries.{isNone, entryTotal, entryIn, Bounded}
@@ -100,13 +100,13 @@ origin-length origin plan = length-map plan (λ n. getD (originOf origin .action
 module _ (d : Arrays) (entries : List ℕ) (known : Ready d entries) (origin first : List ℕ) where
   -- no step is written at the start state
   pub write-begin : (s count : ℕ) (values : List ℕ) (x : Entry) → s ≡ startNumber (held d) → isNone (entryIn entries (startNumber (held d))) ≡ false
-      → x ≡ entryIn entries s → count ≡ x .steps → ((starts : List ℕ) → listState values ≡ stateAt (rowVariables (d .variables) (d .sizes) starts) s)
+      → x ≡ entryIn entries s → count ≡ stepsOf x → ((starts : List ℕ) → listState values ≡ stateAt (rowVariables (d .variables) (d .sizes) starts) s)
       → Writing d origin first first values count s 0
   write-begin s count values y e near read c state =
       let t = held d in
       let below : s < stateCount (t .variables) = omega (arith, e, start-below t (known .valid)) in
       let x = entryTotal (entryIn entries s) in
-      let steps-are : count ≡ x .steps = c ∙ ap (λ (z : Entry). z .steps) read in
+      let steps-are : count ≡ x .steps = c ∙ ap stepsOf read in
       let here : getD (distances t) s none ≡ some x = some-distance (entryIn entries s) (getD (distances t) s none) (known .tabled .entries-are s (omega (arith, held-states d))) (ap (λ (n : ℕ). isNone (entryIn entries n)) e ∙ near) in
       let short = steps-few t (known .valid) s x below here in
       let start : getD (distances t) (startNumber t) none ≡ some x = ap (λ (n : ℕ). getD (distances t) n none) (sym e) ∙ here in
