@@ -144,6 +144,9 @@ module _ (look : ℕ → Entry) (nexts costs : List ℕ) (actions s : ℕ) where
   led-none asked first z = record { below = omega (arith, asked .more); is = λ t k b low high e. absurd (omega arith) }
 
   module _ (a first : ℕ) (led : Led look nexts costs actions s (suc a) first) (h : a < actions) (r : ℕ) (chosen : Chosen first a (look (getD nexts a 0)) costs (look s) r) where
+    abbrev some-action : Action
+    some-action = record { cost = getD costs a 0; conditions = []; effects = [] }
+
     chosen-below : (b : Bool) → r ≡ cond b a first → r < actions
     chosen-below true e = omega (arith, e)
     chosen-below false e = omega (arith, e, led .below)
@@ -171,7 +174,7 @@ module _ (look : ℕ → Entry) (nexts costs : List ℕ) (actions s : ℕ) where
     pub led-next : Led look nexts costs actions s a r
     led-next =
         record {
-          below = chosen-below _ (chosen (record { cost = getD costs a 0; conditions = []; effects = [] }) refl);
+          below = chosen-below (hasBy some-action (look (getD nexts a 0)) (look s)) (chosen some-action refl);
           is = λ t k b low high e. split (tight t (distances t) s a) (led-here t k) (led-later t k b low high e);
         }
 

@@ -10,6 +10,7 @@ pub mod ReadOff
 pub mod LeastPlans
 pub mod TableEntries
 pub mod FoundLaws
+pub mod StageLaws
 pub mod SearchLaws
 pub mod RowNumbers
 pub mod StateLoops
