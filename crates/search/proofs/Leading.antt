@@ -18,7 +18,7 @@ use Rattle.search.specs.Table.{Distance, same, stepTo, nextState, throug
 use Rattle.search.specs.FirstPlan.{firstAction}
 use Rattle.search.specs.declared.Entry.{Entry}
 use Rattle.search.specs.Entries.{isNone, entryTotal, sameEntry, afterStep, Low}
-use Rattle.search.specs.Rows.{rowVariables, NumberAfter}
+use Rattle.search.specs.Rows.{rowVariables, rowStates, NumberAfter}
 use Rattle.search.specs.ReadOff.{Stepped, stateAfter, GoesTo, hasBy, CanChoose, Chosen, CanLead, Leads, FirstLed}
 use Rattle.search.proofs.Radix.{state-in}
 use Rattle.search.proofs.RowNumbers.{RowSizes, row-sizes, inside-row}
@@ -66,6 +66,9 @@ module _ (variables s a : ℕ) (sizes conditions effects values : List ℕ) (sta
 
   pub goes-on : b ≡ true → (next : ℕ) → NumberAfter variables (64 * a) sizes effects values next → GoesTo variables s a sizes conditions effects next
   goes-on e next found = record { below = found .below; is = λ t actions costs stepped h. after-yes t actions costs stepped h next e found }
+
+  pub goes-nowhere : b ≡ false → s < rowStates variables sizes → GoesTo variables s a sizes conditions effects s
+  goes-nowhere e below = record { below = below; is = λ t actions costs stepped h. after-no t actions costs stepped h e }
 
 -- by way of an action, as the code finds it: an entry with a step more is never the same
 step-more : (a : Action) (e : Entry) → entryTotal (afterStep a e) .steps ≡ entryTotal e .steps + 1
@@ -190,3 +193,20 @@ module _ (look : ℕ → Entry) (nexts costs : List ℕ) (actions s : ℕ) where
 -- what the choice asks
 pub can-choose : (look : ℕ → Entry) (nexts costs : List ℕ) (actions a : ℕ) → CanLead look nexts costs actions → a < actions → CanChoose a (look (getD nexts a 0)) costs
 can-choose look nexts costs actions a asked h = record { few = omega (arith, asked .few); low = asked .low a h; cost-most = asked .cost-most a h }
+
+-- what the choice gives
+module _ (first a : ℕ) (next : Entry) (costs : List ℕ) (own : Entry) (b : Bool) (none-is : b ≡ isNone next) where
+  pub chosen-far : b ≡ true → Chosen first a next costs own first
+  unfolding hasBy
+  chosen-far far x e = sym (rw (sym none-is ∙ far) refl)
+
+  module _ (near : b ≡ false) (y : Entry) (stepped : (x : Action) → x .cost ≡ getD costs a 0 → y ≡ afterStep x next) (c : Bool) (is : c ≡ sameEntry y own) where
+    has-same : (x : Action) → x .cost ≡ getD costs a 0 → hasBy x next own ≡ c
+    unfolding hasBy
+    has-same x e = rw (sym none-is ∙ near) (ap (λ (z : Entry). sameEntry z own) (sym (stepped x e)) ∙ sym is)
+
+    pub chosen-yes : c ≡ true → Chosen first a next costs own a
+    chosen-yes e x q = sym (ap (λ (h : Bool). cond h a first) (has-same x q ∙ e))
+
+    pub chosen-no : c ≡ false → Chosen first a next costs own first
+    chosen-no e x q = sym (ap (λ (h : Bool). cond h a first) (has-same x q ∙ e))

@@ -22,14 +22,14 @@ pub fn next_states(
     sizes: &[u8; 64],
     conditions: &[u8; 32768],
     effects: &[u8; 32768],
-) -> [u16; 512]
+) -> [usize; 512]
     requires { ⌜ CanNext searched state (now sizes) (now conditions) (now effects) ⌝ }
     ensures { λ r. ⌜ NextStates searched state (now (sizes .entry)) (now (conditions .entry)) (now (effects .entry)) r ⌝ }
 {
     let variables = searched.variables;
     let actions = searched.actions;
     let values = states::values_of(sizes, variables, state);
-    let mut nexts = [0u16; 512];
+    let mut nexts = [0usize; 512];
     let mut a: usize = 0;
     while a < actions {
         nexts[a] = next_state(sizes, conditions, effects, variables, &values, state, a);
@@ -47,23 +47,23 @@ fn next_state(
     values: &[u8; 64],
     state: usize,
     a: usize,
-) -> u16
+) -> usize
     requires { ⌜ CanGo variables state a (now sizes) (now conditions) (now effects) (now values) ⌝ }
     ensures { λ r. ⌜ GoesTo variables state a (now (sizes .entry)) (now (conditions .entry)) (now (effects .entry)) r ⌝ }
 {
     let base = 64 * a;
     if states::all_hold(conditions, base, variables, values) {
-        return states::number_after(sizes, effects, base, variables, values) as u16;
+        return states::number_after(sizes, effects, base, variables, values);
     }
-    state as u16
+    state
 }
 
 // The next state of an action.
-pub fn next_at(nexts: &[u16; 512], a: usize) -> usize
+pub fn next_at(nexts: &[usize; 512], a: usize) -> usize
     requires { ⌜ a < 512 ⌝ }
     ensures { λ r. ⌜ r ≡ getD (now (nexts .entry)) a 0 ⌝ }
 {
-    nexts[a] as usize
+    nexts[a]
 }
 
 // Before any action was looked at.
@@ -110,7 +110,7 @@ pub fn put_action(
     action: ReducedAction,
     searched: Searched,
     origin: &[u8],
-    nexts: &[u16; 512],
+    nexts: &[usize; 512],
 ) -> usize
     requires { ⌜ CanPut (now plan) i (action .0) searched (now origin) ⌝ }
     ensures { λ r. ⌜ StepPut (now (plan .entry)) i (action .0) searched (now (origin .entry)) (now (nexts .entry)) r (now (plan .exit)) ⌝ }

@@ -181,6 +181,7 @@ pub fn begin(plan: &mut [u8], searched: Searched, entry: Entry) -> Found
     if entries::is_none(entry) {
         return not_found(outcomes::refuse(outcomes::NO_PLAN, 0), states);
     }
+    let cost = entry.minutes;
     let steps = entry.steps;
     let needed = files::plan::needed(steps.0 as usize);
     if plan.len() < needed {
@@ -191,7 +192,7 @@ pub fn begin(plan: &mut [u8], searched: Searched, entry: Entry) -> Found
         outcome: outcome,
         states: states,
         plan: needed,
-        cost: entry.minutes,
+        cost: cost,
         steps: steps,
     }
 }

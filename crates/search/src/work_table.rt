@@ -49,7 +49,7 @@ fn fill(table: &mut [Entry], entries: &[u64], count: usize)
 // one stays.
 fn first_action(
     table: &[Entry],
-    nexts: &[u16; 512],
+    nexts: &[usize; 512],
     costs: &[u32; 512],
     actions: usize,
     state: usize,
