@@ -14,7 +14,7 @@ use Rattle.files.proofs.Valid.{Valid}
 use Rattle.plans.specs.Plan.{Total}
 use Rattle.search.specs.declared.Entry.{Entry}
 use Rattle.search.specs.States.{stateCount}
-use Rattle.search.specs.Table.{entry, entryOf, distances, tableOf}
+use Rattle.search.specs.Table.{entry, stepsOf, entryOf, distances, tableOf}
 use Rattle.search.specs.FirstPlan.{startNumber, firstPlan}
 use Rattle.search.specs.Entries.{isNone, entryTotal, Low, entryIn, entriesIn}
 use Rattle.search.proofs.EntryLaws.{near-some, Within, within-low, within-near, within-total, total-is, some-distance}
@@ -64,8 +64,8 @@ module _ (t : Task) (entries : List ℕ) (table : entriesIn entries (stateCount 
         ∙ entry-some s below (ap isNone (sym read) ∙ sym is ∙ h)
         ∙ ap (λ (y : Entry). some (entryTotal y)) (sym read)
 
-    pub start-steps : entryIn entries (startNumber t) .steps ≡ x .steps
-    start-steps = ap (λ (n : ℕ). entryIn entries n .steps) (sym e) ∙ ap (λ (y : Entry). y .steps) (sym read)
+    pub start-steps : stepsOf (entryIn entries (startNumber t)) ≡ stepsOf x
+    start-steps = ap (λ (n : ℕ). stepsOf (entryIn entries n)) (sym e) ∙ ap stepsOf (sym read)
 
 -- the entries up to the count that a function has
 pub at-count : (t : Task) (entries : List ℕ) (n m : ℕ) → n ≡ m → entriesIn entries n ≡ tableOf t → entriesIn entries m ≡ tableOf t
