@@ -18,7 +18,7 @@ use Rattle.files.specs.Stages.{Stage, outcomeOf, leftBy, answerBy}
 use Rattle.files.specs.Task.{Task, actionCount}
 use Rattle.files.specs.TaskFile.{checkTask, taskOf}
 use Rattle.files.proofs.Guards.{is-done, is-refused, done-number, passed, both-done}
-use Rattle.files.proofs.Logic.{split, split-option, and-join}
+use Rattle.files.proofs.Logic.{clash, split, split-option, and-join}
 use Rattle.files.proofs.OriginRoundTrip.{origin-read-as}
 use Rattle.files.proofs.Stages.{left-last, by-first, by-second, given-whole, given-refused}
 use Rattle.files.proofs.TaskChecked.{task-accepted}
@@ -289,4 +289,4 @@ module _ (task : List ℕ) (signer : ℕ) (before : Buffers) (first : Reduced) (
     plans-both b now found w p q =
         split (isDone (first .outcome))
         (λ y. let z = done-number (first .outcome) y in plans-late z octets small b now found (w .searches z) p q)
-        (λ n. let d = refused-number (first .outcome) n in plans-early d b now found (w .refused d .0) (w .refused d .1) p q)
+        (λ n. let d : first .outcome .number ≡ 0 → ⊥ = λ z. clash (is-done (first .outcome) z) n in plans-early d b now found (w .refused d .0) (w .refused d .1) p q)
