@@ -27,6 +27,7 @@ pub mod Begun
 pub mod Searching
 pub mod Hand
 pub mod EntrySlices
+pub mod Spelled
 pub mod TableFilling
 pub mod Leading
 pub mod Stepping
