@@ -8,10 +8,12 @@ ghost use mathlib.Core.Path.{_≡_};
 ghost use Rattle.plans.specs.Check.{checkPlan};
 use files::outcomes;
 
-// A plan's cost.
+// A cost. The entries of the planner's table hold such numbers, and C callers lend that table.
+#[repr(C)]
 pub struct Minutes(pub u64);
 
-// A number of steps.
+// A number of steps; the same holds.
+#[repr(C)]
 pub struct Steps(pub u16);
 
 // An action's number in the full task.

@@ -13,35 +13,35 @@ use borrow.Author.Tests.{lt-ltb, le-ltb, le-leb, lt-leb, eq-eqb, ne-eqb, eqb-tru
 use Rattle.files.specs.Task.{Action}
 use Rattle.files.proofs.Logic.{clash, split, split-le, split-option}
 use Rattle.plans.specs.Plan.{Total, noSteps, addStep, atMost}
-use Rattle.search.specs.Table.{Distance, less, least, same, stepTo, entry, entryOf}
+use Rattle.search.specs.Table.{Distance, less, least, same, stepTo, entry, minutesOf, stepsOf, entryOf}
 use Rattle.search.specs.Entries.{noEntry, isNone, firstEntry, entryTotal, lessEntry, sameEntry, lowered, afterStep, Low, Holds, entryIn, Put}
 use Rattle.search.specs.Rows.{Offered}
 use Rattle.search.specs.declared.Entry.{Entry}
 use Rattle.search.proofs.DistanceLaws.{le-refl, le-trans, less-le, some-none, same-is, stepTo-none, stepTo-some, addStep-minutes}
 
 -- none
-pub is-none : (e far : Entry) → far ≡ noEntry → eqb (e .minutes) (far .minutes) ≡ isNone e
+pub is-none : (e far : Entry) → far ≡ noEntry → eqb (minutesOf e) (minutesOf far) ≡ isNone e
 unfolding isNone
-is-none e far h = ap (λ (x : Entry). eqb (e .minutes) (x .minutes)) h
+is-none e far h = ap (λ (x : Entry). eqb (minutesOf e) (minutesOf x)) h
 
 pub none-is : (e : Entry) → e ≡ noEntry → isNone e ≡ true
 unfolding isNone
-none-is e h = eq-eqb (e .minutes) (noEntry .minutes) (ap (λ (x : Entry). x .minutes) h)
+none-is e h = eq-eqb (minutesOf e) (minutesOf noEntry) (ap minutesOf h)
 
 -- an entry below that of none
 abbrev pub Near : Entry → Type 0
-Near e = e .minutes < noEntry .minutes
+Near e = minutesOf e < minutesOf noEntry
 
 pub near-some : (e : Entry) → Near e → isNone e ≡ false
 unfolding isNone
-near-some e h = ne-eqb (e .minutes) (noEntry .minutes) (λ q. omega (arith, h, q))
+near-some e h = ne-eqb (minutesOf e) (minutesOf noEntry) (λ q. omega (arith, h, q))
 
 pub low-near : (e : Entry) → Low e → Near e
 unfolding entryOf
 low-near e h = omega (arith, h .minutes)
 
 -- before any step
-pub first-yes : (reached : Bool) → reached ≡ true → record { minutes = 0; steps = 0 } ≡ firstEntry reached
+pub first-yes : (reached : Bool) → reached ≡ true → entry 0 0 ≡ firstEntry reached
 unfolding entryOf noSteps
 first-yes reached e = rw e refl
 
@@ -50,7 +50,7 @@ first-no reached far e h = rw e h
 
 -- an entry of few steps, each of which costs at most a million
 abbrev pub Within : ℕ → Entry → Type 0
-Within left e = (e .steps + left ≤ 4096) × (e .minutes ≤ 1000000 * e .steps)
+Within left e = (stepsOf e + left ≤ 4096) × (minutesOf e ≤ 1000000 * stepsOf e)
 
 pub within-low : (left : ℕ) (e : Entry) → Within left e → Low e
 within-low left e h = record { minutes = omega (arith, h .0, h .1); steps = omega (arith, h .0) }
@@ -74,20 +74,20 @@ within-total e x is k m = (omega (arith, ap (λ (y : Total). y .steps) is), omeg
 
 -- the order: by minutes, then by steps
 module _ (x y : Entry) where
-  pub less-minutes : x .minutes < y .minutes → true ≡ lessEntry x y
+  pub less-minutes : minutesOf x < minutesOf y → true ≡ lessEntry x y
   unfolding lessEntry atMost
-  less-minutes h = rw (le-ltb (y .minutes) (x .minutes) (omega arith), ne-eqb (y .minutes) (x .minutes) (λ e. omega arith)) refl
+  less-minutes h = rw (le-ltb (minutesOf y) (minutesOf x) (omega arith), ne-eqb (minutesOf y) (minutesOf x) (λ e. omega arith)) refl
 
-  pub less-steps : x .minutes ≡ y .minutes → ltb (x .steps) (y .steps) ≡ lessEntry x y
+  pub less-steps : minutesOf x ≡ minutesOf y → ltb (stepsOf x) (stepsOf y) ≡ lessEntry x y
   unfolding lessEntry atMost
   less-steps e =
-      split-le (y .steps) (x .steps)
-      (λ l. rw (le-ltb (y .minutes) (x .minutes) (omega arith), eq-eqb (y .minutes) (x .minutes) (sym e), le-leb (y .steps) (x .steps) l, le-ltb (x .steps) (y .steps) l) refl)
-      (λ l. rw (le-ltb (y .minutes) (x .minutes) (omega arith), eq-eqb (y .minutes) (x .minutes) (sym e), lt-leb (y .steps) (x .steps) l, lt-ltb (x .steps) (y .steps) l) refl)
+      split-le (stepsOf y) (stepsOf x)
+      (λ l. rw (le-ltb (minutesOf y) (minutesOf x) (omega arith), eq-eqb (minutesOf y) (minutesOf x) (sym e), le-leb (stepsOf y) (stepsOf x) l, le-ltb (stepsOf x) (stepsOf y) l) refl)
+      (λ l. rw (le-ltb (minutesOf y) (minutesOf x) (omega arith), eq-eqb (minutesOf y) (minutesOf x) (sym e), lt-leb (stepsOf y) (stepsOf x) l, lt-ltb (stepsOf x) (stepsOf y) l) refl)
 
-  pub less-not : y .minutes ≤ x .minutes → (x .minutes ≡ y .minutes → ⊥) → false ≡ lessEntry x y
+  pub less-not : minutesOf y ≤ minutesOf x → (minutesOf x ≡ minutesOf y → ⊥) → false ≡ lessEntry x y
   unfolding lessEntry atMost
-  less-not l d = let h : y .minutes < x .minutes = omega arith in rw (lt-ltb (y .minutes) (x .minutes) h) refl
+  less-not l d = let h : minutesOf y < minutesOf x = omega arith in rw (lt-ltb (minutesOf y) (minutesOf x) h) refl
 
   -- as distances
   pub less-some : lessEntry x y ≡ less (some (entryTotal x)) (some (entryTotal y))
@@ -151,7 +151,7 @@ some-distance e d is h =
 -- the order, and an entry that is offered
 less-far : (x y : Entry) → Near x → isNone y ≡ true → lessEntry x y ≡ true
 unfolding isNone
-less-far x y h e = sym (less-minutes x y (omega (arith, h, eqb-true (y .minutes) (noEntry .minutes) e)))
+less-far x y h e = sym (less-minutes x y (omega (arith, h, eqb-true (minutesOf y) (minutesOf noEntry) e)))
 
 less-distance : (x y : Entry) → Near x → lessEntry x y ≡ less (some (entryTotal x)) (distanceOf y)
 unfolding less
@@ -168,9 +168,9 @@ unfolding lowered
 lowered-is x y = split (lessEntry x y) (λ e. inr (rw e)) (λ e. inl (rw e))
 
 -- one step more
-pub step-is : (a : Action) (e : Entry) (cost : ℕ) → a .cost ≡ cost → record { minutes = cost + e .minutes; steps = e .steps + 1 } ≡ afterStep a e
+pub step-is : (a : Action) (e : Entry) (cost : ℕ) → a .cost ≡ cost → entry (cost + minutesOf e) (stepsOf e + 1) ≡ afterStep a e
 unfolding afterStep addStep
-step-is a e cost h = sym (ap (λ (n : ℕ). entry (n + e .minutes) (e .steps + 1)) h)
+step-is a e cost h = sym (ap (λ (n : ℕ). entry (n + minutesOf e) (stepsOf e + 1)) h)
 
 after-total : (a : Action) (e : Entry) → entryTotal (afterStep a e) ≡ addStep a (entryTotal e)
 unfolding afterStep addStep
@@ -206,40 +206,40 @@ far-not-same a x y d e p far q near =
     (λ total w.
     let here : some (addStep a total) ≡ some (entryTotal y) = sym (stepTo-some a total) ∙ sym (ap (stepTo a) w) ∙ z ∙ q in
     let totals : addStep a total ≡ entryTotal y = cc in
-    omega (arith, near, eqb-true (x .minutes) (noEntry .minutes) far, ap (λ (t : Total). t .minutes) totals, addStep-minutes a total, ap (λ (t : Total). t .minutes) (total-is x d total p w))))
+    omega (arith, near, eqb-true (minutesOf x) (minutesOf noEntry) far, ap (λ (t : Total). t .minutes) totals, addStep-minutes a total, ap (λ (t : Total). t .minutes) (total-is x d total p w))))
 
 -- an entry in a list of numbers
-pub steps-fit : (entries : List ℕ) (s : ℕ) → entryIn entries s .steps < 65536
+pub steps-fit : (entries : List ℕ) (s : ℕ) → stepsOf (entryIn entries s) < 65536
 unfolding entryIn
 steps-fit entries s = omega arith
 
-pub entry-read : (entries : List ℕ) (s : ℕ) → record { minutes = getD entries (2 * s) 0; steps = getD entries (2 * s + 1) 0 % 65536 } ≡ entryIn entries s
+pub entry-read : (entries : List ℕ) (s : ℕ) → entry (getD entries (2 * s) 0) (getD entries (2 * s + 1) 0 % 65536) ≡ entryIn entries s
 unfolding entryIn
 entry-read entries s = refl
 
-pub entry-put : (entries : List ℕ) (x : ℕ) (e : Entry) → e .steps < 65536 → Holds entries (x + 1)
-    → Put entries x e (set (set entries (2 * x) (e .minutes)) (2 * x + 1) (e .steps))
+pub entry-put : (entries : List ℕ) (x : ℕ) (e : Entry) → stepsOf e < 65536 → Holds entries (x + 1)
+    → Put entries x e (set (set entries (2 * x) (minutesOf e)) (2 * x + 1) (stepsOf e))
 unfolding entryIn
 entry-put entries x e few room s =
-    let l = set entries (2 * x) (e .minutes) in
-    let same-length : length l ≡ length entries = length-set entries (2 * x) (e .minutes) in
+    let l = set entries (2 * x) (minutesOf e) in
+    let same-length : length l ≡ length entries = length-set entries (2 * x) (minutesOf e) in
     split (eqb s x)
     (λ q.
     let is : s ≡ x = eqb-true s x q in
-    let last : getD (set l (2 * x + 1) (e .steps)) (2 * x + 1) 0 ≡ e .steps = getD-set-same l (2 * x + 1) (e .steps) 0 (omega (arith, same-length, room)) in
+    let last : getD (set l (2 * x + 1) (stepsOf e)) (2 * x + 1) 0 ≡ stepsOf e = getD-set-same l (2 * x + 1) (stepsOf e) 0 (omega (arith, same-length, room)) in
     rw (q, is)
     (ap₂ entry
-    (getD-set-other l (2 * x + 1) (2 * x) (e .steps) 0 (λ z. omega (arith, z)) ∙ getD-set-same entries (2 * x) (e .minutes) 0 (omega (arith, room)))
+    (getD-set-other l (2 * x + 1) (2 * x) (stepsOf e) 0 (λ z. omega (arith, z)) ∙ getD-set-same entries (2 * x) (minutesOf e) 0 (omega (arith, room)))
     (ap (λ (n : ℕ). n % 65536) last ∙ fits)))
     (λ q.
     let other : s ≡ x → ⊥ = eqb-false s x q in
     rw q
     (ap₂ entry
-    (getD-set-other l (2 * x + 1) (2 * s) (e .steps) 0 (λ z. omega (arith, z)) ∙ getD-set-other entries (2 * x) (2 * s) (e .minutes) 0 (λ z. other (omega (arith, z))))
+    (getD-set-other l (2 * x + 1) (2 * s) (stepsOf e) 0 (λ z. omega (arith, z)) ∙ getD-set-other entries (2 * x) (2 * s) (minutesOf e) 0 (λ z. other (omega (arith, z))))
     (ap (λ (n : ℕ). n % 65536)
-    (getD-set-other l (2 * x + 1) (2 * s + 1) (e .steps) 0 (λ z. other (omega (arith, z))) ∙ getD-set-other entries (2 * x) (2 * s + 1) (e .minutes) 0 (λ z. omega (arith, z))))))
+    (getD-set-other l (2 * x + 1) (2 * s + 1) (stepsOf e) 0 (λ z. other (omega (arith, z))) ∙ getD-set-other entries (2 * x) (2 * s + 1) (minutesOf e) 0 (λ z. omega (arith, z))))))
   where
-    fits : e .steps % 65536 ≡ e .steps
+    fits : stepsOf e % 65536 ≡ stepsOf e
     fits = omega (arith, few)
 
 -- a state that is offered an entry, and the others

@@ -21,10 +21,9 @@ use Rattle.search.specs.declared.Entry.{Entry}
 use Rattle.search.specs.declared.stages.Found.{Found}
 use Rattle.search.specs.States.{stateCount}
 use Rattle.search.specs.Table.{distances, tableOf}
-use Rattle.search.specs.FirstPlan.{startNumber, firstPlan}
-use Rattle.search.specs.Entries.{entriesIn}
+use Rattle.search.specs.FirstPlan.{startNumber, firstPlan, foundPlan}
 use Rattle.search.specs.Planner.{statesFit, planFits, searchBuffers, searchStages}
-use Rattle.search.specs.Found.{foundPlan, foundStates, notFound, SearchesRoom}
+use Rattle.search.specs.Found.{foundStates, notFound, foundWhole, Searches}
 use Rattle.search.proofs.Radix.{start-below}
 use Rattle.search.proofs.ReadOff.{steps-length}
 use Rattle.search.proofs.LeastPlans.{stepsRead, first-plan-some, search-least}
@@ -42,55 +41,36 @@ module _ (t : Task) (room : ℕ) where
   unfolding statesFit fits
   states-fit h k = goes-le (stateCount (t .variables)) 4096 25 0 _ done _ _ refl refl h (goes-le (stateCount (t .variables)) room 21 (stateCount (t .variables)) _ done _ _ refl refl k refl)
 
--- the entries of no states
-pub no-entries : (numbers : List ℕ) → entriesIn numbers 0 ≡ []
-unfolding entriesIn
-no-entries numbers = refl
-
--- the search of a task for whatever table of `room` entries, from what its parts came to
-module _ (t : Task) (original : List ℕ → List ℕ) (signer room : ℕ) (plan : List ℕ) where
+-- the search of a task, from what its parts came to
+module _ (t : Task) (original : List ℕ → List ℕ) (signer : ℕ) (table : List Entry) (plan : List ℕ) where
   abbrev found-is : Option (List ℕ)
   found-is = Option·map original (firstPlan t)
 
   -- refused before the search: nothing is filled
-  pub search-early : (o : Outcome) → o ≡ statesFit t room → (o .number ≡ 0 → ⊥) → (r : Found) → r ≡ notFound 0 o
-      → (numbers : List ℕ) → SearchesRoom t original signer room plan r (entriesIn numbers (r .states)) plan
-  unfolding searchStages foundStates overwrite
-  search-early o e d r q numbers table len =
-      let is : o ≡ statesFit t (length table) = e ∙ ap (statesFit t) (sym len) in
+  pub search-early : (o : Outcome) → o ≡ statesFit t (length table) → (o .number ≡ 0 → ⊥) → Searches t original signer (searchBuffers table plan) (notFound 0 o) (searchBuffers table plan)
+  unfolding searchStages foundStates
+  search-early o is d =
       let no : isDone (statesFit t (length table)) ≡ false = ap isDone (sym is) ∙ is-refused o d in
-      let empty : entriesIn numbers (r .states) ≡ [] = ap (λ (x : Found). entriesIn numbers (x .states)) q ∙ no-entries numbers in
-      by-stop no (q ∙ ap (notFound 0) is ∙ rw no refl) (ap (λ (l : List Entry). searchBuffers (overwrite table l) plan) empty)
+      by-stop no (ap (notFound 0) is ∙ rw no refl) refl
 
-  module _ (e : done ≡ statesFit t room) (numbers : List ℕ) (w : entriesIn numbers (stateCount (t .variables)) ≡ tableOf t) where
-    fit : (table : List Entry) → length table ≡ room → isDone (statesFit t (length table)) ≡ true
-    fit table len = is-yes _ (ap (statesFit t) len ∙ sym e)
-
-    table-is : (states : ℕ) → states ≡ stateCount (t .variables) → (table : List Entry) → overwrite table (entriesIn numbers states) ≡ overwrite table (tableOf t)
-    table-is states s table = ap (overwrite table) (ap (entriesIn numbers) s ∙ w)
+  module _ (e : done ≡ statesFit t (length table)) (now : List Entry) (w : now ≡ overwrite table (tableOf t)) where
+    fit : isDone (statesFit t (length table)) ≡ true
+    fit = is-yes _ (sym e)
 
     -- no plan, or no room for it: the table is filled
-    pub search-late : (o : Outcome) → o ≡ planFits found-is signer (length plan) → (o .number ≡ 0 → ⊥) → (states : ℕ) → states ≡ stateCount (t .variables) → (r : Found) → r ≡ notFound states o
-        → SearchesRoom t original signer room plan r (entriesIn numbers (r .states)) plan
+    pub search-late : (o : Outcome) → o ≡ planFits found-is signer (length plan) → (o .number ≡ 0 → ⊥)
+        → Searches t original signer (searchBuffers table plan) (notFound (stateCount (t .variables)) o) (searchBuffers now plan)
     unfolding searchStages foundStates
-    search-late o p d states s r q table len =
+    search-late o p d =
         let no : isDone (planFits found-is signer (length plan)) ≡ false = ap isDone (sym p) ∙ is-refused o d in
-        let yes = fit table len in
-        by-next yes
-        (by-stop no (q ∙ ap₂ notFound s p ∙ rw yes refl) (ap (λ (l : List Entry). searchBuffers l plan) (table-is (r .states) (ap (λ (x : Found). x .states) q ∙ s) table)))
+        by-next fit (by-stop no (ap (notFound (stateCount (t .variables))) p ∙ rw fit refl) (ap (λ (l : List Entry). searchBuffers l plan) w))
 
     -- the plan is written
-    pub search-done : done ≡ planFits found-is signer (length plan) → (o : Outcome) → o ≡ done → (states bytes cost fewest : ℕ) → states ≡ stateCount (t .variables)
-        → bytes ≡ length (planFile (original (foundPlan t)) signer) → cost ≡ totalOf t (foundPlan t) .minutes → fewest ≡ totalOf t (foundPlan t) .steps
-        → (now : List ℕ) → now ≡ overwrite plan (planFile (Option·getD found-is []) signer)
-        → SearchesRoom t original signer room plan (record { outcome = o; states = states; plan = bytes; cost = record { 0 = cost }; steps = record { 0 = fewest } }) (entriesIn numbers states) now
+    pub search-done : done ≡ planFits found-is signer (length plan) → (r : Found) → r ≡ foundWhole t original signer
+        → (file : List ℕ) → file ≡ overwrite plan (planFile (Option·getD found-is []) signer)
+        → Searches t original signer (searchBuffers table plan) r (searchBuffers now file)
     unfolding searchStages
-    search-done p o z states bytes cost fewest s l m k now q table len =
-        by-next (fit table len)
-        (by-next (is-yes _ (sym p))
-        (by-end
-        (λ i. record { outcome = z i; states = s i; plan = l i; cost = record { 0 = m i }; steps = record { 0 = k i } })
-        (ap₂ searchBuffers (table-is states s table) q)))
+    search-done p r q file f = by-next fit (by-next (is-yes _ (sym p)) (by-end q (ap₂ searchBuffers w f)))
 
 pub plan-is : (t : Task) (plan : List ℕ) → firstPlan t ≡ some plan → foundPlan t ≡ plan
 unfolding foundPlan
@@ -136,8 +116,3 @@ module _ (t : Task) (valid : Valid t) (x : Total) (e : getD (distances t) (start
 -- the plan by other numbers, where there is one
 pub plan-made : (t : Task) (plan : List ℕ) (original : List ℕ → List ℕ) → firstPlan t ≡ some plan → Option·getD (Option·map original (firstPlan t)) [] ≡ original (Option·getD (firstPlan t) [])
 plan-made t plan original e = rw e refl
-
--- the same of the same task
-pub searches-alike : (h t : Task) → h ≡ t → (original : List ℕ → List ℕ) (signer room : ℕ) (plan : List ℕ) (r : Found) (entries : List Entry) (now : List ℕ)
-    → SearchesRoom h original signer room plan r entries now → SearchesRoom t original signer room plan r entries now
-searches-alike h t is original signer room plan r entries now k = subst (λ (x : Task). SearchesRoom x original signer room plan r entries now) is k

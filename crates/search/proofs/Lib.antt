@@ -11,6 +11,7 @@ pub mod LeastPlans
 pub mod TableEntries
 pub mod FoundLaws
 pub mod StageLaws
+pub mod SearchLaws
 pub mod RowNumbers
 pub mod StateLoops
 pub mod OneChange
@@ -27,8 +28,8 @@ pub mod Searching
 pub mod Hand
 pub mod EntrySlices
 pub mod TableFilling
-pub mod FirstPlanLaws
-pub mod PlanWriting
+pub mod Leading
+pub mod Stepping
 pub mod Answers
 pub mod PlannerRight
 pub mod Ample

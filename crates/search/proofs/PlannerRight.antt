@@ -42,7 +42,7 @@ use Rattle.search.specs.FirstPlan.{firstPlan}
 use Rattle.search.specs.Least.{startedAt, DistanceLeast, PlanFirst}
 use Rattle.search.specs.Planner.{planLevel, searched, planFound, statesFit, planFits, planMade, SearchBuffers, searchBuffers, searchStages, Lent, lent, planStages, planWhole, planAnswer, planAfter, Plans}
 use Rattle.search.specs.PlannerRight.{PlanLongEnough, HandedBack, EntryRight, PlannerRight, PlannerPromise, PlansRight}
-use Rattle.search.specs.Table.{distances, entryOf, tableOf}
+use Rattle.search.specs.Table.{minutesOf, distances, entryOf, tableOf}
 use Rattle.search.proofs.Answers.{row-is}
 use Rattle.search.proofs.Distances.{distances-length, steps-few, minutes-few}
 use Rattle.search.proofs.LeastPlans.{search-least}
@@ -69,7 +69,7 @@ module _ (u : Task) (valid : Valid u) (few : stateCount (u .variables) ≤ 4096)
       let w = subst (DistanceLeast (startedAt u n)) q least in
       record {
         no-plan = (
-          λ e. absurd (omega (arith, ap (λ (y : Entry). y .minutes) e, steps-few u valid n x h q, minutes-few u valid n x h q)),
+          λ e. absurd (omega (arith, ap minutesOf e, steps-few u valid n x h q, minutes-few u valid n x h q)),
           λ none-there. absurd (none-there (w .0) (w .1 .isPlan)),
         );
         otherwise =

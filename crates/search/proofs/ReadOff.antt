@@ -34,11 +34,11 @@ pub record FirstTight (t : Task) (row : List Distance) (n low high a : ℕ) : Ty
   pub first : (b : ℕ) → low ≤ b → tight t row n b ≡ true → a ≤ b
 
 module _ (t : Task) (row : List Distance) (n : ℕ) where
-  first-here : (low count : ℕ) → tight t row n low ≡ true → firstAction t row n low (suc count) ≡ low
+  pub first-here : (low count : ℕ) → tight t row n low ≡ true → firstAction t row n low (suc count) ≡ low
   unfolding firstAction
   first-here low count e = rw e
 
-  first-later : (low count : ℕ) → tight t row n low ≡ false → firstAction t row n low (suc count) ≡ firstAction t row n (low + 1) count
+  pub first-later : (low count : ℕ) → tight t row n low ≡ false → firstAction t row n low (suc count) ≡ firstAction t row n (low + 1) count
   unfolding firstAction
   first-later low count e = rw e
 
@@ -71,6 +71,7 @@ actionFrom t n = firstAction t (distances t) n 0 (actionCount t)
 -- the first step leads to a state whose distance is one step less
 pub record LeadsOn (t : Task) (n : ℕ) : Type 0 where
   pub below : actionFrom t n < actionCount t
+  pub passes : tight t (distances t) n (actionFrom t n) ≡ true
   pub applies : applicable (actionOf t (actionFrom t n)) (stateAt (t .variables) n) ≡ true
   pub inside : nextState t (actionFrom t n) n < stateCount (t .variables)
   pub next : Total
@@ -138,6 +139,7 @@ module _ (t : Task) (valid : Valid t) where
       let y = stepTo-is-some (actionOf t a) _ x (step ∙ e) in
       record {
         below = omega (arith, f .below);
+        passes = f .passes;
         applies = applies;
         inside = next-below t valid a n;
         next = y .0;

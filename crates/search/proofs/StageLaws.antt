@@ -18,7 +18,7 @@ use Rattle.files.specs.Stages.{Stage, outcomeOf, leftBy, answerBy}
 use Rattle.files.specs.Task.{Task, actionCount}
 use Rattle.files.specs.TaskFile.{checkTask, taskOf}
 use Rattle.files.proofs.Guards.{is-done, is-refused, done-number, passed, both-done}
-use Rattle.files.proofs.Logic.{split, split-option, and-join}
+use Rattle.files.proofs.Logic.{clash, split, split-option, and-join}
 use Rattle.files.proofs.OriginRoundTrip.{origin-read-as}
 use Rattle.files.proofs.Stages.{left-last, by-first, by-second, given-whole, given-refused}
 use Rattle.files.proofs.TaskChecked.{task-accepted}
@@ -36,21 +36,20 @@ use Rattle.reduction.proofs.Preservation.{reduction-preserves, reduction-accept
 use Rattle.search.specs.declared.Entry.{Entry}
 use Rattle.search.specs.declared.Planned.{Planned}
 use Rattle.search.specs.declared.stages.Found.{Found}
-use Rattle.search.specs.declared.stages.Run.{Run}
 use Rattle.search.specs.States.{stateCount}
 use Rattle.search.specs.Table.{entry}
-use Rattle.search.specs.FirstPlan.{firstPlan}
+use Rattle.search.specs.FirstPlan.{firstPlan, foundPlan}
 use Rattle.search.specs.Least.{PlanFirst}
 use Rattle.search.specs.Entries.{entriesIn}
-use Rattle.search.specs.Planner.{planLevel, searched, searchedStates, planFound, planMade, statesFit, planFits, SearchBuffers, searchBuffers, searchStages, lent, unplanned, planWhole, planStages}
-use Rattle.search.specs.Found.{foundPlan, foundStates, foundWhole, notFound, SearchesRoom, bothTogether, PlansRoom}
-use Rattle.search.proofs.FoundLaws.{no-entries, plan-is}
+use Rattle.search.specs.Planner.{planLevel, searched, searchedStates, planFound, planMade, statesFit, planFits, SearchBuffers, searchBuffers, searchStages, lent, unplanned, planWhole, planStages, Plans}
+use Rattle.search.specs.Found.{foundStates, foundWhole, notFound, Searches, FilesWritten, CanSearchFiles, SearchesFiles, bothTogether}
+use Rattle.search.proofs.FoundLaws.{plan-is}
 use Rattle.search.proofs.LeastPlans.{search-least}
 
 module _ (first : Reduced) (found : Found) where
-  pub together-refused : (p : Planned) → p ≡ unplanned (found .outcome) → (found .outcome .number ≡ 0 → ⊥) → record { planned = p; states = found .states } ≡ bothTogether first found
+  pub together-refused : (p : Planned) → p ≡ unplanned (found .outcome) → (found .outcome .number ≡ 0 → ⊥) → p ≡ bothTogether first found
   unfolding bothTogether
-  together-refused p e d = rw (is-refused (found .outcome) d) (λ i. record { planned = e i; states = found .states })
+  together-refused p e d = rw (is-refused (found .outcome) d) e
 
   abbrev both-planned : Planned
   both-planned =
@@ -67,25 +66,9 @@ module _ (first : Reduced) (found : Found) where
         steps = found .steps;
       }
 
-  pub together-done : found .outcome .number ≡ 0 → record { planned = both-planned; states = found .states } ≡ bothTogether first found
+  pub together-done : found .outcome .number ≡ 0 → both-planned ≡ bothTogether first found
   unfolding bothTogether
   together-done z = rw (is-done (found .outcome) z) refl
-
--- how many entries are filled
-module _ (t : Task) (room : ℕ) where
-  states-bounded : isDone (statesFit t room) ≡ true → (stateCount (t .variables) ≤ 4096) × (stateCount (t .variables) ≤ room)
-  unfolding statesFit fits
-  states-bounded e =
-      let few = passed (leb (stateCount (t .variables)) 4096) 25 0 _ (omega arith) (done-number (statesFit t room) e) in
-      let short = passed (leb (stateCount (t .variables)) room) 21 (stateCount (t .variables)) done (omega arith) (few .1) in
-      (leb-true _ _ (few .0), leb-true _ _ (short .0))
-
-  pub filled-bounded : (n : ℕ) → n ≡ foundStates t room → (n ≤ room) × (n ≤ 4096)
-  unfolding foundStates
-  filled-bounded n e =
-      split (isDone (statesFit t room))
-      (λ w. let b = states-bounded w in let q : n ≡ stateCount (t .variables) = e ∙ rw w refl in (omega arith, omega arith))
-      (λ w. let q : n ≡ 0 = e ∙ rw w refl in (omega arith, omega arith))
 
 module _ (task : List ℕ) (signer : ℕ) (before : Buffers) (first : Reduced) (after : Buffers) (k : Reduces task planLevel signer before first after) where
   abbrev t : Task
@@ -107,19 +90,16 @@ module _ (task : List ℕ) (signer : ℕ) (before : Buffers) (first : Reduced) (
       (λ n. is-done (outcomeOf files-row) (sym (ap (λ (x : Reduced). x .outcome .number) (given-refused k n)) ∙ z))
 
   -- reduction refuses
-  pub plans-early : (first .outcome .number ≡ 0 → ⊥) → (room : ℕ) (plan : List ℕ) (p : Planned) → p ≡ unplanned (first .outcome)
-      → (numbers : List ℕ) → PlansRoom task signer room before plan (record { planned = p; states = 0 }) after (entriesIn numbers 0) plan
-  unfolding planStages overwrite
-  plans-early d room plan p q numbers =
+  plans-early : (first .outcome .number ≡ 0 → ⊥) → (b now : SearchBuffers) (found : Found) → found ≡ notFound 0 (first .outcome) → now ≡ b
+      → (p : Planned) → p ≡ bothTogether first found → Plans task signer (lent before (b .table) (b .plan)) p (lent after (now .table) (now .plan))
+  unfolding planStages bothTogether
+  plans-early d b now found f same p q =
       let n = row-refused d in
       let is : first .outcome ≡ outcomeOf files-row = ap (λ (x : Reduced). x .outcome) (given-refused k n) in
-      record {
-        plans = λ table len.
-            by-first files-row (searchStages u (planFound task) signer (searchBuffers table plan)) _ _ before n (q ∙ ap unplanned is)
-            (λ i. lent (k .buffers i) (ap (overwrite table) (no-entries numbers) i) plan);
-        states-inside = omega arith;
-        states-few = omega arith;
-      }
+      let no : isDone (found .outcome) ≡ false = ap (λ (x : Found). isDone (x .outcome)) f ∙ is-refused (first .outcome) d in
+      by-first files-row (searchStages u (planFound task) signer b) _ _ before n
+      (q ∙ rw no refl ∙ ap unplanned (ap (λ (x : Found). x .outcome) f ∙ is))
+      (λ i. lent (k .buffers i) (same i .table) (same i .plan))
 
   -- reduction is done: its files say what they should
   module _ (z : first .outcome .number ≡ 0) (octets : Octets task) (small : signer < 2 ^ 32) where
@@ -168,147 +148,145 @@ module _ (task : List ℕ) (signer : ℕ) (before : Buffers) (first : Reduced) (
     filled = k .buffers ∙ left-last (_ ∷ []) _ before (row-done z)
 
     -- the parts of the buffers that hold the files
-    part : (n : ℕ) (file new old : List ℕ) → n ≡ length file → new ≡ overwrite old file → take (n - 0) new ≡ file
+    part : (n : ℕ) (file new old : List ℕ) → n ≡ length file → new ≡ overwrite old file → take n new ≡ file
     unfolding overwrite
-    part n file new old e q = ap₂ (λ (m : ℕ) (l : List ℕ). take m l) (let s : n - 0 ≡ length file = omega arith in s) q ∙ take-append-seam file _
+    part n file new old e q = ap₂ (λ (m : ℕ) (l : List ℕ). take m l) e q ∙ take-append-seam file _
 
     room-for : (n : ℕ) (file new old : List ℕ) → n ≡ length file → new ≡ overwrite old file → n ≤ length new
     unfolding overwrite
     room-for n file new old e q = omega (arith, ap length q, length-append file (drop (length file) old))
 
-    pub reduced-part : take (first .reduced - 0) (after .reduced) ≡ reduced-bytes
-    reduced-part = part (first .reduced) reduced-bytes (after .reduced) (before .reduced) (ap (λ (x : Reduced). x .reduced) numbers) (ap (λ (x : Buffers). x .reduced) filled)
+    abbrev file : List ℕ
+    file = take (first .reduced) (after .reduced)
 
-    pub origin-part : take (first .origin - 0) (after .origin) ≡ origin-bytes
-    origin-part = part (first .origin) origin-bytes (after .origin) (before .origin) (ap (λ (x : Reduced). x .origin) numbers) (ap (λ (x : Buffers). x .origin) filled)
+    abbrev origins : List ℕ
+    origins = take (first .origin) (after .origin)
 
-    pub reduced-fits : first .reduced ≤ length (after .reduced)
-    reduced-fits = room-for (first .reduced) reduced-bytes (after .reduced) (before .reduced) (ap (λ (x : Reduced). x .reduced) numbers) (ap (λ (x : Buffers). x .reduced) filled)
+    f : file ≡ reduced-bytes
+    f = part (first .reduced) reduced-bytes (after .reduced) (before .reduced) (ap (λ (x : Reduced). x .reduced) numbers) (ap (λ (x : Buffers). x .reduced) filled)
 
-    pub origin-fits : first .origin ≤ length (after .origin)
-    origin-fits = room-for (first .origin) origin-bytes (after .origin) (before .origin) (ap (λ (x : Reduced). x .origin) numbers) (ap (λ (x : Buffers). x .origin) filled)
+    g : origins ≡ origin-bytes
+    g = part (first .origin) origin-bytes (after .origin) (before .origin) (ap (λ (x : Reduced). x .origin) numbers) (ap (λ (x : Buffers). x .origin) filled)
 
     -- what the search asks of the files
-    module _ (file origins : List ℕ) (f : file ≡ reduced-bytes) (g : origins ≡ origin-bytes) where
-      pub file-checked : checkTask file ≡ done
-      file-checked = ap checkTask f ∙ task-read-as reduced-bytes (reducedTask t planLevel) signer (files .reduced-reads) .0
+    enough-numbers : actionCount (taskOf file) ≤ length (originOf origins .actions)
+    unfolding searched reducedTask reducedBy originsAt originBy
+    enough-numbers =
+        let actions : length (taskOf file .actions) ≡ length (keptActions t (keptAt t planLevel)) =
+        ap (λ (x : List ℕ). length (taskOf x .actions)) f ∙ ap (λ (x : Task). length (x .actions)) same-task ∙ length-map (keptActions t (keptAt t planLevel)) _ in
+        let numbers : length (originOf origins .actions) ≡ length (keptActions t (keptAt t planLevel)) =
+        ap (λ (x : List ℕ). length (originOf x .actions)) g ∙ ap (λ (x : Origin). length (x .actions)) same-origin in
+        omega arith
 
-      pub enough-numbers : actionCount (taskOf file) ≤ length (originOf origins .actions)
-      unfolding searched reducedTask reducedBy originsAt originBy
-      enough-numbers =
-          let actions : length (taskOf file .actions) ≡ length (keptActions t (keptAt t planLevel)) =
-          ap (λ (x : List ℕ). length (taskOf x .actions)) f ∙ ap (λ (x : Task). length (x .actions)) same-task ∙ length-map (keptActions t (keptAt t planLevel)) _ in
-          let numbers : length (originOf origins .actions) ≡ length (keptActions t (keptAt t planLevel)) =
-          ap (λ (x : List ℕ). length (originOf x .actions)) g ∙ ap (λ (x : Origin). length (x .actions)) same-origin in
-          omega arith
+    files-written : FilesWritten first (after .reduced) (after .origin)
+    files-written =
+        record {
+          reduced-fits = room-for (first .reduced) reduced-bytes (after .reduced) (before .reduced) (ap (λ (x : Reduced). x .reduced) numbers) (ap (λ (x : Buffers). x .reduced) filled);
+          origin-fits = room-for (first .origin) origin-bytes (after .origin) (before .origin) (ap (λ (x : Reduced). x .origin) numbers) (ap (λ (x : Buffers). x .origin) filled);
+          checked = ap checkTask f ∙ task-read-as reduced-bytes (reducedTask t planLevel) signer (files .reduced-reads) .0;
+          numbers = enough-numbers;
+        }
 
-      -- the search of the reduced task, by original numbers
-      module _ (room : ℕ) (plan : List ℕ) (found : Found) (fill : ℕ → List Entry) (now : List ℕ) (w : SearchesRoom (taskOf file) (byOriginFile origins) signer room plan found (fill (found .states)) now) where
-        abbrev entries : List Entry
-        entries = fill (found .states)
+    -- the search of the reduced task, by original numbers
+    module _ (b now : SearchBuffers) (found : Found) (w : Searches (taskOf file) (byOriginFile origins) signer b found now) where
+      searches : Searches u (byOriginal t planLevel) signer b found now
+      searches =
+          subst (λ (h : List ℕ → List ℕ). Searches u h signer b found now) (ap byOriginFile g ∙ same-numbers)
+          (subst (λ (x : Task). Searches x (byOriginFile origins) signer b found now) (ap taskOf f ∙ same-task) w)
 
-        searches : SearchesRoom u (byOriginal t planLevel) signer room plan found entries now
-        searches =
-            subst (λ (h : List ℕ → List ℕ). SearchesRoom u h signer room plan found entries now) (ap byOriginFile g ∙ same-numbers)
-            (subst (λ (x : Task). SearchesRoom x (byOriginFile origins) signer room plan found entries now) (ap taskOf f ∙ same-task) w)
+      abbrev search-row : List (Stage SearchBuffers)
+      search-row = searchStages u (planFound task) signer b
 
-        abbrev search-row : List Entry → List (Stage SearchBuffers)
-        search-row table = searchStages u (planFound task) signer (searchBuffers table plan)
+      -- the plan by original numbers
+      made : planMade task ≡ byOriginal t planLevel (foundPlan u)
+      unfolding planMade planFound foundPlan byOriginal
+      made = split-option (firstPlan u) (λ e. rw e refl) (λ p e. rw e refl)
 
-        -- the plan by original numbers
-        made : planMade task ≡ byOriginal t planLevel (foundPlan u)
-        unfolding planMade planFound foundPlan byOriginal
-        made = split-option (firstPlan u) (λ e. rw e refl) (λ p e. rw e refl)
+      -- where all is done
+      module _ (y : isDone (outcomeOf search-row) ≡ true) where
+        stages : (statesFit u (length (b .table)) .number ≡ 0) × (planFits (planFound task) signer (length (b .plan)) .number ≡ 0)
+        unfolding searchStages
+        stages =
+            let both = both-done (statesFit u (length (b .table))) _ (done-number _ y) in
+            (both .0, both-done (planFits (planFound task) signer (length (b .plan))) _ (both .1) .0)
 
-        -- where all is done
-        module _ (table : List Entry) (y : isDone (outcomeOf (search-row table)) ≡ true) where
-          stages : (statesFit u (length table) .number ≡ 0) × (planFits (planFound task) signer (length plan) .number ≡ 0)
-          unfolding searchStages
-          stages =
-              let both = both-done (statesFit u (length table)) _ (done-number _ y) in
-              (both .0, both-done (planFits (planFound task) signer (length plan)) _ (both .1) .0)
+        plan-there : (plan : List ℕ) × (firstPlan u ≡ some plan)
+        unfolding planFits planFound
+        plan-there =
+            split-option (firstPlan u)
+            (λ e.
+            let q : planFits (Option·map (byOriginal t planLevel) none) signer (length (b .plan)) .number ≡ 0 =
+            ap (λ (p : Option (List ℕ)). planFits (Option·map (byOriginal t planLevel) p) signer (length (b .plan)) .number) (sym e) ∙ stages .1 in
+            absurd (let k : _≡_ {A = ℕ} 24 0 = q in omega arith))
+            (λ p e. (p, e))
 
-          plan-there : (plan : List ℕ) × (firstPlan u ≡ some plan)
-          unfolding planFits planFound
-          plan-there =
-              split-option (firstPlan u)
-              (λ e.
-              let q : planFits (Option·map (byOriginal t planLevel) none) signer (length plan) .number ≡ 0 =
-              ap (λ (p : Option (List ℕ)). planFits (Option·map (byOriginal t planLevel) p) signer (length plan) .number) (sym e) ∙ stages .1 in
-              absurd (let k : _≡_ {A = ℕ} 24 0 = q in omega arith))
-              (λ p e. (p, e))
+        valid : Valid u
+        unfolding searched
+        valid = task-valid (reducedTask t planLevel) (reduction-accepted t planLevel accepted)
 
-          valid : Valid u
-          unfolding searched
-          valid = task-valid (reducedTask t planLevel) (reduction-accepted t planLevel accepted)
+        found-plan : IsPlan u (foundPlan u)
+        found-plan =
+            let p = plan-there .0 in
+            let e = plan-there .1 in
+            let w : PlanFirst u (some p) = subst (PlanFirst u) e (search-least u valid .plan) in
+            subst (IsPlan u) (sym (plan-is u p e)) (w .0 .best .isPlan)
 
-          found-plan : IsPlan u (foundPlan u)
-          found-plan =
-              let p = plan-there .0 in
-              let e = plan-there .1 in
-              let w : PlanFirst u (some p) = subst (PlanFirst u) e (search-least u valid .plan) in
-              subst (IsPlan u) (sym (plan-is u p e)) (w .0 .best .isPlan)
+        totals : totalOf u (foundPlan u) ≡ totalOf t (planMade task)
+        unfolding searched
+        totals = sym (ap (totalOf t) made ∙ reduction-preserves t planLevel accepted .plan-back (foundPlan u) found-plan .1)
 
-          totals : totalOf u (foundPlan u) ≡ totalOf t (planMade task)
-          unfolding searched
-          totals = sym (ap (totalOf t) made ∙ reduction-preserves t planLevel accepted .plan-back (foundPlan u) found-plan .1)
-
-          whole-is : bothTogether (reduceWhole t planLevel signer) (foundWhole u (byOriginal t planLevel) signer) .planned ≡ planWhole task signer
-          unfolding bothTogether isDone searchedStates
-          whole-is =
-              λ i. record {
-                outcome = done;
-                «action_marks» = planWhole task signer .«action_marks»;
-                «fact_marks» = planWhole task signer .«fact_marks»;
-                reduced = planWhole task signer .reduced;
-                origin = planWhole task signer .origin;
-                table = planWhole task signer .table;
-                plan = ap (λ (p : List ℕ). length (planFile p signer)) (sym made) i;
-                rounds = planWhole task signer .rounds;
-                cost = record { 0 = totals i .minutes };
-                steps = record { 0 = totals i .steps };
-              }
-
-        module _ (table : List Entry) (len : length table ≡ room) where
-          search-whole : isDone (outcomeOf (search-row table)) ≡ true → found ≡ foundWhole u (byOriginal t planLevel) signer
-          unfolding planFound
-          search-whole y = given-whole (searches table len) y
-
-          search-refused : isDone (outcomeOf (search-row table)) ≡ false → found ≡ notFound (foundStates u (length table)) (outcomeOf (search-row table))
-          unfolding planFound
-          search-refused n = given-refused (searches table len) n
-
-          answer-is : (r : Run) → r ≡ bothTogether first found → r .planned ≡ answerBy (search-row table) (planWhole task signer) unplanned
-          unfolding bothTogether
-          answer-is r q =
-              split (isDone (outcomeOf (search-row table)))
-              (λ y. rw y (ap (λ (x : Run). x .planned) q ∙ ap₂ (λ (x : Reduced) (y : Found). bothTogether x y .planned) numbers (search-whole y) ∙ whole-is table y))
-              (λ n.
-              let no : found .outcome ≡ outcomeOf (search-row table) = ap (λ (x : Found). x .outcome) (search-refused n) in
-              rw n (ap (λ (x : Run). x .planned) q ∙ rw (ap isDone no ∙ n) (ap unplanned no)))
-
-          filled-states : found .states ≡ foundStates u room
-          unfolding foundStates
-          filled-states =
-              split (isDone (outcomeOf (search-row table)))
-              (λ y. ap (λ (x : Found). x .states) (search-whole y) ∙ sym (rw (ap (λ (n : ℕ). isDone (statesFit u n)) (sym len) ∙ is-done _ (stages table y .0)) refl))
-              (λ n. ap (λ (x : Found). x .states) (search-refused n) ∙ ap (foundStates u) len)
-
-        search-buffers : (table : List Entry) → length table ≡ room → searchBuffers (overwrite table entries) now ≡ leftBy (search-row table) (searchBuffers table plan)
-        unfolding planFound
-        search-buffers table len = searches table len .buffers
-
-        pub plans-late : (r : Run) → r ≡ bothTogether first found → PlansRoom task signer room before plan r after (fill (r .states)) now
-        unfolding planStages bothTogether
-        plans-late r q =
-            let states : r .states ≡ found .states = ap (λ (x : Run). x .states) q in
-            let bounded = filled-bounded u room (r .states) (states ∙ filled-states (replicate room (entry 0 0)) (length-replicate room (entry 0 0))) in
-            record {
-              plans = λ table len.
-                  by-second files-row (search-row table) _ _ before (row-done z) (searchBuffers table plan) (searchBuffers (overwrite table entries) now)
-                  (λ i. lent ((sym (k .buffers) ∙ filled) i) table plan)
-                  (λ i. lent (filled i) (overwrite table (fill (states i))) now)
-                  (record { answer = answer-is table len r q; buffers = search-buffers table len });
-              states-inside = bounded .0;
-              states-few = bounded .1;
+        whole-is : bothTogether (reduceWhole t planLevel signer) (foundWhole u (byOriginal t planLevel) signer) ≡ planWhole task signer
+        unfolding bothTogether isDone searchedStates
+        whole-is =
+            λ i. record {
+              outcome = done;
+              «action_marks» = planWhole task signer .«action_marks»;
+              «fact_marks» = planWhole task signer .«fact_marks»;
+              reduced = planWhole task signer .reduced;
+              origin = planWhole task signer .origin;
+              table = planWhole task signer .table;
+              plan = ap (λ (p : List ℕ). length (planFile p signer)) (sym made) i;
+              rounds = planWhole task signer .rounds;
+              cost = record { 0 = totals i .minutes };
+              steps = record { 0 = totals i .steps };
             }
+
+      search-whole : isDone (outcomeOf search-row) ≡ true → found ≡ foundWhole u (byOriginal t planLevel) signer
+      unfolding planFound
+      search-whole y = given-whole searches y
+
+      search-refused : isDone (outcomeOf search-row) ≡ false → found ≡ notFound (foundStates u (length (b .table))) (outcomeOf search-row)
+      unfolding planFound
+      search-refused n = given-refused searches n
+
+      answer-is : (p : Planned) → p ≡ bothTogether first found → p ≡ answerBy search-row (planWhole task signer) unplanned
+      unfolding bothTogether
+      answer-is p q =
+          split (isDone (outcomeOf search-row))
+          (λ y. rw y (q ∙ ap₂ bothTogether numbers (search-whole y) ∙ whole-is y))
+          (λ n.
+          let no : found .outcome ≡ outcomeOf search-row = ap (λ (x : Found). x .outcome) (search-refused n) in
+          rw n (q ∙ rw (ap isDone no ∙ n) (ap unplanned no)))
+
+      search-buffers : now ≡ leftBy search-row b
+      unfolding planFound
+      search-buffers = searches .buffers
+
+      plans-late : (p : Planned) → p ≡ bothTogether first found → Plans task signer (lent before (b .table) (b .plan)) p (lent after (now .table) (now .plan))
+      unfolding planStages
+      plans-late p q =
+          by-second files-row search-row _ _ before (row-done z) b now
+          (λ i. lent ((sym (k .buffers) ∙ filled) i) (b .table) (b .plan))
+          (λ i. lent (filled i) (now .table) (now .plan))
+          (record { answer = answer-is p q; buffers = search-buffers })
+
+  module _ (octets : Octets task) (small : signer < 2 ^ 32) where
+    pub can-search-files : CanSearchFiles first (after .reduced) (after .origin)
+    can-search-files z = files-written z octets small
+
+    pub plans-both : (b now : SearchBuffers) (found : Found) → SearchesFiles first (after .reduced) (after .origin) signer b found now
+        → (p : Planned) → p ≡ bothTogether first found → Plans task signer (lent before (b .table) (b .plan)) p (lent after (now .table) (now .plan))
+    plans-both b now found w p q =
+        split (isDone (first .outcome))
+        (λ y. let z = done-number (first .outcome) y in plans-late z octets small b now found (w .searches z) p q)
+        (λ n. let d : first .outcome .number ≡ 0 → ⊥ = λ z. clash (is-done (first .outcome) z) n in plans-early d b now found (w .refused d .0) (w .refused d .1) p q)

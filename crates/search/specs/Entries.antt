@@ -9,7 +9,7 @@ use lib.ListN.{length, getD}
 use Rattle.files.specs.Below.{tabulate}
 use Rattle.files.specs.Task.{Action}
 use Rattle.plans.specs.Plan.{Total, noSteps, addStep, atMost}
-use Rattle.search.specs.Table.{entry, entryOf}
+use Rattle.search.specs.Table.{entry, minutesOf, stepsOf, entryOf}
 use Rattle.search.specs.declared.Entry.{Entry}
 
 -- the entry of none, and whether an entry is that
@@ -17,7 +17,7 @@ abbrev pub noEntry : Entry
 noEntry = entryOf none
 
 unfoldable pub isNone : Entry → Bool
-isNone e = eqb (e .minutes) (noEntry .minutes)
+isNone e = eqb (minutesOf e) (minutesOf noEntry)
 
 -- the entry of a state before any step: nothing where the goal holds, else none
 abbrev pub firstEntry : Bool → Entry
@@ -26,7 +26,7 @@ firstEntry false = noEntry
 
 -- cost and steps of an entry
 abbrev pub entryTotal : Entry → Total
-entryTotal e = record { minutes = e .minutes; steps = e .steps }
+entryTotal e = record { minutes = minutesOf e; steps = stepsOf e }
 
 -- the order on entries as numbers: that of none is above those of every plan
 unfoldable pub lessEntry : Entry → Entry → Bool
@@ -46,8 +46,8 @@ afterStep a e = let x = addStep a (entryTotal e) in entry (x .minutes) (x .steps
 
 -- an entry whose numbers have room for one step more
 pub record Low (e : Entry) : Type 0 where
-  pub minutes : e .minutes < 18446744073000000000
-  pub steps : e .steps < 65535
+  pub minutes : minutesOf e < 18446744073000000000
+  pub steps : stepsOf e < 65535
 
 -- and a step that it has room for
 pub record StepOn (e : Entry) (cost : ℕ) : Type 0 where

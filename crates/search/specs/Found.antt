@@ -20,7 +20,7 @@ use Rattle.reduction.specs.Preserved.{byOriginFile}
 use Rattle.reduction.specs.Reduce.{Buffers}
 use Rattle.reduction.specs.declared.Reduced.{Reduced}
 use Rattle.search.specs.States.{stateCount}
-use Rattle.search.specs.Table.{tableOf}
+use Rattle.search.specs.Table.{stepsOf, tableOf}
 use Rattle.search.specs.Entries.{isNone, Holds}
 use Rattle.search.specs.Rows.{Searchable}
 use Rattle.search.specs.FirstPlan.{startNumber, firstPlan, foundPlan}
@@ -108,9 +108,9 @@ pub record SearchedFiles (first : Reduced) (reduced origin : List ℕ) (room : �
 -- where the table is filled, by the entry of the start state: no plan, no room for it, or its file's length, its cost and its steps
 unfoldable pub planBy : ℕ → Entry → ℕ → Found
 planBy states e room =
-    let size = 16 + 2 * e .steps in
+    let size = 16 + 2 * stepsOf e in
     let o = cond (isNone e) (refusal 24 0) (fits size room done) in
-    cond (isDone o) (record { outcome = done; states = states; plan = size; cost = record { 0 = e .minutes }; steps = record { 0 = e .steps } }) (notFound states o)
+    cond (isDone o) (record { outcome = done; states = states; plan = size; cost = e .minutes; steps = e .steps }) (notFound states o)
 
 unfoldable pub foundBy : Searched → Entry → ℕ → Found
 foundBy s e room = cond (isDone (s .outcome)) (planBy (s .states) e room) (notFound 0 (s .outcome))

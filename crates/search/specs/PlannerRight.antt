@@ -17,7 +17,7 @@ use Rattle.plans.specs.Plan.{IsPlan, totalOf, Best, FirstBest}
 use Rattle.reduction.specs.Task.{reducedTask}
 use Rattle.reduction.specs.Answers.{LongEnough}
 use Rattle.search.specs.States.{stateCount}
-use Rattle.search.specs.Table.{entryOf}
+use Rattle.search.specs.Table.{minutesOf, stepsOf, entryOf}
 use Rattle.search.specs.Least.{startedAt}
 use Rattle.search.specs.Planner.{planLevel, Lent, Plans, planAnswer}
 use Rattle.search.specs.declared.Entry.{Entry}
@@ -46,7 +46,7 @@ pub record HandedBack (t : Task) (signer : ℕ) (answer : Planned) (buffer : Lis
 -- lists of any length
 pub record EntryRight (t : Task) (e : Entry) : Type 0 where
   pub no-plan : (e ≡ entryOf none) ↔ ((plan : List ℕ) → IsPlan t plan → ⊥)
-  pub otherwise : (e ≡ entryOf none → ⊥) → (plan : List ℕ) × Best t plan × (e .minutes ≡ totalOf t plan .minutes) × (e .steps ≡ length plan)
+  pub otherwise : (e ≡ entryOf none → ⊥) → (plan : List ℕ) × Best t plan × (minutesOf e ≡ totalOf t plan .minutes) × (stepsOf e ≡ length plan)
 
 pub record PlannerRight (task : List ℕ) (signer : ℕ) (answer : Planned) (now : Lent) : Type 0 where
   -- "no plan" is given exactly when the full task has none

@@ -16,7 +16,7 @@ use Rattle.plans.specs.Tally.{listState}
 use Rattle.plans.specs.declared.ReducedAction.{ReducedAction}
 use Rattle.reduction.specs.Preserved.{byOriginFile}
 use Rattle.search.specs.States.{stateCount, stateAt}
-use Rattle.search.specs.Table.{entryOf, same, through, nextState, distances}
+use Rattle.search.specs.Table.{stepsOf, entryOf, same, through, nextState, distances}
 use Rattle.search.specs.FirstPlan.{firstAction, startNumber, foundPlan}
 use Rattle.search.specs.Entries.{isNone, sameEntry, afterStep, Low}
 use Rattle.search.specs.Rows.{rowVariables, rowStates, Searchable}
@@ -137,7 +137,7 @@ pub record PlanIn (t : Task) (look : ℕ → Entry) (steps : ℕ) (searched : Se
   pub entries-are : (s : ℕ) → s < stateCount (t .variables) → look s ≡ entryOf (getD (distances t) s none)
   pub start-is : searched .start ≡ startNumber t
   pub reached : isNone (look (searched .start)) ≡ false
-  pub steps-are : steps ≡ look (searched .start) .steps
+  pub steps-are : steps ≡ stepsOf (look (searched .start))
 
 -- the steps of the plan are written behind the head, by original numbers
 pub record StepsWritten (look : ℕ → Entry) (plan : List ℕ) (steps : ℕ) (searched : Searched) (origin sizes costs conditions effects now : List ℕ) : Type 0 where

@@ -64,8 +64,15 @@ distancesIn t (suc k) =
 unfoldable pub distances : Task → List Distance
 distances t = distancesIn t (stateCount (t .variables) - 1)
 
+-- an entry of so many minutes and steps, and those of an entry
 abbrev pub entry : ℕ → ℕ → Entry
-entry minutes steps = record { minutes = minutes; steps = steps }
+entry minutes steps = record { minutes = record { 0 = minutes }; steps = record { 0 = steps } }
+
+abbrev pub minutesOf : Entry → ℕ
+minutesOf e = e .minutes .0
+
+abbrev pub stepsOf : Entry → ℕ
+stepsOf e = e .steps .0
 
 unfoldable pub entryOf : Distance → Entry
 entryOf none = entry (2 ^ 64 - 1) 65535

@@ -8,14 +8,16 @@ ghost use Rattle.search.specs.Entries.{noEntry, isNone, firstEntry, less
 ghost use Rattle.search.specs.Settling.{CanLower};
 ghost use Rattle.search.specs.Rows.{Offers};
 use crate::Entry;
+use plans::Minutes;
+use plans::Steps;
 
 // The entry of a state from which the goal cannot be reached.
 pub fn none() -> Entry
     ensures { λ r. ⌜ r ≡ noEntry ⌝ }
 {
     Entry {
-        minutes: 18446744073709551615,
-        steps: 65535,
+        minutes: Minutes(18446744073709551615),
+        steps: Steps(65535),
     }
 }
 
@@ -24,7 +26,7 @@ pub fn is_none(entry: Entry) -> bool
     ensures { λ r. ⌜ r ≡ isNone entry ⌝ }
 {
     let far = none();
-    entry.minutes == far.minutes
+    entry.minutes.0 == far.minutes.0
 }
 
 // The entry of a state before any step: nothing where the goal holds, else none.
@@ -33,8 +35,8 @@ pub fn first(reached: bool) -> Entry
 {
     if reached {
         return Entry {
-            minutes: 0,
-            steps: 0,
+            minutes: Minutes(0),
+            steps: Steps(0),
         };
     }
     none()
@@ -44,11 +46,11 @@ pub fn first(reached: bool) -> Entry
 pub fn less(first: Entry, second: Entry) -> bool
     ensures { λ r. ⌜ r ≡ lessEntry first second ⌝ }
 {
-    if first.minutes < second.minutes {
+    if first.minutes.0 < second.minutes.0 {
         return true;
     }
-    if first.minutes == second.minutes {
-        return first.steps < second.steps;
+    if first.minutes.0 == second.minutes.0 {
+        return first.steps.0 < second.steps.0;
     }
     false
 }
@@ -64,13 +66,13 @@ pub fn same(first: Entry, second: Entry) -> bool
 }
 
 // An entry with one step more in front, by an action of this cost.
-pub fn after_step(entry: Entry, cost: u32) -> Entry
-    requires { ⌜ StepOn entry cost ⌝ }
-    ensures { λ r. ⌜ ((a : Action) → a .cost ≡ cost → r ≡ afterStep a entry) ⌝ }
+pub fn after_step(entry: Entry, cost: Minutes) -> Entry
+    requires { ⌜ StepOn entry (cost .0) ⌝ }
+    ensures { λ r. ⌜ ((a : Action) → a .cost ≡ cost .0 → r ≡ afterStep a entry) ⌝ }
 {
     Entry {
-        minutes: cost as u64 + entry.minutes,
-        steps: entry.steps + 1,
+        minutes: Minutes(cost.0 + entry.minutes.0),
+        steps: Steps(entry.steps.0 + 1),
     }
 }
 
@@ -80,8 +82,8 @@ pub fn entry_at(entries: &[u64], state: usize) -> Entry
     ensures { λ r. ⌜ r ≡ entryIn (now (entries .entry)) state ⌝ }
 {
     Entry {
-        minutes: entries[2 * state],
-        steps: (entries[2 * state + 1] % 65536) as u16,
+        minutes: Minutes(entries[2 * state]),
+        steps: Steps((entries[2 * state + 1] % 65536) as u16),
     }
 }
 
@@ -90,8 +92,8 @@ pub fn put_entry(entries: &mut [u64], state: usize, entry: Entry)
     requires { ⌜ Holds (now entries) (state + 1) ⌝ }
     ensures { λ r. ⌜ Put (now (entries .entry)) state entry (now (entries .exit)) ⌝ }
 {
-    entries[2 * state] = entry.minutes;
-    entries[2 * state + 1] = entry.steps as u64;
+    entries[2 * state] = entry.minutes.0;
+    entries[2 * state + 1] = entry.steps.0 as u64;
 }
 
 // Offers a state an entry; its block is marked as changed where it takes it.

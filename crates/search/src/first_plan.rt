@@ -10,6 +10,7 @@ use crate::Entry;
 use crate::entries;
 use crate::stages::Searched;
 use crate::states;
+use plans::Minutes;
 use plans::OriginalAction;
 use plans::ReducedAction;
 
@@ -86,7 +87,7 @@ pub fn choose(
     if entries::is_none(next) {
         return first;
     }
-    if entries::same(entries::after_step(next, costs[a]), own) {
+    if entries::same(entries::after_step(next, Minutes(costs[a] as u64)), own) {
         return ReducedAction(a as u16);
     }
     first

@@ -17,8 +17,8 @@ ghost use Rattle.search.specs.PlannerRight.{PlansRight};
 // that cost; 2^64 - 1 and 65,535 where the goal cannot be reached. C callers lend such tables.
 #[repr(C)]
 pub struct Entry {
-    pub minutes: u64,
-    pub steps: u16,
+    pub minutes: plans::Minutes,
+    pub steps: plans::Steps,
 }
 
 // What the planner answers: the six lengths written, the round count, cost and steps, 0 beside a

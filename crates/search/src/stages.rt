@@ -181,18 +181,18 @@ pub fn begin(plan: &mut [u8], searched: Searched, entry: Entry) -> Found
     if entries::is_none(entry) {
         return not_found(outcomes::refuse(outcomes::NO_PLAN, 0), states);
     }
-    let steps = entry.steps as usize;
-    let needed = files::plan::needed(steps);
+    let steps = entry.steps;
+    let needed = files::plan::needed(steps.0 as usize);
     if plan.len() < needed {
         return not_found(outcomes::refuse(outcomes::SHORT_BUFFER, needed), states);
     }
-    files::plan::put_head(plan, steps);
+    files::plan::put_head(plan, steps.0 as usize);
     Found {
         outcome: outcome,
         states: states,
         plan: needed,
-        cost: Minutes(entry.minutes),
-        steps: Steps(entry.steps),
+        cost: entry.minutes,
+        steps: steps,
     }
 }
 

@@ -10,6 +10,7 @@ use crate::entries;
 use crate::states;
 use files::bytes;
 use files::limits;
+use plans::Minutes;
 
 const NO_PAIR: usize = limits::NO_PAIR as usize;
 
@@ -199,7 +200,7 @@ pub fn settle(
             &values,
             x,
             a,
-            entries::after_step(entry, costs[a]),
+            entries::after_step(entry, Minutes(costs[a] as u64)),
         );
         a += 1;
     }

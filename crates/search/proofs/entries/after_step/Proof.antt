@@ -3,8 +3,8 @@ use borrow.Author.Needs.{needs}
 use Rattle.search.proofs.entries.after_step.Statement.{statement}
 use Rattle.search.proofs.entries.after_step.Tie as tie
 
-add-t4 : tie.Need-add-t4
-add-t4 c = search needs
+add-t3 : tie.Need-add-t3
+add-t3 c = search needs
 
 add-t5 : tie.Need-add-t5
 add-t5 c = search needs
@@ -13,4 +13,4 @@ returns : tie.Need-returns
 returns c = λ a e. step-is a _ _ e
 
 pub after-step-spec : {M : Type 1} → statement M
-after-step-spec = tie.close (tie.spec add-t4 add-t5 returns)
+after-step-spec = tie.close (tie.spec add-t3 add-t5 returns)

@@ -2,6 +2,7 @@ use Prim.Native.Nat.{_*_}
 use native.Mathlib.Omega.{arith}
 use denote.Ref.{now}
 use lib.ListN.{length-set}
+use Rattle.search.specs.Table.{minutesOf}
 use Rattle.search.proofs.EntryLaws.{entry-put}
 use borrow.Author.Needs.{needs}
 use Rattle.search.proofs.entries.put_entry.Statement.{statement}
@@ -31,7 +32,7 @@ mul-entries-4 c = search needs
 slice-write-entries-2 : tie.Need-slice-write-entries-2
 slice-write-entries-2 c =
     let start = c .before in
-    omega (arith, start .pre, length-set (now (start .args .entries)) (2 * start .args .state) (start .args .entry .minutes))
+    omega (arith, start .pre, length-set (now (start .args .entries)) (2 * start .args .state) (minutesOf (start .args .entry)))
 
 same-length : tie.Need-same-length
 same-length c = search needs

@@ -31,11 +31,14 @@ values-of-requires c κs =
 loop-holds : tie.Need-loop-holds Inv-loop μ-loop
 loop-holds c = (actions-begin _ _ _ _ _ _ _ _ _ _ (c .before .before .before .before .before .pre), unchanged-none _ _, refl)
 
-mul-after-step : tie.Need-mul-after-step Inv-loop μ-loop
-mul-after-step c = search needs
+mul-t25 : tie.Need-mul-t25 Inv-loop μ-loop
+mul-t25 c = search needs
 
-element-copy-out-after-step : tie.Need-element-copy-out-after-step Inv-loop μ-loop
-element-copy-out-after-step c = omega (arith, c .before .before .before .loop-test .taken, c .before .before .before .before .loop .inv .0 .asked .actions-few)
+element-copy-out-t28 : tie.Need-element-copy-out-t28 Inv-loop μ-loop
+element-copy-out-t28 c = omega (arith, c .before .before .before .loop-test .taken, c .before .before .before .before .loop .inv .0 .asked .actions-few)
+
+cast-t29 : tie.Need-cast-t29 Inv-loop μ-loop
+cast-t29 c = let l = c .before .before .before .before .before .loop in omega (arith, l .inv .0 .asked .cost-most (l .a) (c .before .before .before .before .loop-test .taken))
 
 after-step-requires : tie.Need-after-step-requires Inv-loop μ-loop
 after-step-requires c κs = step-on _ _ _ _ _ _ _ _ _ _ _ (c .before .before .before .before .before .loop .inv .0) _ _ (c .before .before .before .before .loop-test .taken) (c .before .before .before .before .before .before .before .entry-at .ensures) refl
@@ -87,8 +90,9 @@ settle-spec =
     entry-at-requires
     values-of-requires
     loop-holds
-    mul-after-step
-    element-copy-out-after-step
+    mul-t25
+    element-copy-out-t28
+    cast-t29
     after-step-requires
     offer-action-requires
     add-a

@@ -1,0 +1,372 @@
+-- The search of the reduced file's task, from what its parts came to: the entries in the table, and the plan file begun, written and ended.
+use Prim.Native.Nat.{ℕ, _+_, _*_, _≤_, _<_}
+use mathlib.Core.Path.{_≡_, refl, sym, ap, ap₂, subst, _∙_}
+use mathlib.Core.Bool.{Bool, true, false, cond}
+use mathlib.Core.List.{List, [], _++_}
+use mathlib.Core.Option.{none, some, Option·map}
+use native.Mathlib.Omega.{arith}
+use lib.Dec.{leb}
+use lib.ListN.{length, getD, take, length-map}
+use borrow.Author.Tests.{leb-true, le-leb, lt-leb}
+use Rattle.files.specs.declared.Outcome.{Outcome}
+use Rattle.files.specs.Bytes.{placed, u16Bytes, u32Bytes}
+use Rattle.files.specs.OriginFile.{originOf, originActionsPlace}
+use Rattle.files.specs.Outcome.{done, refusal, isDone, guard, fits, overwrite}
+use Rattle.files.specs.PlanFile.{planFile}
+use Rattle.files.specs.Records.{numberBytes, recordBytes}
+use Rattle.files.specs.Task.{Task, actionCount}
+use Rattle.files.specs.TaskFile.{taskOf}
+use Rattle.files.proofs.Guards.{is-done, is-refused, done-number, passed, refusal-number}
+use Rattle.files.proofs.Lengths.{number-bytes-length, number-record-length, plan-file-length}
+use Rattle.files.proofs.Logic.{clash, split, split-le}
+use Rattle.files.proofs.Placed.{placed-overwrite}
+use Rattle.files.proofs.Valid.{Valid, task-valid}
+use Rattle.files.proofs.Writing.{placed-record, placed-signed}
+use Rattle.plans.specs.Plan.{Total, noSteps, totalOf}
+use Rattle.plans.specs.State.{allHold}
+use Rattle.reduction.specs.declared.Reduced.{Reduced}
+use Rattle.reduction.specs.Preserved.{byOriginFile}
+use Rattle.search.specs.declared.Entry.{Entry}
+use Rattle.search.specs.declared.stages.Found.{Found}
+use Rattle.search.specs.declared.stages.Searched.{Searched}
+use Rattle.search.specs.States.{stateCount, stateAt}
+use Rattle.search.specs.Table.{stepsOf, entryOf, distances, tableOf}
+use Rattle.search.specs.FirstPlan.{startNumber, firstPlan, foundPlan}
+use Rattle.search.specs.Entries.{isNone, entryTotal, Low, entriesIn, tableEntry, CanFill}
+use Rattle.search.specs.Rows.{rowStates}
+use Rattle.search.specs.ReadOff.{CanStep, StepsToWrite, PlanIn, StepsWritten}
+use Rattle.search.specs.Planner.{statesFit, planFits, searchBuffers}
+use Rattle.search.specs.Found.{notFound, foundWhole, Searches, FilesWritten, CanSearchFiles, SearchesFiles, unsearched, TableFound, SearchedIn, SearchedFiles, planBy, foundBy, headed, signedOff, Begins, CanFinish, Finishes}
+use Rattle.search.proofs.Radix.{start-below}
+use Rattle.search.proofs.RowNumbers.{states-count}
+use Rattle.search.proofs.Distances.{steps-few}
+use Rattle.search.proofs.ReadOff.{leads-on, goal-no-steps, steps-length}
+use Rattle.search.proofs.TableEntries.{table-entry, entry-low, start-none, start-distance}
+use Rattle.search.proofs.LeastPlans.{stepsRead}
+use Rattle.search.proofs.TableFilling.{filled-none}
+use Rattle.search.proofs.FoundLaws.{states-fit, search-early, search-late, search-done, no-plan, plan-short, plan-fits, read-plan, read-total, read-needed, read-length, plan-made, plan-is}
+
+-- what the entry of the start state comes to, where the table is filled
+module _ (states : ℕ) (e : Entry) (room : ℕ) where
+  abbrev size : ℕ
+  size = 16 + 2 * stepsOf e
+
+  abbrev whole : Found
+  whole = record { outcome = done; states = states; plan = size; cost = e .minutes; steps = e .steps }
+
+  plan-none : isNone e ≡ true → planBy states e room ≡ notFound states (refusal 24 0)
+  unfolding planBy isDone
+  plan-none far = rw far refl
+
+  plan-room : isNone e ≡ false → room < size → planBy states e room ≡ notFound states (refusal 21 size)
+  unfolding planBy isDone fits guard
+  plan-room near short = rw (near, lt-leb size room short) refl
+
+  plan-whole : isNone e ≡ false → size ≤ room → planBy states e room ≡ whole
+  unfolding planBy isDone fits guard
+  plan-whole near long = rw (near, le-leb size room long) refl
+
+-- the plan file of a refusal is not begun and not ended
+module _ (f : Found) (no : isDone (f .outcome) ≡ false) where
+  not-headed : (plan : List ℕ) → headed f plan ≡ plan
+  unfolding headed
+  not-headed plan = rw no refl
+
+  not-signed : (signer : ℕ) (plan : List ℕ) → signedOff signer f plan ≡ plan
+  unfolding signedOff
+  not-signed signer plan = rw no refl
+
+origin-length : (origin plan : List ℕ) → length (byOriginFile origin plan) ≡ length plan
+unfolding byOriginFile
+origin-length origin plan = length-map plan (λ n. getD (originOf origin .actions) n 0)
+
+-- head, steps and sign-off together
+file-written : (t : Task) (origin plan head buffer all : List ℕ) (count signer : ℕ) (f : Found) → isDone (f .outcome) ≡ true → f .steps .0 ≡ count → length (foundPlan t) ≡ count → 16 + 2 * count ≤ length plan
+    → head ≡ headed f plan → buffer ≡ placed head 4 (numberBytes (byOriginFile origin (foundPlan t))) → all ≡ signedOff signer f buffer
+    → all ≡ overwrite plan (planFile (byOriginFile origin (foundPlan t)) signer)
+unfolding planFile headed signedOff
+file-written t origin plan head buffer all count signer f there n l r h p a =
+    let ns = byOriginFile origin (foundPlan t) in
+    let size = origin-length origin (foundPlan t) in
+    let begun : head ≡ placed plan 0 (u16Bytes (2 * count) ++ u16Bytes 8) = h ∙ rw (there, n) refl in
+    let ended : all ≡ placed buffer (4 + 2 * count) (recordBytes 5 (u32Bytes signer ++ u32Bytes (4 + 2 * count))) = a ∙ rw (there, n) refl in
+    placed-signed plan buffer all (4 + 2 * count) signer (recordBytes 8 (numberBytes ns))
+    (placed-record plan head buffer 0 8 (2 * count) (numberBytes ns) begun (omega (arith, number-bytes-length ns, size, l)) p)
+    (omega (arith, number-record-length 8 ns, size, l))
+    ended
+    ∙ placed-overwrite plan (planFile ns signer) (omega (arith, plan-file-length ns signer, size, l))
+
+module _ (first : Reduced) (reduced origin : List ℕ) (table : List Entry) (searched : Searched) (es sizes costs conditions effects : List ℕ) (long : length es ≡ 8192)
+    (k : SearchedFiles first reduced origin (length table) searched (entriesIn es (searched .states)) sizes costs conditions effects) where
+  abbrev t : Task
+  t = taskOf (take (first .reduced) reduced)
+
+  abbrev origins : List ℕ
+  origins = take (first .origin) origin
+
+  abbrev now : List Entry
+  now = overwrite table (entriesIn es (searched .states))
+
+  abbrev look : ℕ → Entry
+  look = tableEntry now
+
+  abbrev e : Entry
+  e = look (searched .start)
+
+  first-done : searched .outcome .number ≡ 0 → first .outcome .number ≡ 0
+  first-done z =
+      split (isDone (first .outcome))
+      (done-number (first .outcome))
+      (λ n.
+      let d : first .outcome .number ≡ 0 → ⊥ = λ w. clash (is-done (first .outcome) w) n in
+      absurd (d (ap (λ (x : Searched). x .outcome .number) (sym (k .refused d)) ∙ z)))
+
+  no-states : (searched .outcome .number ≡ 0 → ⊥) → searched .states ≡ 0
+  no-states d =
+      split (isDone (first .outcome))
+      (λ y. ap (λ (x : Searched). x .states) (k .searched-in (done-number (first .outcome) y) .refused d))
+      (λ n. ap (λ (x : Searched). x .states) (k .refused (λ w. clash (is-done (first .outcome) w) n)))
+
+  same-table : searched .states ≡ 0 → now ≡ table
+  same-table z = ap (λ (n : ℕ). overwrite table (entriesIn es n)) z ∙ filled-none table es
+
+  -- the table is filled
+  module _ (z : searched .outcome .number ≡ 0) where
+    found : TableFound t searched (entriesIn es (searched .states)) sizes costs conditions effects
+    found = k .searched-in (first-done z) .found z
+
+    valid : Valid t
+    valid = task-valid t (found .accepted)
+
+    fit-number : statesFit t (length table) .number ≡ 0
+    fit-number = ap (λ (o : Outcome). o .number) (sym (k .searched-in (first-done z) .outcome)) ∙ z
+
+    states-inside : stateCount (t .variables) ≤ length table
+    unfolding statesFit fits
+    states-inside =
+        let few = passed (leb (stateCount (t .variables)) 4096) 25 0 _ (omega arith) fit-number in
+        let short = passed (leb (stateCount (t .variables)) (length table)) 21 (stateCount (t .variables)) done (omega arith) (few .1) in
+        leb-true _ _ (short .0)
+
+    fit : done ≡ statesFit t (length table)
+    fit = states-fit t (length table) (found .few) states-inside
+
+    now-is : now ≡ overwrite table (tableOf t)
+    now-is = ap (overwrite table) (found .table)
+
+    entries-are : (s : ℕ) → s < stateCount (t .variables) → look s ≡ entryOf (getD (distances t) s none)
+    entries-are s h = ap (λ (l : List Entry). tableEntry l s) now-is ∙ table-entry t table s h
+
+    states-are : stateCount (t .variables) ≡ rowStates (searched .variables) sizes
+    states-are = ap stateCount (found .stepped .variables-are) ∙ sym (states-count sizes (found .stepped .starts) (searched .variables))
+
+    start-inside : searched .start < stateCount (t .variables)
+    start-inside = omega (arith, found .start, start-below t valid)
+
+    named-is : searched .named ≡ first .origin
+    named-is = k .searched-in (first-done z) .named-is z
+
+    same-origins : take (searched .named) origin ≡ origins
+    same-origins = ap (λ (n : ℕ). take n origin) named-is
+
+    -- there is a plan
+    module _ (near : isNone e ≡ false) where
+      start-total : getD (distances t) (startNumber t) none ≡ some (entryTotal e)
+      start-total = start-distance t look entries-are valid (found .few) (searched .start) (found .start) near
+
+      here-total : getD (distances t) (searched .start) none ≡ some (entryTotal e)
+      here-total = ap (λ (n : ℕ). getD (distances t) n none) (found .start) ∙ start-total
+
+      some-action : 0 < stepsOf e → 0 < searched .actions
+      unfolding noSteps
+      some-action more =
+          let not-goal : allHold (t .goal) (stateAt (t .variables) (searched .start)) ≡ false =
+          split (allHold (t .goal) (stateAt (t .variables) (searched .start)))
+          (λ y. absurd (omega (arith, ap (λ (x : Total). x .steps) (goal-no-steps t valid (searched .start) (entryTotal e) start-inside here-total y))))
+          (λ n. n) in
+          omega (arith, leads-on t valid (searched .start) (entryTotal e) start-inside here-total not-goal .below, found .stepped .count)
+
+      plan-in : (steps : ℕ) → steps ≡ stepsOf e → PlanIn t look steps searched sizes costs conditions effects
+      plan-in steps n =
+          record {
+            accepted = found .accepted;
+            few = found .few;
+            stepped = found .stepped;
+            entries-are = entries-are;
+            start-is = found .start;
+            reached = near;
+            steps-are = n;
+          }
+
+      can-step : CanSearchFiles first reduced origin → (plan : List ℕ) (steps : ℕ) → steps ≡ stepsOf e → 0 < steps → 16 + 2 * steps ≤ length plan
+          → CanStep look plan steps searched origin sizes costs conditions effects
+      can-step written plan steps n more room =
+          let w = written (first-done z) in
+          record {
+            asked = found .asked;
+            start-below = omega (arith, start-inside, states-are);
+            low = λ s h. entry-low t look entries-are valid (found .few) s (omega (arith, states-are));
+            more = some-action (omega arith);
+            few = omega (arith, steps-few t valid (searched .start) (entryTotal e) start-inside here-total, found .few);
+            room = room;
+            named-fits = omega (arith, named-is, w .origin-fits);
+            place-is = k .searched-in (first-done z) .place-is z ∙ ap (λ (l : List ℕ). originActionsPlace l + 4) (sym same-origins);
+            place-few = k .place-few;
+            numbers = omega (arith, found .stepped .count, w .numbers, ap (λ (l : List ℕ). length (originOf l .actions)) same-origins);
+          }
+
+  states-bounded : (searched .states ≤ length table) × (searched .states ≤ 4096)
+  states-bounded =
+      split (isDone (searched .outcome))
+      (λ y.
+      let z = done-number (searched .outcome) y in
+      (omega (arith, found z .states, states-inside z), omega (arith, found z .states, found z .few)))
+      (λ n. let q = no-states (λ w. clash (is-done (searched .outcome) w) n) in (omega arith, omega arith))
+
+  pub can-fill : CanFill table es (searched .states)
+  can-fill = record { long = states-bounded .0; room = omega (arith, states-bounded .1) }
+
+  -- what the planner finds by the entry of the start state
+  module _ (written : CanSearchFiles first reduced origin) (plan plan₁ : List ℕ) (begun : Found) (b : Begins searched e plan begun plan₁) where
+    -- in each of its cases
+    cases : {P : Type 0}
+        → ((searched .outcome .number ≡ 0 → ⊥) → begun ≡ notFound 0 (searched .outcome) → P)
+        → (searched .outcome .number ≡ 0 → isNone e ≡ true → begun ≡ notFound (searched .states) (refusal 24 0) → P)
+        → (searched .outcome .number ≡ 0 → isNone e ≡ false → length plan < 16 + 2 * stepsOf e → begun ≡ notFound (searched .states) (refusal 21 (16 + 2 * stepsOf e)) → P)
+        → (searched .outcome .number ≡ 0 → isNone e ≡ false → 16 + 2 * stepsOf e ≤ length plan → begun ≡ whole (searched .states) e (length plan) → P)
+        → P
+    unfolding foundBy
+    cases refused none-found short done-found =
+        split (isDone (searched .outcome))
+        (λ y.
+        let z = done-number (searched .outcome) y in
+        let is : begun ≡ planBy (searched .states) e (length plan) = b .found ∙ rw y refl in
+        split (isNone e)
+        (λ far. none-found z far (is ∙ plan-none (searched .states) e (length plan) far))
+        (λ near.
+        split-le (16 + 2 * stepsOf e) (length plan)
+        (λ h. done-found z near h (is ∙ plan-whole (searched .states) e (length plan) near h))
+        (λ h. short z near h (is ∙ plan-room (searched .states) e (length plan) near h))))
+        (λ n. refused (λ w. clash (is-done (searched .outcome) w) n) (b .found ∙ rw n refl))
+
+    pub can-steps : length plan₁ ≡ length plan → StepsToWrite look plan₁ (begun .steps .0) searched origin sizes costs conditions effects
+    can-steps same more =
+        cases
+        (λ d q. absurd (omega (arith, ap (λ (x : Found). x .steps .0) q)))
+        (λ z far q. absurd (omega (arith, ap (λ (x : Found). x .steps .0) q)))
+        (λ z near h q. absurd (omega (arith, ap (λ (x : Found). x .steps .0) q)))
+        (λ z near h q. let n = ap (λ (x : Found). x .steps .0) q in can-step z near written plan₁ (begun .steps .0) n more (omega arith))
+
+    module _ (plan₂ : List ℕ) (steps : StepsWritten look plan₁ (begun .steps .0) searched origin sizes costs conditions effects plan₂) (signer : ℕ) (plan₃ : List ℕ) (r : Found)
+        (ends : Finishes signer begun plan₂ r plan₃) where
+      -- a refusal leaves the plan buffer
+      same-plan : (states : ℕ) (o : Outcome) → begun ≡ notFound states o → isDone o ≡ false → plan₃ ≡ plan
+      same-plan states o q n =
+          let no : isDone (begun .outcome) ≡ false = ap (λ (x : Found). isDone (x .outcome)) q ∙ n in
+          ends .ended
+          ∙ not-signed begun no signer plan₂
+          ∙ steps .no-steps (ap (λ (x : Found). x .steps .0) q)
+          ∙ b .begun
+          ∙ not-headed begun no plan
+
+      not-searched : (first .outcome .number ≡ 0 → ⊥) → (r ≡ notFound 0 (first .outcome)) × (searchBuffers now plan₃ ≡ searchBuffers table plan)
+      not-searched d =
+          let is : searched .outcome ≡ first .outcome = ap (λ (x : Searched). x .outcome) (k .refused d) in
+          let not-done : searched .outcome .number ≡ 0 → ⊥ = λ w. d (ap (λ (o : Outcome). o .number) (sym is) ∙ w) in
+          cases
+          (λ n q. (
+            ends .found ∙ q ∙ ap (notFound 0) is,
+            ap₂ searchBuffers (same-table (no-states n)) (same-plan 0 (searched .outcome) q (is-refused (searched .outcome) n)),
+          ))
+          (λ z far q. absurd (not-done z))
+          (λ z near h q. absurd (not-done z))
+          (λ z near h q. absurd (not-done z))
+
+      abbrev Searched-to : Found → List Entry → List ℕ → Type 0
+      Searched-to found entries file = Searches t (byOriginFile origins) signer (searchBuffers table plan) found (searchBuffers entries file)
+
+      same-search : (f : Found) (entries : List Entry) (file : List ℕ) → r ≡ f → now ≡ entries → plan₃ ≡ file → Searched-to f entries file → Searched-to r now plan₃
+      same-search f entries file p q w x = record { answer = p ∙ x .answer; buffers = ap₂ searchBuffers q w ∙ x .buffers }
+
+      -- too many states, or no room for the table
+      searches-early : first .outcome .number ≡ 0 → (searched .outcome .number ≡ 0 → ⊥) → begun ≡ notFound 0 (searched .outcome) → Searched-to r now plan₃
+      searches-early y d q =
+          same-search (notFound 0 (searched .outcome)) table plan (ends .found ∙ q) (same-table (no-states d)) (same-plan 0 (searched .outcome) q (is-refused (searched .outcome) d))
+          (search-early t (byOriginFile origins) signer table plan (searched .outcome) (k .searched-in y .outcome) d)
+
+      -- no plan, or no room for it
+      searches-late : (z : searched .outcome .number ≡ 0) (o : Outcome) → begun ≡ notFound (searched .states) o → (o .number ≡ 0 → ⊥)
+          → o ≡ planFits (Option·map (byOriginFile origins) (firstPlan t)) signer (length plan) → Searched-to r now plan₃
+      searches-late z o q d p =
+          same-search (notFound (stateCount (t .variables)) o) now plan (ends .found ∙ q ∙ ap (λ (n : ℕ). notFound n o) (found z .states)) refl (same-plan (searched .states) o q (is-refused o d))
+          (search-late t (byOriginFile origins) signer table plan (fit z) now (now-is z) o p d)
+
+      -- the plan is written
+      module _ (z : searched .outcome .number ≡ 0) (near : isNone e ≡ false) where
+        abbrev length-needed : 16 + 2 * stepsOf e ≡ length (planFile (byOriginFile origins (stepsRead t)) signer)
+        length-needed = read-needed t (valid z) (entryTotal e) (start-total z near) origins signer (16 + 2 * stepsOf e) refl
+
+        searches-short : length plan < 16 + 2 * stepsOf e → begun ≡ notFound (searched .states) (refusal 21 (16 + 2 * stepsOf e)) → Searched-to r now plan₃
+        searches-short h q =
+            searches-late z (refusal 21 (16 + 2 * stepsOf e)) q (refusal-number (refusal 21 (16 + 2 * stepsOf e)) 21 (16 + 2 * stepsOf e) (omega arith) refl)
+            (plan-short t (byOriginFile origins) signer (length plan) (stepsRead t) (read-plan t (valid z) (entryTotal e) (start-total z near)) (refusal 21 (16 + 2 * stepsOf e)) (16 + 2 * stepsOf e) length-needed h refl)
+
+        module _ (h : 16 + 2 * stepsOf e ≤ length plan) (q : begun ≡ whole (searched .states) e (length plan)) where
+          total : totalOf t (foundPlan t) ≡ entryTotal e
+          total = read-total t (valid z) (entryTotal e) (start-total z near)
+
+          found-whole : r ≡ foundWhole t (byOriginFile origins) signer
+          found-whole =
+              let bytes = read-length t (valid z) (entryTotal e) (start-total z near) origins signer (16 + 2 * stepsOf e) refl in
+              let states = found z .states in
+              let answer : whole (searched .states) e (length plan) ≡ foundWhole t (byOriginFile origins) signer =
+              λ i. record { outcome = done; states = states i; plan = bytes i; cost = record { 0 = sym total i .minutes }; steps = record { 0 = sym total i .steps } } in
+              ends .found ∙ q ∙ answer
+
+          steps-of : length (foundPlan t) ≡ stepsOf e
+          steps-of =
+              ap length (plan-is t (stepsRead t) (read-plan t (valid z) (entryTotal e) (start-total z near)))
+              ∙ steps-length t (valid z) (startNumber t) (entryTotal e) (start-below t (valid z)) (start-total z near)
+
+          file-is : plan₃ ≡ overwrite plan (planFile (byOriginFile origins (foundPlan t)) signer)
+          file-is =
+              let n : begun .steps .0 ≡ stepsOf e = ap (λ (x : Found). x .steps .0) q in
+              file-written t origins plan plan₁ plan₂ plan₃ (stepsOf e) signer begun (ap (λ (x : Found). isDone (x .outcome)) q ∙ is-done done refl) n steps-of h (b .begun)
+              (steps .steps-of t (plan-in z near (begun .steps .0) n) ∙ ap (λ (l : List ℕ). placed plan₁ 4 (numberBytes (byOriginFile l (foundPlan t)))) (same-origins z))
+              (ends .ended)
+
+          searches-done : Searched-to r now plan₃
+          unfolding foundPlan
+          searches-done =
+              let read = read-plan t (valid z) (entryTotal e) (start-total z near) in
+              search-done t (byOriginFile origins) signer table plan (fit z) now (now-is z)
+              (plan-fits t (byOriginFile origins) signer (length plan) (stepsRead t) read (16 + 2 * stepsOf e) length-needed h) r found-whole plan₃
+              (file-is ∙ ap (λ (l : List ℕ). overwrite plan (planFile l signer)) (sym (plan-made t (stepsRead t) (byOriginFile origins) read)))
+
+      searches : first .outcome .number ≡ 0 → Searched-to r now plan₃
+      searches y =
+          cases
+          (searches-early y)
+          (λ z far q.
+          searches-late z (refusal 24 0) q (refusal-number (refusal 24 0) 24 0 (omega arith) refl)
+          (no-plan t (byOriginFile origins) signer (length plan) (refusal 24 0) (start-none t look (entries-are z) (valid z) (found z .few) (searched .start) (found z .start) far) refl))
+          searches-short
+          searches-done
+
+      pub searches-files : SearchesFiles first reduced origin signer (searchBuffers table plan) r (searchBuffers now plan₃)
+      searches-files = record { refused = not-searched; searches = searches }
+
+-- a file that was begun has room for its end
+pub can-finish : (searched : Searched) (e : Entry) (plan plan₁ plan₂ : List ℕ) (begun : Found) → Begins searched e plan begun plan₁ → length plan₂ ≡ length plan → CanFinish begun plan₂
+unfolding foundBy
+can-finish searched e plan plan₁ plan₂ begun b same z =
+    split (isDone (searched .outcome))
+    (λ y.
+    let is : begun ≡ planBy (searched .states) e (length plan) = b .found ∙ rw y refl in
+    split (isNone e)
+    (λ far. absurd (omega (arith, ap (λ (x : Found). x .outcome .number) (is ∙ plan-none (searched .states) e (length plan) far))))
+    (λ near.
+    split-le (16 + 2 * stepsOf e) (length plan)
+    (λ h. omega (arith, ap (λ (x : Found). x .steps .0) (is ∙ plan-whole (searched .states) e (length plan) near h)))
+    (λ h. absurd (omega (arith, ap (λ (x : Found). x .outcome .number) (is ∙ plan-room (searched .states) e (length plan) near h))))))
+    (λ n. let q : begun ≡ notFound 0 (searched .outcome) = b .found ∙ rw n refl in clash (is-done (searched .outcome) (ap (λ (x : Found). x .outcome .number) (sym q) ∙ z)) n)
