@@ -57,7 +57,7 @@ use Rattle.search.proofs.stages.Found.Laws as F′
 use Rattle.search.proofs.Planned as P₀
 use Rattle.search.proofs.Planned.Laws as P′
 use Rattle.search.proofs.EntrySlices.{R}
-use Rattle.search.proofs.SearchLaws.{can-search-files, plans-both}
+use Rattle.search.proofs.StageLaws.{can-search-files, plans-both}
 use Rattle.search.proofs.PlannerRight.{plans-right}
 use Rattle.search.proofs.Hand.{ref, Known, lend-on, get-back, share-on, unshare, each-known}
 use Rattle.reduction.proofs.reduce as d
