@@ -96,6 +96,54 @@ file-written t origin plan head buffer all count signer f there n l r h p a =
     ended
     ∙ placed-overwrite plan (planFile ns signer) (omega (arith, plan-file-length ns signer, size, l))
 
+-- the file begun, by the entry of the start state
+module _ (searched : Searched) (e : Entry) (plan : List ℕ) where
+  pub begins-not : (searched .outcome .number ≡ 0 → ⊥) → (r : Found) → r ≡ notFound 0 (searched .outcome) → Begins searched e plan r plan
+  unfolding foundBy
+  begins-not d r q =
+      let n = is-refused (searched .outcome) d in
+      record { found = q ∙ sym (rw n refl); begun = sym (not-headed r (ap (λ (x : Found). isDone (x .outcome)) q ∙ n) plan) }
+
+  module _ (z : searched .outcome .number ≡ 0) where
+    by-plan : foundBy searched e (length plan) ≡ planBy (searched .states) e (length plan)
+    unfolding foundBy
+    by-plan = rw (is-done (searched .outcome) z) refl
+
+    refused-plan : (o : Outcome) → isDone o ≡ false → planBy (searched .states) e (length plan) ≡ notFound (searched .states) o → (r : Found) → r ≡ notFound (searched .states) o → Begins searched e plan r plan
+    refused-plan o n is r q =
+        record { found = q ∙ sym (by-plan ∙ is); begun = sym (not-headed r (ap (λ (x : Found). isDone (x .outcome)) q ∙ n) plan) }
+
+    pub begins-none : (b : Bool) → b ≡ isNone e → b ≡ true → (o : Outcome) → o ≡ refusal 24 0 → (r : Found) → r ≡ notFound (searched .states) o → Begins searched e plan r plan
+    begins-none b is far o q r w =
+        refused-plan (refusal 24 0) (is-refused (refusal 24 0) (refusal-number (refusal 24 0) 24 0 (omega arith) refl)) (plan-none (searched .states) e (length plan) (sym is ∙ far)) r (w ∙ ap (notFound (searched .states)) q)
+
+    module _ (b : Bool) (is : b ≡ isNone e) (near : b ≡ false) (needed : ℕ) (n : needed ≡ 16 + 2 * stepsOf e) where
+      pub begins-short : length plan < needed → (o : Outcome) → o ≡ refusal 21 needed → (r : Found) → r ≡ notFound (searched .states) o → Begins searched e plan r plan
+      begins-short h o q r w =
+          refused-plan (refusal 21 (16 + 2 * stepsOf e)) (is-refused _ (refusal-number _ 21 (16 + 2 * stepsOf e) (omega arith) refl))
+          (plan-room (searched .states) e (length plan) (sym is ∙ near) (omega arith)) r (w ∙ ap (notFound (searched .states)) (q ∙ ap (refusal 21) n))
+
+      pub begins-whole : needed ≤ length plan → (o : Outcome) → o ≡ done → (now : List ℕ) → now ≡ placed plan 0 (u16Bytes (2 * stepsOf e) ++ u16Bytes 8)
+          → Begins searched e plan (record { outcome = o; states = searched .states; plan = needed; cost = e .minutes; steps = e .steps }) now
+      unfolding headed
+      begins-whole h o q now w =
+          let answer : record { outcome = o; states = searched .states; plan = needed; cost = e .minutes; steps = e .steps } ≡ whole (searched .states) e (length plan) =
+          λ i. record { outcome = q i; states = searched .states; plan = n i; cost = e .minutes; steps = e .steps } in
+          record {
+            found = answer ∙ sym (by-plan ∙ plan-whole (searched .states) e (length plan) (sym is ∙ near) (omega arith));
+            begun = w ∙ sym (rw (ap isDone q ∙ is-done done refl) refl);
+          }
+
+-- and ended
+module _ (signer : ℕ) (begun : Found) (plan : List ℕ) where
+  pub finishes-done : begun .outcome .number ≡ 0 → (now : List ℕ) → now ≡ placed plan (4 + 2 * begun .steps .0) (recordBytes 5 (u32Bytes signer ++ u32Bytes (4 + 2 * begun .steps .0)))
+      → Finishes signer begun plan begun now
+  unfolding signedOff
+  finishes-done z now w = record { found = refl; ended = w ∙ sym (rw (is-done (begun .outcome) z) refl) }
+
+  pub finishes-not : (begun .outcome .number ≡ 0 → ⊥) → Finishes signer begun plan begun plan
+  finishes-not d = record { found = refl; ended = sym (not-signed begun (is-refused (begun .outcome) d) signer plan) }
+
 module _ (first : Reduced) (reduced origin : List ℕ) (table : List Entry) (searched : Searched) (es sizes costs conditions effects : List ℕ) (long : length es ≡ 8192)
     (k : SearchedFiles first reduced origin (length table) searched (entriesIn es (searched .states)) sizes costs conditions effects) where
   abbrev t : Task

@@ -3,13 +3,13 @@ use mathlib.Core.Path.{_≡_, ap, _∙_}
 use Prim.Native.Nat.{ℕ, zero, suc, _+_}
 use native.Mathlib.Nat.{add-zero, add-suc}
 use mathlib.Core.List.{List, [], _∷_}
-use mir.Syntax.{Ty, Lifetime, imm, mut, w16, w64, tyInt, tyRef}
+use mir.Syntax.{Ty, Lifetime, imm, mut, w64, tyInt, tyRef}
 use mir.Val.{Val}
 use denote.RattleType.{RattleType}
 use denote.Laws.{Is, Tells}
 use denote.Memory.{pointee}
 use denote.Plain.{uint-vals, uint-tells}
-use denote.Builtin.{u8, u16, u32}
+use denote.Builtin.{u8, u32, usize}
 use denote.Array.{Array, array-vals, array-tells}
 use denote.Steps.{only}
 use denote.Struct.Laws as LL
@@ -51,13 +51,13 @@ abbrev pub Rows : RattleType
 Rows = Array u8 32768
 
 abbrev pub Nexts : RattleType
-Nexts = Array u16 512
+Nexts = Array usize 512
 
 abbrev pub nexts-val : List ℕ → Val
-nexts-val xs = only (array-vals (uint-vals w16) xs)
+nexts-val xs = only (array-vals (uint-vals w64) xs)
 
 pub nexts-tells : Tells Nexts (Is Nexts) (λ xs. nexts-val xs ∷ [])
-nexts-tells = array-tells u16 (uint-vals w16) (uint-tells w16) 512
+nexts-tells = array-tells usize (uint-vals w64) (uint-tells w64) 512
 
 -- the types of locals
 abbrev pub word : Ty

@@ -189,7 +189,7 @@ pub fn begin(plan: &mut [u8], searched: Searched, entry: Entry) -> Found
     }
     files::plan::put_head(plan, steps.0 as usize);
     Found {
-        outcome: outcome,
+        outcome: outcomes::done(),
         states: states,
         plan: needed,
         cost: cost,

@@ -22,7 +22,7 @@ cast-t13 : tie.Need-cast-t13
 cast-t13 c = search needs
 
 after-step-requires : tie.Need-after-step-requires
-after-step-requires c κs = 
+after-step-requires c κs =
     let pre = c .before .before .before .pre in
     record { low = pre .low (sym (c .before .before .is-none .ensures) ∙ c .before .if1 .left); cost-most = pre .cost-most }
 

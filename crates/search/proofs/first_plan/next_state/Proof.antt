@@ -13,7 +13,7 @@ all-hold-requires : tie.Need-all-hold-requires
 all-hold-requires c κs = search needs
 
 number-after-requires : tie.Need-number-after-requires
-number-after-requires c κs = 
+number-after-requires c κs =
     let s = c .before .before .before .before in
     let pre = s .pre in
     record {

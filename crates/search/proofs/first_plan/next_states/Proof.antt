@@ -1,51 +1,67 @@
+-- The loop's invariant: the next states of the actions before `a` are there.
+use Prim.Native.Nat.{ℕ, _-_, _≤_, _<_}
+use mathlib.Core.Path.{_≡_, refl, _∙_}
+use native.Mathlib.Omega.{arith}
+use denote.Ref.{now}
+use lib.ListN.{length, length-set, getD}
+use Rattle.files.proofs.Filling.{filled-before}
+use Rattle.search.specs.ReadOff.{GoesTo}
+use borrow.Author.Needs.{needs}
 use Rattle.search.proofs.first_plan.next_states.Statement.{statement}
 use Rattle.search.proofs.first_plan.next_states.Tie as tie
-use Rattle.search.proofs.first_plan.next_states.Reads as reads
-use Rattle.search.proofs.first_plan.next_states.Lts as lts
-use Rattle.search.proofs.first_plan.next_state.Reads as next-state-reads
-use Rattle.search.proofs.states.values_of.Reads as values-of-reads
 
 abbrev Inv-loop : tie.InvT-loop
-Inv-loop state sizes conditions effects variables actions values nexts₀ a₀ nexts a = ?
+Inv-loop state sizes conditions effects variables actions values nexts₀ a₀ nexts a =
+    ((b : ℕ) → b < a → GoesTo variables state b sizes conditions effects (getD nexts b 0)) × (a ≤ actions) × (length nexts ≡ 512)
 
 abbrev μ-loop : tie.MeasureT-loop
-μ-loop state sizes conditions effects variables actions values nexts₀ a₀ nexts a = ?
+μ-loop state sizes conditions effects variables actions values nexts₀ a₀ nexts a = actions - a
 
--- src/first_plan.rt:31:18
 values-of-requires : tie.Need-values-of-requires Inv-loop μ-loop
-values-of-requires c κs = ?
+values-of-requires c κs = record { few = c .pre .asked .variables-few; least = c .pre .asked .size-least }
 
--- src/first_plan.rt:34:5
 loop-holds : tie.Need-loop-holds Inv-loop μ-loop
-loop-holds c = ?
+loop-holds c = (λ b h. absurd (omega arith), omega arith, refl)
 
--- src/first_plan.rt:35:20
 next-state-requires : tie.Need-next-state-requires Inv-loop μ-loop
-next-state-requires c κs = ?
+next-state-requires c κs =
+    let s = c .before .before .before .before in
+    let a = c .before .before .loop .a in
+    let asked = s .pre .asked in
+    record {
+      variables-few = asked .variables-few;
+      action-few = omega (arith, asked .actions-few, c .before .loop-test .taken);
+      size-least = asked .size-least;
+      effect-inside = λ v. asked .effect-inside a v (c .before .loop-test .taken);
+      states-few = asked .states-few;
+      below = s .pre .below;
+      values-are = c .before .before .before .values-of .ensures;
+    }
 
--- src/first_plan.rt:35:9
 mul-nexts : tie.Need-mul-nexts Inv-loop μ-loop
-mul-nexts c = ?
+mul-nexts c = search needs
 
--- src/first_plan.rt:35:9
 array-write-nexts : tie.Need-array-write-nexts Inv-loop μ-loop
-array-write-nexts c = ?
+array-write-nexts c =
+    omega (arith, c .before .before .loop-test .taken, c .before .before .before .before .before .pre .asked .actions-few, c .before .before .before .loop .inv .2)
 
--- src/first_plan.rt:36:9
 add-a : tie.Need-add-a Inv-loop μ-loop
-add-a c = ?
+add-a c = search needs
 
--- src/first_plan.rt:34:5
 loop-less : tie.Need-loop-less Inv-loop μ-loop
-loop-less c = ?
+loop-less c = search needs
 
--- src/first_plan.rt:34:5
 loop-again : tie.Need-loop-again Inv-loop μ-loop
-loop-again c = ?
+loop-again c =
+    let l = c .before .before .before .loop in
+    let s = c .before .before .before .before .before in (
+      filled-before (l .nexts) (l .a) _ (λ b x. GoesTo (s .args .searched .variables) (s .args .state) b (now (s .args .sizes)) (now (s .args .conditions)) (now (s .args .effects)) x) (omega (arith, c .before .before .loop-test .taken, s .pre .asked .actions-few, l .inv .2)) (l .inv .0) (c .next-state .ensures),
+      omega (arith, c .before .before .loop-test .taken),
+      length-set (l .nexts) (l .a) _ ∙ l .inv .2,
+    )
 
--- src/first_plan.rt:19:1
 returns : tie.Need-returns Inv-loop μ-loop
-returns c = ?
+returns c = λ a h. c .before .loop .inv .0 a (omega (arith, c .loop-test .left))
 
 pub next-states-spec : {M : Type 1} → statement M
 next-states-spec =

@@ -13,7 +13,7 @@ use Rattle.search.proofs.first_plan.put_action.Tie as tie
 
 -- the part of the buffer that holds the file
 file-part : (n : ℕ) (s : List ℕ) → take (n - 0) s ≡ take n s
-file-part n s = ap (λ (m : ℕ). take m s) (omega arith)
+file-part n s = let whole : n - 0 ≡ n = omega arith in ap (λ (m : ℕ). take m s) whole
 
 sub-original : tie.Need-sub-original
 sub-original c = search needs

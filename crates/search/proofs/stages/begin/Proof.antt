@@ -3,6 +3,7 @@ use Rattle.search.proofs.stages.begin.Statement.{statement}
 use Rattle.search.proofs.stages.begin.Tie as tie
 use Rattle.search.proofs.stages.begin.Reads as reads
 use Rattle.search.proofs.stages.begin.Lts as lts
+use Rattle.files.proofs.outcomes.done.Reads as done-reads
 use Rattle.files.proofs.outcomes.refuse.Reads as refuse-reads
 use Rattle.files.proofs.plan.needed.Reads as needed-reads
 use Rattle.files.proofs.plan.put_head.Reads as put-head-reads
@@ -61,6 +62,10 @@ cast-put-head c = search needs
 put-head-requires : tie.Need-put-head-requires
 put-head-requires c κs = search needs
 
+-- src/stages.rt:192:18
+done-requires : tie.Need-done-requires
+done-requires c κs = search needs
+
 -- src/stages.rt:173:1
 same-length : tie.Need-same-length
 same-length c = search needs
@@ -86,5 +91,6 @@ begin-spec =
     returns-3
     cast-put-head
     put-head-requires
+    done-requires
     same-length
     returns-4)
