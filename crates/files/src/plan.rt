@@ -51,19 +51,18 @@ pub fn step(s: &[u8], i: usize) -> OriginalAction
 }
 
 // How many bytes the file of a plan of so many steps takes.
-pub fn needed(steps: usize) -> usize
-    requires { ⌜ steps ≤ 65536 ⌝ }
-    ensures { λ r. ⌜ r ≡ 16 + 2 * steps ⌝ }
+pub fn needed(steps: Steps) -> usize
+    ensures { λ r. ⌜ r ≡ 16 + 2 * steps .0 ⌝ }
 {
-    16 + 2 * steps
+    16 + 2 * (steps.0 as usize)
 }
 
 // Writes the head of a plan record of so many steps.
-pub fn put_head(buffer: &mut [u8], steps: usize)
-    requires { ⌜ Writable (steps ≤ 65536) 4 (now buffer) ⌝ }
-    ensures { λ r. ⌜ now (buffer .exit) ≡ placed (now (buffer .entry)) 0 (u16Bytes (2 * steps) ++ u16Bytes 8) ⌝ }
+pub fn put_head(buffer: &mut [u8], steps: Steps)
+    requires { ⌜ 4 ≤ length (now buffer) ⌝ }
+    ensures { λ r. ⌜ now (buffer .exit) ≡ placed (now (buffer .entry)) 0 (u16Bytes (2 * steps .0) ++ u16Bytes 8) ⌝ }
 {
-    records::put_head(buffer, 0, records::PLAN, 2 * steps);
+    records::put_head(buffer, 0, records::PLAN, 2 * (steps.0 as usize));
 }
 
 // Writes step `i`.

@@ -19,6 +19,7 @@ use crate::states;
 use plans::Minutes;
 use plans::OriginalAction;
 use plans::ReducedAction;
+use plans::Steps;
 
 // Whether state s has its entry by way of action `a` first.
 fn leads_on(
@@ -102,7 +103,7 @@ fn put_action(plan: &mut [u8], i: usize, action: OriginalAction)
     requires { ⌜ StepRoom (now plan) i ⌝ }
     ensures { λ r. ⌜ now (plan .exit) ≡ placed (now (plan .entry)) (4 + 2 * i) (u16Bytes (action .0)) ⌝ }
 {
-    files::plan::put_step(plan, i, action.0 as usize);
+    files::plan::put_step(plan, i, action);
 }
 
 // Writes the file of the plan from the start state on.
@@ -126,8 +127,8 @@ pub fn write_plan(
     let place = files::origin::actions_place(origin) + 4;
     let mut s = states::start_number(sizes, starts, variables);
     let entry = entries::entry_at(entries, s);
-    let fewest = entry.steps.0 as usize;
-    files::plan::put_head(plan, fewest);
+    let fewest = entry.steps.0;
+    files::plan::put_head(plan, Steps(fewest));
     let mut values = states::values_of(sizes, variables, s);
     let mut i: usize = 0;
     while !states::all_hold(goal, 0, variables, &values) {

@@ -94,7 +94,8 @@ fn search_task(
     if entries::is_none(entry) {
         return not_found(outcomes::refuse(outcomes::NO_PLAN, 0), count);
     }
-    let needed = files::plan::needed(entry.steps.0 as usize);
+    let steps = entry.steps;
+    let needed = files::plan::needed(steps);
     if plan.len() < needed {
         return not_found(outcomes::refuse(outcomes::SHORT_BUFFER, needed), count);
     }
@@ -117,7 +118,7 @@ fn search_task(
         states: count,
         plan: needed,
         cost: Minutes(entry.minutes.0),
-        steps: Steps(entry.steps.0),
+        steps: steps,
     }
 }
 

@@ -12,7 +12,6 @@ use Rattle.search.specs.States.{stateCount}
 use Rattle.search.specs.FirstPlan.{startNumber}
 use Rattle.search.specs.Entries.{entryIn}
 use Rattle.search.specs.Table.{stepsOf}
-use Rattle.search.proofs.EntryLaws.{steps-fit}
 use Rattle.search.proofs.Radix.{start-below}
 use Rattle.search.proofs.HeldStates.{held-states, held-start, held-sizes, held-starts, held-few, held-valid}
 use Rattle.search.proofs.FirstPlanLaws.{values-inside}
@@ -66,11 +65,8 @@ start-room c =
     let s = to-start (to-found c) in
     omega (arith, s .pre .plan-room, ap stepsOf (c .entry-at .ensures), ap (λ (n : ℕ). stepsOf (entryIn (now (s .args .entries)) n)) (start-is (to-found c)))
 
-few-steps : (c : tie.After-entry-at Inv-loop μ-loop) → c .entry-at .result .steps .0 < 65536
-few-steps c = omega (arith, ap stepsOf (c .entry-at .ensures), steps-fit (now (to-start (to-found c) .args .entries)) (to-found c .start-number .result))
-
 abbrev to-number : tie.After-values-of Inv-loop μ-loop → tie.After-entry-at Inv-loop μ-loop
-to-number c = c .before .before .before .before .before .before
+to-number c = c .before .before .before .before .before
 
 -- a turn
 abbrev to-loop : tie.After-all-hold Inv-loop μ-loop → tie.At-loop Inv-loop μ-loop
@@ -122,15 +118,12 @@ start-number-requires c κs =
 entry-at-requires : tie.Need-entry-at-requires Inv-loop μ-loop
 entry-at-requires c κs = omega (arith, start-inside c, to-start c .pre .room)
 
-cast-fewest : tie.Need-cast-fewest Inv-loop μ-loop
-cast-fewest c = omega (arith, few-steps (c .before))
-
 put-head-requires : tie.Need-put-head-requires Inv-loop μ-loop
-put-head-requires c κs = record { source = omega (arith, few-steps (c .before .before)); room = omega (arith, start-room (c .before .before)) }
+put-head-requires c κs = omega (arith, start-room (c .before))
 
 values-of-requires : tie.Need-values-of-requires Inv-loop μ-loop
 values-of-requires c κs =
-    let s = to-start (c .before .before .before .before .before .before) in
+    let s = to-start (c .before .before .before .before .before) in
     record { few = held-few (task s) (s .pre .accepted); least = held-sizes (task s) (s .pre .accepted) }
 
 loop-holds : tie.Need-loop-holds Inv-loop μ-loop
@@ -152,8 +145,8 @@ first-action-requires c κs =
     let s = begun l in
     read-at (task s) _ (known s) _ _ _ _ _ _ _ (l .loop .inv .0)
 
-cast-t35 : tie.Need-cast-t35 Inv-loop μ-loop
-cast-t35 c = omega (arith, action-known (c .before), known (turn-start (c .before)) .can-search .actions-few)
+cast-t36 : tie.Need-cast-t36 Inv-loop μ-loop
+cast-t36 c = omega (arith, action-known (c .before), known (turn-start (c .before)) .can-search .actions-few)
 
 original-requires : tie.Need-original-requires Inv-loop μ-loop
 original-requires c κs =
@@ -254,13 +247,12 @@ write-plan-spec =
     add-place
     start-number-requires
     entry-at-requires
-    cast-fewest
     put-head-requires
     values-of-requires
     loop-holds
     all-hold-requires
     first-action-requires
-    cast-t35
+    cast-t36
     original-requires
     put-action-requires
     mul-number-after

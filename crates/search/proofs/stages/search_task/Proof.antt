@@ -11,11 +11,9 @@ use Rattle.files.specs.PlanFile.{planFile}
 use Rattle.plans.specs.Plan.{Total}
 use Rattle.files.proofs.Valid.{Valid}
 use Rattle.files.proofs.Guards.{refusal-number}
-use Rattle.search.specs.Table.{stepsOf}
 use Rattle.search.specs.States.{stateCount}
 use Rattle.search.specs.Planner.{statesFit}
 use Rattle.search.proofs.HeldStates.{held-states, held-valid, held-sizes, held-few}
-use Rattle.search.proofs.EntryLaws.{steps-fit}
 use Rattle.search.proofs.Radix.{start-below}
 use Rattle.search.proofs.TableEntries.{at-count, start-none, start-reached, start-distance, start-steps}
 use Rattle.search.proofs.FoundLaws.{states-many, table-short, states-fit, search-early, search-late, search-done, no-plan, plan-short, plan-fits, read-plan, read-total, read-needed, read-length, plan-made}
@@ -100,9 +98,6 @@ search-requires c κs =
     record { accepted = s .pre .source; states = states-of k l; few = l; room = omega (arith, s .pre .room) }
 
 -- the entry of the start state
-abbrev to-found : tie.After-entry-at → tie.After-search
-to-found c = c .before .before .before .before
-
 entry-at-requires : tie.Need-entry-at-requires
 entry-at-requires c κs =
     let k = c .before .before .before in
@@ -110,9 +105,6 @@ entry-at-requires c κs =
 
 is-none-requires : tie.Need-is-none-requires
 is-none-requires c κs = search needs
-
-few-steps : (c : tie.After-entry-at) → c .entry-at .result .steps .0 < 65536
-few-steps c = omega (arith, ap stepsOf (c .entry-at .ensures), steps-fit (to-found c .search .last .0) (to-found c .search .result))
 
 refuse-requires-3 : tie.Need-refuse-requires-3
 refuse-requires-3 c κs = search needs
@@ -132,11 +124,8 @@ returns-3 c =
     let p = no-plan t _ _ _ _ none-found (c .before .refuse3 .ensures) in
     search-late t _ _ _ _ (fit k) _ table _ p (refusal-number _ 24 _ (omega arith) (c .before .refuse3 .ensures)) _ (states-are k) _ (c .not-found3 .ensures)
 
-cast-needed : tie.Need-cast-needed
-cast-needed c = omega (arith, few-steps (c .before .before .before))
-
 needed-requires : tie.Need-needed-requires
-needed-requires c κs = omega (arith, few-steps (c .before .before .before))
+needed-requires c κs = search needs
 
 refuse-requires-4 : tie.Need-refuse-requires-4
 refuse-requires-4 c κs = search needs
@@ -221,7 +210,6 @@ search-task-spec =
     not-found-requires-3
     same-length
     returns-3
-    cast-needed
     needed-requires
     refuse-requires-4
     not-found-requires-4
