@@ -9,7 +9,7 @@ use plans::OriginalAction;
 use plans::ReducedAction;
 
 // The file of a side: 0 the first, any other number the second.
-pub fn side_of<'a>(side: u32, full: &'a [u8], reduced: &'a [u8]) -> &'a [u8]
+fn side_of<'a>(side: u32, full: &'a [u8], reduced: &'a [u8]) -> &'a [u8]
     ensures { λ r. ⌜ now r ≡ sideOf side (now (full .entry)) (now (reduced .entry)) ⌝ }
 {
     if side == 0 {
