@@ -34,8 +34,8 @@ pub fn print_number(n: usize) {
     io::print_decimal(1, n as u64);
 }
 
-pub fn print_minutes(n: u64) {
-    io::print_decimal(1, n);
+pub fn print_minutes(minutes: plans::Minutes) {
+    io::print_decimal(1, minutes.0);
 }
 
 // Prints a number behind another.

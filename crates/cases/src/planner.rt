@@ -75,6 +75,6 @@ fn print_answer(answer: search::Planned) {
     lines::print_next(answer.plan);
     lines::print_next(answer.rounds);
     lines::print_byte(b' ');
-    lines::print_minutes(cost.0);
+    lines::print_minutes(cost);
     lines::print_next(steps.0 as usize);
 }

@@ -81,7 +81,7 @@ fn check_both(file: &[u8]) {
     let steps = checked.steps;
     lines::print_outcome(outcome);
     lines::print_byte(b' ');
-    lines::print_minutes(cost.0);
+    lines::print_minutes(cost);
     lines::print_byte(b' ');
     lines::print_number(steps.0 as usize);
 }

@@ -9,6 +9,7 @@ pub mod plan;
 mod reader;
 pub mod records;
 pub mod task;
+pub mod units;
 pub mod write;
 pub mod write_origin;
 

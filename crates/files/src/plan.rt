@@ -12,6 +12,8 @@ use crate::limits;
 use crate::outcomes;
 use crate::reader;
 use crate::records;
+use crate::units::OriginalAction;
+use crate::units::Steps;
 
 // Whether a file is a plan file for a task of so many actions.
 pub fn check(s: &[u8], actions: usize) -> Outcome
@@ -32,40 +34,41 @@ pub fn check(s: &[u8], actions: usize) -> Outcome
 }
 
 // How many steps a plan file holds.
-pub fn steps(s: &[u8]) -> usize
-    ensures { λ r. ⌜ IsBelow r (length (planOf (now (s .entry)))) 32768 ⌝ }
+pub fn steps(s: &[u8]) -> Steps
+    ensures { λ r. ⌜ IsBelow (r .0) (length (planOf (now (s .entry)))) 32768 ⌝ }
 {
-    records::body_length(s, 0) / 2
+    let count = records::body_length(s, 0) / 2;
+    Steps(count as u16)
 }
 
-// The action number of step `i`, which the file holds.
-pub fn step(s: &[u8], i: usize) -> usize
+// The action of step `i`, which the file holds.
+pub fn step(s: &[u8], i: usize) -> OriginalAction
     requires { ⌜ i < length (planOf (now s)) ⌝ }
-    ensures { λ r. ⌜ IsBelow r (getD (planOf (now (s .entry))) i 0) 65536 ⌝ }
+    ensures { λ r. ⌜ r .0 ≡ getD (planOf (now (s .entry))) i 0 ⌝ }
 {
-    bytes::u16_at(s, 4 + 2 * i)
+    let number = bytes::u16_at(s, 4 + 2 * i);
+    OriginalAction(number as u16)
 }
 
 // How many bytes the file of a plan of so many steps takes.
-pub fn needed(steps: usize) -> usize
-    requires { ⌜ steps ≤ 65536 ⌝ }
-    ensures { λ r. ⌜ r ≡ 16 + 2 * steps ⌝ }
+pub fn needed(steps: Steps) -> usize
+    ensures { λ r. ⌜ r ≡ 16 + 2 * steps .0 ⌝ }
 {
-    16 + 2 * steps
+    16 + 2 * (steps.0 as usize)
 }
 
 // Writes the head of a plan record of so many steps.
-pub fn put_head(buffer: &mut [u8], steps: usize)
-    requires { ⌜ Writable (steps ≤ 65536) 4 (now buffer) ⌝ }
-    ensures { λ r. ⌜ now (buffer .exit) ≡ placed (now (buffer .entry)) 0 (u16Bytes (2 * steps) ++ u16Bytes 8) ⌝ }
+pub fn put_head(buffer: &mut [u8], steps: Steps)
+    requires { ⌜ 4 ≤ length (now buffer) ⌝ }
+    ensures { λ r. ⌜ now (buffer .exit) ≡ placed (now (buffer .entry)) 0 (u16Bytes (2 * steps .0) ++ u16Bytes 8) ⌝ }
 {
-    records::put_head(buffer, 0, records::PLAN, 2 * steps);
+    records::put_head(buffer, 0, records::PLAN, 2 * (steps.0 as usize));
 }
 
 // Writes step `i`.
-pub fn put_step(buffer: &mut [u8], i: usize, action: usize)
+pub fn put_step(buffer: &mut [u8], i: usize, action: OriginalAction)
     requires { ⌜ Writable (i ≤ 65536) (6 + 2 * i) (now buffer) ⌝ }
-    ensures { λ r. ⌜ now (buffer .exit) ≡ placed (now (buffer .entry)) (4 + 2 * i) (u16Bytes action) ⌝ }
+    ensures { λ r. ⌜ now (buffer .exit) ≡ placed (now (buffer .entry)) (4 + 2 * i) (u16Bytes (action .0)) ⌝ }
 {
-    bytes::put_u16(buffer, 4 + 2 * i, action);
+    bytes::put_u16(buffer, 4 + 2 * i, action.0 as usize);
 }

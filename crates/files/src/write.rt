@@ -14,6 +14,7 @@ ghost use Rattle.files.specs.TaskFile.{pairBytes, variableBytes, actionB
 use crate::bytes;
 use crate::limits;
 use crate::records;
+use crate::units::Minutes;
 
 // A cell without a pair, read as a number.
 const NO_PAIR: usize = limits::NO_PAIR as usize;
@@ -158,11 +159,11 @@ pub fn task_needed(
 }
 
 // Writes cost and counts of an action behind its record's head.
-fn put_counts(buffer: &mut [u8], at: usize, cost: usize, conditions: usize, effects: usize)
+fn put_counts(buffer: &mut [u8], at: usize, cost: Minutes, conditions: usize, effects: usize)
     requires { ⌜ at + 8 ≤ length (now buffer) ⌝ }
-    ensures { λ r. ⌜ now (buffer .exit) ≡ placed (now (buffer .entry)) at (u32Bytes cost ++ u16Bytes conditions ++ u16Bytes effects) ⌝ }
+    ensures { λ r. ⌜ now (buffer .exit) ≡ placed (now (buffer .entry)) at (u32Bytes (cost .0) ++ u16Bytes conditions ++ u16Bytes effects) ⌝ }
 {
-    bytes::put_u32(buffer, at, cost);
+    bytes::put_u32(buffer, at, cost.0 as usize);
     bytes::put_u16(buffer, at + 4, conditions);
     bytes::put_u16(buffer, at + 6, effects);
 }
@@ -183,9 +184,9 @@ fn put_action(
     let base = limits::ROW * a;
     let asked = pairs_in(conditions, base, variables);
     let set = pairs_in(effects, base, variables);
-    let cost = costs[a] as usize;
+    let cost = costs[a] as u64;
     records::put_head(buffer, at, records::ACTION, 8 + 4 * asked + 4 * set);
-    put_counts(buffer, at + 4, cost, asked, set);
+    put_counts(buffer, at + 4, Minutes(cost), asked, set);
     let middle = put_pairs(buffer, at + 12, conditions, base, variables);
     put_pairs(buffer, middle, effects, base, variables)
 }

@@ -7,20 +7,10 @@ mod walk;
 ghost use mathlib.Core.Path.{_≡_};
 ghost use Rattle.plans.specs.Check.{checkPlan};
 use files::outcomes;
-
-// A cost. The entries of the planner's table hold such numbers, and C callers lend that table.
-#[repr(C)]
-pub struct Minutes(pub u64);
-
-// A number of steps; the same holds.
-#[repr(C)]
-pub struct Steps(pub u16);
-
-// An action's number in the full task.
-pub struct OriginalAction(pub u16);
-
-// An action's number in the reduced task.
-pub struct ReducedAction(pub u16);
+pub use files::units::Minutes;
+pub use files::units::OriginalAction;
+pub use files::units::ReducedAction;
+pub use files::units::Steps;
 
 // What the plan checker answers: cost and steps are 0 beside a refusal.
 pub struct Checked {

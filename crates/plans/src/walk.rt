@@ -1,14 +1,13 @@
 // The plan checker's walk over the steps of a plan file.
 ghost use mathlib.Core.Path.{_≡_};
-ghost use Prim.Native.Nat.{ℕ, _<_};
-ghost use lib.ListN.{length};
+ghost use Prim.Native.Nat.{ℕ};
 ghost use mathlib.Core.List.{List};
 ghost use Rattle.files.specs.Contracts.{IsBelow, ActionWithin};
 ghost use Rattle.files.specs.Dense.{held, arrays, rowAction, rowPairs};
 ghost use Rattle.files.specs.PlanFile.{planOf};
 ghost use Rattle.plans.specs.Check.{withTotal, walkAnswer};
 ghost use Rattle.plans.specs.Contracts.{RowIs, StepsWithin};
-ghost use Rattle.plans.specs.Plan.{noSteps, stepOf};
+ghost use Rattle.plans.specs.Plan.{noSteps};
 ghost use Rattle.plans.specs.Tally.{endAnswer};
 use crate::Checked;
 use crate::Minutes;
@@ -36,15 +35,6 @@ fn minutes_of(cost: u32) -> Minutes
     ensures { λ r. ⌜ IsBelow (r .0) cost 4294967296 ⌝ }
 {
     Minutes(cost as u64)
-}
-
-// The action of step `i` of a plan file.
-fn step_at(plan: &[u8], i: usize) -> OriginalAction
-    requires { ⌜ i < length (planOf (now plan)) ⌝ }
-    ensures { λ r. ⌜ r .0 ≡ stepOf (planOf (now (plan .entry))) i ⌝ }
-{
-    let action = files::plan::step(plan, i);
-    OriginalAction(action as u16)
 }
 
 // The row of an action.
@@ -102,12 +92,14 @@ pub fn take_steps(
     requires { ⌜ StepsWithin variables actions (planOf (now plan)) ⌝ }
     ensures { λ r. ⌜ ((sizes : List ℕ) → r ≡ walkAnswer (held (arrays variables actions sizes (now (starts .entry)) (now (goal .entry)) (now (costs .entry)) (now (conditions .entry)) (now (effects .entry)))) (planOf (now (plan .entry)))) ⌝ }
 {
-    let count = files::plan::steps(plan);
+    let steps = files::plan::steps(plan);
+    let count = steps.0 as usize;
     let aim = rows::row_at(goal, 0, variables);
     let mut tally = Tally::start(rows::state_of(starts, variables));
     let mut i: usize = 0;
     while i < count {
-        let action = action_at(step_at(plan, i), variables, costs, conditions, effects);
+        let step = files::plan::step(plan, i);
+        let action = action_at(step, variables, costs, conditions, effects);
         if !tally.meets(action) {
             return refused(outcomes::refuse(outcomes::NOT_APPLICABLE, i));
         }

@@ -5,6 +5,7 @@ use mathlib.Core.List.{List, []}
 use native.Mathlib.Omega.{arith}
 use lib.ListN.{length, take, drop}
 use lib.Dec.{eqb}
+use borrow.Author.Tests.{eq-eqb, ne-eqb}
 use Rattle.files.specs.declared.Outcome.{Outcome}
 use Rattle.files.specs.Outcome.{inSecond}
 use Rattle.files.specs.Records.{recordEnd, recordsEnd, bodyRule, bodyFits, headAt, sizeFits}
@@ -47,6 +48,15 @@ module _ (s : List ℕ) (a at n : ℕ) (place : at ≡ actionPlace s a) (count :
   part-is =
       let long : at + 12 + 4 * n - (at + 12) ≡ 4 * conditionsIn s (actionPlace s a) = omega (arith, same-count) in
       rw (long, place) refl
+
+-- the file of a side
+pub side-first : (side : ℕ) (full reduced : List ℕ) → side ≡ 0 → full ≡ sideOf side full reduced
+unfolding sideOf
+side-first side full reduced e = rw (eq-eqb side 0 e) refl
+
+pub side-second : (side : ℕ) (full reduced : List ℕ) → (side ≡ 0 → ⊥) → reduced ≡ sideOf side full reduced
+unfolding sideOf
+side-second side full reduced d = rw (ne-eqb side 0 d) refl
 
 -- where a stretch is done, the side's file is accepted and has the action
 pub stretch-passed : (full reduced : List ℕ) (side a : ℕ) → stretchOutcome full reduced side a .number ≡ 0 → HasAction (sideOf side full reduced) a

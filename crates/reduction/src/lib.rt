@@ -9,6 +9,8 @@ mod stretch;
 ghost use Rattle.reduction.specs.Reduce.{buffers, Reduces};
 ghost use Rattle.reduction.specs.Stretch.{lentOutcome, Stretches};
 use files::outcomes;
+use plans::OriginalAction;
+use plans::ReducedAction;
 
 // What reduction answers: the four lengths written and the round count, 0 beside a refusal.
 pub struct Reduced {
@@ -98,5 +100,8 @@ pub fn conditions<'a>(
     if outcome.number != 0 {
         return &full[0..0];
     }
-    stretch::pairs_of(stretch::side_of(side, full, reduced), action)
+    if side == 0 {
+        return stretch::original_pairs(full, OriginalAction(action as u16));
+    }
+    stretch::reduced_pairs(reduced, ReducedAction(action as u16))
 }

@@ -12,6 +12,7 @@ use files::limits;
 use marking::gains;
 use marking::links;
 use marking::rounds::Scope;
+use plans::OriginalAction;
 
 // The action marks of a task as an array.
 pub fn kept_actions(marks: &[u8], actions: usize) -> [u8; 512]
@@ -147,19 +148,20 @@ pub fn originals(numbers: &mut [u16], kept: &[u8; 512], actions: usize) -> usize
     let mut count: usize = 0;
     let mut a: usize = 0;
     while a < actions {
-        count = push_action(numbers, count, a, kept[a] == 1);
+        count = push_action(numbers, count, OriginalAction(a as u16), kept[a] == 1);
         a += 1;
     }
     count
 }
 
-fn push_action(numbers: &mut [u16], count: usize, a: usize, test: bool) -> usize
-    requires { ⌜ Pushable (now numbers) count a 512 ⌝ }
-    ensures { λ r. ⌜ Pushed (now (numbers .entry)) (now (numbers .exit)) count a test r ⌝ }
+// Appends an action's number where the test passes.
+fn push_action(numbers: &mut [u16], count: usize, action: OriginalAction, test: bool) -> usize
+    requires { ⌜ Pushable (now numbers) count (action .0) 512 ⌝ }
+    ensures { λ r. ⌜ Pushed (now (numbers .entry)) (now (numbers .exit)) count (action .0) test r ⌝ }
 {
     if !test {
         return count;
     }
-    numbers[count] = a as u16;
+    numbers[count] = action.0;
     count + 1
 }

@@ -9,6 +9,8 @@ ghost use Rattle.reduction.specs.Contracts.{Numbered, RowNumbered, KeptN
 ghost use Rattle.reduction.specs.Dense.{newValueAt, newSizeAt, mappedCell};
 use crate::named;
 use files::limits;
+use plans::OriginalAction;
+use plans::ReducedAction;
 
 // The number of a value: its rank where it is named, else the number of the values left over.
 fn number(mark: u8, rank: u8, rest: u8) -> u8
@@ -91,6 +93,15 @@ pub fn map_row(
     }
 }
 
+// The number in the full task of an action of the reduced task.
+fn original(originals: &[u16; 512], action: ReducedAction) -> OriginalAction
+    requires { ⌜ action .0 < 512 ⌝ }
+    ensures { λ r. ⌜ r .0 ≡ getD (now (originals .entry)) (action .0) 0 ⌝ }
+{
+    let j = action.0 as usize;
+    OriginalAction(originals[j])
+}
+
 // The rows of the kept actions.
 pub fn map_rows(
     rows: &mut [u8],
@@ -106,7 +117,8 @@ pub fn map_rows(
 {
     let mut j: usize = 0;
     while j < actions {
-        let a = originals[j] as usize;
+        let action = original(originals, ReducedAction(j as u16));
+        let a = action.0 as usize;
         map_row(
             rows,
             limits::ROW * j,
@@ -127,7 +139,9 @@ pub fn map_costs(costs: &mut [u32], old: &[u32; 512], originals: &[u16; 512], ac
 {
     let mut j: usize = 0;
     while j < actions {
-        costs[j] = old[originals[j] as usize];
+        let action = original(originals, ReducedAction(j as u16));
+        let a = action.0 as usize;
+        costs[j] = old[a];
         j += 1;
     }
 }

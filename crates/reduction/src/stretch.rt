@@ -5,9 +5,11 @@ ghost use Rattle.reduction.specs.Stretch.{sideOf, stretchOutcome, condit
 use files::Outcome;
 use files::outcomes;
 use files::task;
+use plans::OriginalAction;
+use plans::ReducedAction;
 
 // The file of a side: 0 the first, any other number the second.
-pub fn side_of<'a>(side: u32, full: &'a [u8], reduced: &'a [u8]) -> &'a [u8]
+fn side_of<'a>(side: u32, full: &'a [u8], reduced: &'a [u8]) -> &'a [u8]
     ensures { λ r. ⌜ now r ≡ sideOf side (now (full .entry)) (now (reduced .entry)) ⌝ }
 {
     if side == 0 {
@@ -36,7 +38,7 @@ pub fn outcome<'a>(full: &'a [u8], reduced: &'a [u8], side: u32, action: usize) 
 }
 
 // The condition pairs of an action of an accepted file, which lie within it.
-pub fn pairs_of<'a>(s: &'a [u8], action: usize) -> &'a [u8]
+fn pairs_of<'a>(s: &'a [u8], action: usize) -> &'a [u8]
     requires { ⌜ HasAction (now s) action ⌝ }
     ensures { λ r. ⌜ now r ≡ conditionBytes (now (s .entry)) action ⌝ }
 {
@@ -45,4 +47,20 @@ pub fn pairs_of<'a>(s: &'a [u8], action: usize) -> &'a [u8]
     let from = at + 12;
     let to = from + 4 * conditions;
     &s[from..to]
+}
+
+// The condition pairs of an action of the full task, in its file.
+pub fn original_pairs<'a>(full: &'a [u8], action: OriginalAction) -> &'a [u8]
+    requires { ⌜ HasAction (now full) (action .0) ⌝ }
+    ensures { λ r. ⌜ now r ≡ conditionBytes (now (full .entry)) (action .0) ⌝ }
+{
+    pairs_of(full, action.0 as usize)
+}
+
+// The condition pairs of an action of the reduced task, in its file.
+pub fn reduced_pairs<'a>(reduced: &'a [u8], action: ReducedAction) -> &'a [u8]
+    requires { ⌜ HasAction (now reduced) (action .0) ⌝ }
+    ensures { λ r. ⌜ now r ≡ conditionBytes (now (reduced .entry)) (action .0) ⌝ }
+{
+    pairs_of(reduced, action.0 as usize)
 }

@@ -209,10 +209,6 @@ far-not-same a x y d e p far q near =
     omega (arith, near, eqb-true (minutesOf x) (minutesOf noEntry) far, ap (λ (t : Total). t .minutes) totals, addStep-minutes a total, ap (λ (t : Total). t .minutes) (total-is x d total p w))))
 
 -- an entry in a list of numbers
-pub steps-fit : (entries : List ℕ) (s : ℕ) → stepsOf (entryIn entries s) < 65536
-unfolding entryIn
-steps-fit entries s = omega arith
-
 pub entry-read : (entries : List ℕ) (s : ℕ) → entry (getD entries (2 * s) 0) (getD entries (2 * s + 1) 0 % 65536) ≡ entryIn entries s
 unfolding entryIn
 entry-read entries s = refl

@@ -12,7 +12,7 @@ use Rattle.files.proofs.Logic.{clash, split, split-le}
 use Rattle.plans.specs.Plan.{Total}
 use Rattle.plans.specs.State.{State, allHold, applicable, apply}
 use Rattle.plans.specs.Tally.{listState}
-use Rattle.plans.specs.declared.ReducedAction.{ReducedAction}
+use Rattle.files.specs.declared.units.ReducedAction.{ReducedAction}
 use Rattle.search.specs.States.{stateNumber, stateAt}
 use Rattle.search.specs.Table.{Distance, same, stepTo, nextState, through, distances, entryOf}
 use Rattle.search.specs.FirstPlan.{firstAction}

@@ -13,10 +13,10 @@ use denote.Builtin.{u8, u32, usize}
 use denote.Array.{Array, array-vals, array-tells}
 use denote.Steps.{only}
 use denote.Struct.Laws as LL
-use Rattle.plans.specs.declared.ReducedAction.{ReducedAction}
+use Rattle.files.specs.declared.units.ReducedAction.{ReducedAction}
 use Rattle.search.specs.declared.stages.Searched.{Searched}
-use Rattle.plans.proofs.ReducedAction as A₀
-use Rattle.plans.proofs.ReducedAction.Laws as A′
+use Rattle.files.proofs.units.ReducedAction as A₀
+use Rattle.files.proofs.units.ReducedAction.Laws as A′
 use Rattle.search.proofs.stages.Searched as S₀
 use Rattle.search.proofs.stages.Searched.Laws as S′
 

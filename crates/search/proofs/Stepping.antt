@@ -18,7 +18,7 @@ use Rattle.files.proofs.Valid.{Valid, task-valid}
 use Rattle.files.proofs.Writing.{placed-u16-then}
 use Rattle.plans.specs.Plan.{Total, noSteps}
 use Rattle.plans.specs.State.{allHold}
-use Rattle.plans.specs.declared.ReducedAction.{ReducedAction}
+use Rattle.files.specs.declared.units.ReducedAction.{ReducedAction}
 use Rattle.reduction.specs.Preserved.{byOriginFile}
 use Rattle.search.specs.States.{stateCount, stateAt}
 use Rattle.search.specs.Table.{distances, nextState}

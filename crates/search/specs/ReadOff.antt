@@ -13,7 +13,7 @@ use Rattle.files.specs.Records.{numberBytes}
 use Rattle.files.specs.Task.{Action, Task, actionCount, actionOf}
 use Rattle.plans.specs.State.{applicable}
 use Rattle.plans.specs.Tally.{listState}
-use Rattle.plans.specs.declared.ReducedAction.{ReducedAction}
+use Rattle.files.specs.declared.units.ReducedAction.{ReducedAction}
 use Rattle.reduction.specs.Preserved.{byOriginFile}
 use Rattle.search.specs.States.{stateCount, stateAt}
 use Rattle.search.specs.Table.{stepsOf, entryOf, same, through, nextState, distances}

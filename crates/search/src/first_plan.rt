@@ -117,6 +117,6 @@ pub fn put_action(
 {
     let named = searched.named;
     let number = original(&origin[0..named], searched.place, action);
-    files::plan::put_step(plan, i, number.0 as usize);
+    files::plan::put_step(plan, i, number);
     next_at(nexts, action.0 as usize)
 }

@@ -183,11 +183,11 @@ pub fn begin(plan: &mut [u8], searched: Searched, entry: Entry) -> Found
     }
     let cost = entry.minutes;
     let steps = entry.steps;
-    let needed = files::plan::needed(steps.0 as usize);
+    let needed = files::plan::needed(steps);
     if plan.len() < needed {
         return not_found(outcomes::refuse(outcomes::SHORT_BUFFER, needed), states);
     }
-    files::plan::put_head(plan, steps.0 as usize);
+    files::plan::put_head(plan, steps);
     Found {
         outcome: outcomes::done(),
         states: states,

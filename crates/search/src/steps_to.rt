@@ -11,6 +11,7 @@ use crate::states;
 use files::bytes;
 use files::limits;
 use plans::Minutes;
+use plans::ReducedAction;
 
 const NO_PAIR: usize = limits::NO_PAIR as usize;
 
@@ -134,7 +135,7 @@ fn offer(
     }
 }
 
-// Offers the entry to every state from which action `a` leads to state x.
+// Offers the entry to every state from which an action leads to state x.
 fn offer_action(
     entries: &mut [u64],
     changed: &mut [u8],
@@ -145,13 +146,13 @@ fn offer_action(
     variables: usize,
     values: &[u8; 64],
     x: usize,
-    a: usize,
+    action: ReducedAction,
     entry: Entry,
 )
-    requires { ⌜ ActionOffer variables a x (now sizes) (now weights) (now conditions) (now effects) (now values) (now entries) (now changed) ⌝ }
-    ensures { λ r. ⌜ ((starts costs : List ℕ) → Offers (leadsFrom starts costs (now (sizes .entry)) (now (conditions .entry)) (now (effects .entry)) variables a x) (rowStates variables (now (sizes .entry))) entry (now (entries .entry)) (now (changed .entry)) (now (entries .exit)) (now (changed .exit))) ⌝ }
+    requires { ⌜ ActionOffer variables (action .0) x (now sizes) (now weights) (now conditions) (now effects) (now values) (now entries) (now changed) ⌝ }
+    ensures { λ r. ⌜ ((starts costs : List ℕ) → Offers (leadsFrom starts costs (now (sizes .entry)) (now (conditions .entry)) (now (effects .entry)) variables (action .0) x) (rowStates variables (now (sizes .entry))) entry (now (entries .entry)) (now (changed .entry)) (now (entries .exit)) (now (changed .exit))) ⌝ }
 {
-    let base = 64 * a;
+    let base = 64 * (action.0 as usize);
     if reaches(conditions, effects, base, variables, values) {
         offer(
             entries,
@@ -189,6 +190,7 @@ pub fn settle(
     let values = states::values_of(sizes, variables, x);
     let mut a: usize = 0;
     while a < actions {
+        let cost = costs[a] as u64;
         offer_action(
             entries,
             changed,
@@ -199,8 +201,8 @@ pub fn settle(
             variables,
             &values,
             x,
-            a,
-            entries::after_step(entry, Minutes(costs[a] as u64)),
+            ReducedAction(a as u16),
+            entries::after_step(entry, Minutes(cost)),
         );
         a += 1;
     }

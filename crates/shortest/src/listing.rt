@@ -15,7 +15,8 @@ pub fn print_counts(label: &[u8], file: &[u8]) {
 
 // A line for each step of a plan file, with its action number.
 pub fn print_steps(plan: &[u8]) {
-    let count = files::plan::steps(plan);
+    let steps = files::plan::steps(plan);
+    let count = steps.0 as usize;
     let mut i: usize = 0;
     while i < count {
         print_step(files::plan::step(plan, i));
@@ -23,8 +24,8 @@ pub fn print_steps(plan: &[u8]) {
     }
 }
 
-fn print_step(action: usize) {
-    print_labelled(b"step ", action as u64);
+fn print_step(action: plans::OriginalAction) {
+    print_labelled(b"step ", action.0 as u64);
     io::write_all(1, b"\n");
 }
 

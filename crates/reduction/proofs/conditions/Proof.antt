@@ -1,7 +1,13 @@
--- The outcome is stored field by field; where it is not done the empty part of the full file is the stretch.
-use mathlib.Core.Path.{sym, _∙_}
+-- The outcome is stored field by field; where it is not done the empty part of the full file is the stretch; else the action is one of the side's file.
+use Prim.Native.Nat.{ℕ}
+use mathlib.Core.Path.{sym, subst, _∙_}
+use mathlib.Core.List.{List}
+use native.Mathlib.Omega.{arith}
+use denote.Ref.{now}
 use borrow.Author.Needs.{needs}
-use Rattle.reduction.proofs.StretchLaws.{stretch-passed, stretch-done, stretch-refused, number}
+use Rattle.reduction.specs.Contracts.{HasAction}
+use Rattle.reduction.specs.Stretch.{sideOf}
+use Rattle.reduction.proofs.StretchLaws.{actions-few, side-first, side-second, stretch-passed, stretch-done, stretch-refused, number}
 use Rattle.reduction.proofs.conditions.Statement.{statement}
 use Rattle.reduction.proofs.conditions.Tie as tie
 
@@ -22,19 +28,34 @@ returns c =
     let e = c .before .before .before .outcome .ensures in
     record { stretch = sym (stretch-refused _ _ _ _ (λ z. c .before .if1 .taken (number e ∙ z))); outcome = e }
 
-side-of-requires : tie.Need-side-of-requires
-side-of-requires c κs = search needs
+-- where nothing is refused, the side's file has the action
+abbrev to-start : tie.Else1 → tie.Start
+to-start c = c .before .before .before .before .before
 
-pairs-of-requires : tie.Need-pairs-of-requires
-pairs-of-requires c κs =
-    let e = c .before .before .before .outcome .ensures in
-    rw (c .side-of .ensures) (stretch-passed _ _ _ _ (sym (number e) ∙ c .before .if1 .left))
+passed : (c : tie.Else1) → HasAction (sideOf (to-start c .args .side) (now (to-start c .args .full)) (now (to-start c .args .reduced))) (to-start c .args .action)
+passed c = stretch-passed _ _ _ _ (sym (number (c .before .before .outcome .ensures)) ∙ c .if1 .left)
+
+cast-t13 : tie.Need-cast-t13
+cast-t13 c = let w = passed (c .before) in omega (arith, w .below, actions-few _ (w .accepted))
+
+original-pairs-requires : tie.Need-original-pairs-requires
+original-pairs-requires c κs = subst (λ (f : List ℕ). HasAction f (to-start (c .before) .args .action)) (sym (side-first _ _ _ (c .if2 .taken))) (passed (c .before))
 
 returns-2 : tie.Need-returns-2
 returns-2 c =
     let e = c .before .before .before .before .outcome .ensures in
-    let cut = stretch-done _ _ _ _ _ _ (sym (number e) ∙ c .before .before .if1 .left) (c .pairs-of .ensures) (c .before .side-of .ensures) in
-    record { stretch = cut; outcome = e }
+    record { stretch = stretch-done _ _ _ _ _ _ (sym (number e) ∙ c .before .before .if1 .left) (c .original-pairs .ensures) (side-first _ _ _ (c .before .if2 .taken)); outcome = e }
+
+cast-t15 : tie.Need-cast-t15
+cast-t15 c = let w = passed (c .before) in omega (arith, w .below, actions-few _ (w .accepted))
+
+reduced-pairs-requires : tie.Need-reduced-pairs-requires
+reduced-pairs-requires c κs = subst (λ (f : List ℕ). HasAction f (to-start (c .before) .args .action)) (sym (side-second _ _ _ (c .if2 .left))) (passed (c .before))
+
+returns-3 : tie.Need-returns-3
+returns-3 c =
+    let e = c .before .before .before .before .outcome .ensures in
+    record { stretch = stretch-done _ _ _ _ _ _ (sym (number e) ∙ c .before .before .if1 .left) (c .reduced-pairs .ensures) (side-second _ _ _ (c .before .if2 .left)); outcome = e }
 
 pub conditions-spec : {M : Type 1} → statement M
 conditions-spec =
@@ -45,6 +66,9 @@ conditions-spec =
     part-result-start
     part-result-end
     returns
-    side-of-requires
-    pairs-of-requires
-    returns-2)
+    cast-t13
+    original-pairs-requires
+    returns-2
+    cast-t15
+    reduced-pairs-requires
+    returns-3)

@@ -26,11 +26,14 @@ add-u16-at c = omega (arith, few c)
 u16-at-requires : tie.Need-u16-at-requires
 u16-at-requires c κs = search needs
 
+cast-t6 : tie.Need-cast-t6
+cast-t6 c = search needs
+
 returns : tie.Need-returns
 unfolding planOf
 returns c =
     let s = now (c .before .before .args .s) in
-    record { is = c .u16-at .ensures .is ∙ sym (numbers-entry s 4 (stepsIn s) (c .before .before .args .i) (omega (arith, numbers-length s 4 (stepsIn s)))); below = c .u16-at .ensures .below }
+    c .u16-at .ensures .is ∙ sym (numbers-entry s 4 (stepsIn s) (c .before .before .args .i) (omega (arith, numbers-length s 4 (stepsIn s))))
 
 pub step-spec : {M : Type 1} → statement M
-step-spec = tie.close (tie.spec mul-u16-at add-u16-at u16-at-requires returns)
+step-spec = tie.close (tie.spec mul-u16-at add-u16-at u16-at-requires cast-t6 returns)

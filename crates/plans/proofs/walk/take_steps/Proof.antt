@@ -31,6 +31,9 @@ abbrev μ-loop : tie.MeasureT-loop
 steps-requires : tie.Need-steps-requires Inv-loop μ-loop
 steps-requires c κs = search needs
 
+cast-count : tie.Need-cast-count Inv-loop μ-loop
+cast-count c = search needs
+
 row-at-requires : tie.Need-row-at-requires Inv-loop μ-loop
 row-at-requires c κs = search needs
 
@@ -43,7 +46,7 @@ start-requires c κs = search needs
 loop-holds : tie.Need-loop-holds Inv-loop μ-loop
 unfolding totalIn noSteps
 loop-holds c =
-    let a = c .before .before .before .before .before .before .args in
+    let a = c .before .before .before .before .before .before .before .args in
     let plan = planOf (now (a .plan)) in
     let d : List ℕ → Arrays = λ sizes. arrays (a .variables) (a .actions) sizes (now (a .starts)) (now (a .goal)) (now (a .costs)) (now (a .conditions)) (now (a .effects)) in
     let zero : c .start .result .minutes .0 ≡ 0 = ap (λ (x : Total). x .minutes) (c .start .ensures .counted) in
@@ -54,17 +57,17 @@ loop-holds c =
       none,
     )
 
-step-at-requires : tie.Need-step-at-requires Inv-loop μ-loop
-step-at-requires c κs = omega (arith, c .before .before .before .before .before .before .steps .ensures .is)
+step-requires : tie.Need-step-requires Inv-loop μ-loop
+step-requires c κs = omega (arith, c .before .before .before .before .before .before .before .steps .ensures .is)
 
 action-at-requires : tie.Need-action-at-requires Inv-loop μ-loop
 action-at-requires c κs =
-    let a = c .before .before .before .before .before .before .before .before .before .args in
+    let a = c .before .before .before .before .before .before .before .before .before .before .args in
     let plan = planOf (now (a .plan)) in
     let d : List ℕ → Arrays = λ sizes. arrays (a .variables) (a .actions) sizes (now (a .starts)) (now (a .goal)) (now (a .costs)) (now (a .conditions)) (now (a .effects)) in
     let l = c .before .before .loop in
-    let below : l .i < length plan = omega (arith, c .before .before .before .before .before .before .before .steps .ensures .is, c .before .loop-test .taken) in
-    let known = c .before .before .before .before .before .before .before .before .before .pre .known (l .i) below in search needs
+    let below : l .i < length plan = omega (arith, c .before .before .before .before .before .before .before .before .steps .ensures .is, c .before .loop-test .taken) in
+    let known = c .before .before .before .before .before .before .before .before .before .before .pre .known (l .i) below in search needs
 
 meets-requires : tie.Need-meets-requires Inv-loop μ-loop
 meets-requires c κs = search needs
@@ -77,14 +80,14 @@ refused-requires c κs = search needs
 
 returns : tie.Need-returns Inv-loop μ-loop
 returns c =
-    let a = c .before .before .before .before .before .before .before .before .before .before .before .before .before .before .args in
+    let a = c .before .before .before .before .before .before .before .before .before .before .before .before .before .before .before .args in
     let plan = planOf (now (a .plan)) in
     let d : List ℕ → Arrays = λ sizes. arrays (a .variables) (a .actions) sizes (now (a .starts)) (now (a .goal)) (now (a .costs)) (now (a .conditions)) (now (a .effects)) in
     let l = c .before .before .before .before .before .before .before .loop in
-    let below : l .i < length plan = omega (arith, c .before .before .before .before .before .before .before .before .before .before .before .before .steps .ensures .is, c .before .before .before .before .before .before .loop-test .taken) in
-    let known : stepOf plan (l .i) < a .actions = c .before .before .before .before .before .before .before .before .before .before .before .before .before .before .pre .known (l .i) below in
+    let below : l .i < length plan = omega (arith, c .before .before .before .before .before .before .before .before .before .before .before .before .before .steps .ensures .is, c .before .before .before .before .before .before .loop-test .taken) in
+    let known : stepOf plan (l .i) < a .actions = c .before .before .before .before .before .before .before .before .before .before .before .before .before .before .before .pre .known (l .i) below in
     let row : rowOf (c .before .before .before .before .action-at .result) ≡ rowAction (a .variables) (now (a .costs)) (now (a .conditions)) (now (a .effects)) (stepOf plan (l .i)) =
-    c .before .before .before .before .action-at .ensures .is ∙ ap (rowAction (a .variables) (now (a .costs)) (now (a .conditions)) (now (a .effects))) (c .before .before .before .before .before .step-at .ensures) in
+    c .before .before .before .before .action-at .ensures .is ∙ ap (rowAction (a .variables) (now (a .costs)) (now (a .conditions)) (now (a .effects))) (c .before .before .before .before .before .step .ensures) in
     let due : (sizes : List ℕ) → actionOf (held (d sizes)) (stepOf plan (l .i)) ≡ rowOf (c .before .before .before .before .action-at .result) = λ sizes. held-action (d sizes) (stepOf plan (l .i)) known ∙ sym row in
     λ sizes.
     walking-stops (held (d sizes)) plan (l .tally) (l .i) (l .inv .0 sizes) below _ (due sizes) _ _
@@ -92,11 +95,11 @@ returns c =
     (c .before .refuse .ensures)
     (c .refused .ensures)
 
-step-requires : tie.Need-step-requires Inv-loop μ-loop
-step-requires c κs = record { minutesFit = omega (arith, c .before .before .before .before .before .before .before .before .before .before .steps .ensures .is, c .before .before .action-at .ensures .costBelow); stepsFit = omega (arith, c .before .before .before .before .before .before .before .before .before .before .steps .ensures .is) }
+step-requires-2 : tie.Need-step-requires-2 Inv-loop μ-loop
+step-requires-2 c κs = record { minutesFit = omega (arith, c .before .before .before .before .before .before .before .before .before .before .before .steps .ensures .is, c .before .before .action-at .ensures .costBelow); stepsFit = omega (arith, c .before .before .before .before .before .before .before .before .before .before .before .steps .ensures .is) }
 
 add-i : tie.Need-add-i Inv-loop μ-loop
-add-i c = omega (arith, c .before .before .before .before .before .before .before .before .before .before .before .steps .ensures .below)
+add-i c = omega (arith, c .before .before .before .before .before .before .before .before .before .before .before .before .steps .ensures .below)
 
 loop-less : tie.Need-loop-less Inv-loop μ-loop
 loop-less c = search needs
@@ -104,22 +107,22 @@ loop-less c = search needs
 loop-again : tie.Need-loop-again Inv-loop μ-loop
 unfolding totalIn addStep rowOf
 loop-again c =
-    let a = c .before .before .before .before .before .before .before .before .before .before .before .before .before .args in
+    let a = c .before .before .before .before .before .before .before .before .before .before .before .before .before .before .args in
     let plan = planOf (now (a .plan)) in
     let d : List ℕ → Arrays = λ sizes. arrays (a .variables) (a .actions) sizes (now (a .starts)) (now (a .goal)) (now (a .costs)) (now (a .conditions)) (now (a .effects)) in
     let l = c .before .before .before .before .before .before .loop in
-    let below : l .i < length plan = omega (arith, c .before .before .before .before .before .before .before .before .before .before .before .steps .ensures .is, c .before .before .before .before .before .loop-test .taken) in
-    let known : stepOf plan (l .i) < a .actions = c .before .before .before .before .before .before .before .before .before .before .before .before .before .pre .known (l .i) below in
+    let below : l .i < length plan = omega (arith, c .before .before .before .before .before .before .before .before .before .before .before .before .steps .ensures .is, c .before .before .before .before .before .loop-test .taken) in
+    let known : stepOf plan (l .i) < a .actions = c .before .before .before .before .before .before .before .before .before .before .before .before .before .before .pre .known (l .i) below in
     let row : rowOf (c .before .before .before .action-at .result) ≡ rowAction (a .variables) (now (a .costs)) (now (a .conditions)) (now (a .effects)) (stepOf plan (l .i)) =
-    c .before .before .before .action-at .ensures .is ∙ ap (rowAction (a .variables) (now (a .costs)) (now (a .conditions)) (now (a .effects))) (c .before .before .before .before .step-at .ensures) in
+    c .before .before .before .action-at .ensures .is ∙ ap (rowAction (a .variables) (now (a .costs)) (now (a .conditions)) (now (a .effects))) (c .before .before .before .before .step .ensures) in
     let due : (sizes : List ℕ) → actionOf (held (d sizes)) (stepOf plan (l .i)) ≡ rowOf (c .before .before .before .action-at .result) = λ sizes. held-action (d sizes) (stepOf plan (l .i)) known ∙ sym row in
-    let minutes : c .step .result .minutes .0 ≡ c .before .before .before .action-at .result .cost .0 + l .tally .minutes .0 = ap (λ (x : Total). x .minutes) (c .step .ensures .counted) in
-    let steps : c .step .result .steps .0 ≡ l .tally .steps .0 + 1 = ap (λ (x : Total). x .steps) (c .step .ensures .counted) in (
+    let minutes : c .step2 .result .minutes .0 ≡ c .before .before .before .action-at .result .cost .0 + l .tally .minutes .0 = ap (λ (x : Total). x .minutes) (c .step2 .ensures .counted) in
+    let steps : c .step2 .result .steps .0 ≡ l .tally .steps .0 + 1 = ap (λ (x : Total). x .steps) (c .step2 .ensures .counted) in (
       λ sizes.
-          walking-next (held (d sizes)) plan (l .tally) (l .i) (l .inv .0 sizes) below _ (due sizes) (c .step .result)
+          walking-next (held (d sizes)) plan (l .tally) (l .i) (l .inv .0 sizes) below _ (due sizes) (c .step2 .result)
           (sym (c .before .before .meets .ensures) ∙ not-false _ (c .before .if1 .left))
-          (c .step .ensures .reached)
-          (c .step .ensures .counted),
+          (c .step2 .ensures .reached)
+          (c .step2 .ensures .counted),
       omega arith,
       omega (arith, c .before .before .before .action-at .ensures .costBelow),
       omega arith,
@@ -131,13 +134,13 @@ ended-requires c κs = search needs
 returns-2 : tie.Need-returns-2 Inv-loop μ-loop
 unfolding held
 returns-2 c =
-    let a = c .before .before .before .before .before .before .before .before .before .args in
+    let a = c .before .before .before .before .before .before .before .before .before .before .args in
     let plan = planOf (now (a .plan)) in
     let d : List ℕ → Arrays = λ sizes. arrays (a .variables) (a .actions) sizes (now (a .starts)) (now (a .goal)) (now (a .costs)) (now (a .conditions)) (now (a .effects)) in
     let l = c .before .before .loop in
     λ sizes.
     c .ended .ensures
-    ∙ walking-ends (held (d sizes)) plan (l .tally) (l .i) _ (l .inv .0 sizes) (omega (arith, c .before .before .before .before .before .before .before .steps .ensures .is)) (omega (arith, c .before .before .before .before .before .before .before .steps .ensures .is)) (sym (c .before .before .before .before .before .row-at .ensures))
+    ∙ walking-ends (held (d sizes)) plan (l .tally) (l .i) _ (l .inv .0 sizes) (omega (arith, c .before .before .before .before .before .before .before .before .steps .ensures .is)) (omega (arith, c .before .before .before .before .before .before .before .before .steps .ensures .is)) (sym (c .before .before .before .before .before .row-at .ensures))
 
 pub take-steps-spec : {M : Type 1} → statement M
 take-steps-spec =
@@ -146,17 +149,18 @@ take-steps-spec =
     Inv-loop
     μ-loop
     steps-requires
+    cast-count
     row-at-requires
     state-of-requires
     start-requires
     loop-holds
-    step-at-requires
+    step-requires
     action-at-requires
     meets-requires
     refuse-requires
     refused-requires
     returns
-    step-requires
+    step-requires-2
     add-i
     loop-less
     loop-again

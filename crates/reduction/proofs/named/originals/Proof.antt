@@ -31,6 +31,9 @@ loop-holds c =
     let s = c .before .args in
     (chosen-none (now (s .numbers)) (isMarked (now (s .kept))), omega arith, omega arith, c .before .pre .source, c .before .pre .room, refl)
 
+cast-t9 : tie.Need-cast-t9 Inv-loop μ-loop
+cast-t9 c = search needs
+
 element-copy-out-push-action : tie.Need-element-copy-out-push-action Inv-loop μ-loop
 element-copy-out-push-action c = search needs
 
@@ -77,6 +80,7 @@ originals-spec =
     Inv-loop
     μ-loop
     loop-holds
+    cast-t9
     element-copy-out-push-action
     push-action-requires
     add-a

@@ -10,9 +10,6 @@ returns c =
     let e = not-true (c .before .args .test) (c .if1 .taken) in
     rw e (search (needs, bit-false (c .before .args .test) e))
 
-cast-numbers : tie.Need-cast-numbers
-cast-numbers c = search needs
-
 mul-numbers : tie.Need-mul-numbers
 mul-numbers c = search needs
 
@@ -35,7 +32,6 @@ push-action-spec =
     tie.close
     (tie.spec
     returns
-    cast-numbers
     mul-numbers
     slice-write-numbers
     add-result

@@ -1,6 +1,6 @@
 -- The loop's invariant: the entries before `j` are those of the numbers there.
 use Prim.Native.Nat.{ℕ, _-_, _≤_, _<_}
-use mathlib.Core.Path.{_≡_, refl, _∙_}
+use mathlib.Core.Path.{_≡_, refl, ap, _∙_}
 use native.Mathlib.Omega.{arith}
 use lib.ListN.{length, length-set, getD}
 use denote.Ref.{now}
@@ -21,23 +21,28 @@ abbrev μ-loop : tie.MeasureT-loop
 loop-holds : tie.Need-loop-holds Inv-loop μ-loop
 loop-holds c = (refl, λ k h. absurd (omega arith), omega arith)
 
+cast-t9 : tie.Need-cast-t9 Inv-loop μ-loop
+cast-t9 c = search needs
+
+original-requires : tie.Need-original-requires Inv-loop μ-loop
+original-requires c κs = search needs
+
+cast-a : tie.Need-cast-a Inv-loop μ-loop
+cast-a c = search needs
+
+known : (c : tie.After-struct-known Inv-loop μ-loop) → c .before .original .result .0 < 512
+known c =
+    let l = c .before .before .before .loop in
+    omega (arith, c .before .original .ensures, c .before .before .before .before .before .pre .source .known (l .j) (c .before .before .loop-test .taken))
+
 mul-costs : tie.Need-mul-costs Inv-loop μ-loop
-mul-costs c = search needs
+mul-costs c = omega (arith, known c)
 
 element-copy-out-costs : tie.Need-element-copy-out-costs Inv-loop μ-loop
-element-copy-out-costs c = search needs
-
-cast-costs : tie.Need-cast-costs Inv-loop μ-loop
-cast-costs c = omega (arith, c .before .before .before .pre .source .known (c .before .before .loop .j) (c .before .loop-test .taken))
+element-copy-out-costs c = known c
 
 mul-costs-2 : tie.Need-mul-costs-2 Inv-loop μ-loop
-mul-costs-2 c = omega (arith, c .before .before .before .pre .source .known (c .before .before .loop .j) (c .before .loop-test .taken))
-
-element-copy-out-costs-2 : tie.Need-element-copy-out-costs-2 Inv-loop μ-loop
-element-copy-out-costs-2 c = c .before .before .before .pre .source .known (c .before .before .loop .j) (c .before .loop-test .taken)
-
-mul-costs-3 : tie.Need-mul-costs-3 Inv-loop μ-loop
-mul-costs-3 c = search needs
+mul-costs-2 c = search needs
 
 slice-write-costs : tie.Need-slice-write-costs Inv-loop μ-loop
 slice-write-costs c = search needs
@@ -50,10 +55,10 @@ loop-less c = search needs
 
 loop-again : tie.Need-loop-again Inv-loop μ-loop
 loop-again c =
-    let l = c .before .before .before .loop in
-    let a = c .before .before .before .before .args in (
+    let l = c .before .before .before .before .loop in
+    let a = c .before .before .before .before .before .before .args in (
       length-set (l .costs) _ _ ∙ l .inv .0,
-      filled-before (l .costs) (l .j) _ (λ k x. x ≡ getD (now (a .old)) (getD (now (a .originals)) k 0) 0) (omega arith) (l .inv .1) refl,
+      filled-before (l .costs) (l .j) _ (λ k x. x ≡ getD (now (a .old)) (getD (now (a .originals)) k 0) 0) (omega arith) (l .inv .1) (ap (λ (n : ℕ). getD (now (a .old)) n 0) (c .before .before .original .ensures)),
       omega arith,
     )
 
@@ -70,12 +75,12 @@ map-costs-spec =
     Inv-loop
     μ-loop
     loop-holds
+    cast-t9
+    original-requires
+    cast-a
     mul-costs
     element-copy-out-costs
-    cast-costs
     mul-costs-2
-    element-copy-out-costs-2
-    mul-costs-3
     slice-write-costs
     add-j
     loop-less

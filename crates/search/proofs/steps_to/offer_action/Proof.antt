@@ -6,6 +6,9 @@ use borrow.Author.Needs.{needs}
 use Rattle.search.proofs.steps_to.offer_action.Statement.{statement}
 use Rattle.search.proofs.steps_to.offer_action.Tie as tie
 
+cast-base : tie.Need-cast-base
+cast-base c = search needs
+
 mul-base : tie.Need-mul-base
 mul-base c = search needs
 
@@ -14,7 +17,7 @@ reaches-requires c κs = search needs
 
 offer-requires : tie.Need-offer-requires
 offer-requires c κs =
-    let start = c .before .before .before .before .before .before in
+    let start = c .before .before .before .before .before .before .before in
     let is = reached-is (now (start .args .conditions)) (now (start .args .effects)) _ _ _ _ _ (c .before .before .before .reaches .ensures) (start .pre .values-are) in
     record {
       row = start .pre .row;
@@ -33,7 +36,7 @@ same-length-2 c = search needs
 
 returns : tie.Need-returns
 returns c =
-    let start = c .before .before .before .before .before .before .before .before .before .before .before in
+    let start = c .before .before .before .before .before .before .before .before .before .before .before .before in
     let is = reached-is (now (start .args .conditions)) (now (start .args .effects)) _ _ _ _ _ (c .before .before .before .before .before .before .before .before .reaches .ensures) (start .pre .values-are) in
     λ starts costs.
     record {
@@ -45,7 +48,7 @@ returns c =
 
 returns-2 : tie.Need-returns-2
 returns-2 c =
-    let start = c .before .before .before .before in
+    let start = c .before .before .before .before .before in
     let is = reached-is (now (start .args .conditions)) (now (start .args .effects)) _ _ _ _ _ (c .before .reaches .ensures) (start .pre .values-are) in
     λ starts costs.
     record {
@@ -58,4 +61,4 @@ returns-2 c =
 pub offer-action-spec : {M : Type 1} → statement M
 offer-action-spec =
     tie.close
-    (tie.spec mul-base reaches-requires offer-requires same-length same-length-2 returns returns-2)
+    (tie.spec cast-base mul-base reaches-requires offer-requires same-length same-length-2 returns returns-2)

@@ -31,14 +31,17 @@ values-of-requires c κs =
 loop-holds : tie.Need-loop-holds Inv-loop μ-loop
 loop-holds c = (actions-begin _ _ _ _ _ _ _ _ _ _ (c .before .before .before .before .before .pre), unchanged-none _ _, refl)
 
-mul-t25 : tie.Need-mul-t25 Inv-loop μ-loop
-mul-t25 c = search needs
+mul-cost : tie.Need-mul-cost Inv-loop μ-loop
+mul-cost c = search needs
 
-element-copy-out-t28 : tie.Need-element-copy-out-t28 Inv-loop μ-loop
-element-copy-out-t28 c = omega (arith, c .before .before .before .loop-test .taken, c .before .before .before .before .loop .inv .0 .asked .actions-few)
+element-copy-out-cost : tie.Need-element-copy-out-cost Inv-loop μ-loop
+element-copy-out-cost c = omega (arith, c .loop-test .taken, c .before .loop .inv .0 .asked .actions-few)
+
+cast-cost : tie.Need-cast-cost Inv-loop μ-loop
+cast-cost c = let l = c .before .before .loop in omega (arith, l .inv .0 .asked .cost-most (l .a) (c .before .loop-test .taken))
 
 cast-t29 : tie.Need-cast-t29 Inv-loop μ-loop
-cast-t29 c = let l = c .before .before .before .before .before .loop in omega (arith, l .inv .0 .asked .cost-most (l .a) (c .before .before .before .before .loop-test .taken))
+cast-t29 c = omega (arith, c .before .before .before .before .loop-test .taken, c .before .before .before .before .before .loop .inv .0 .asked .actions-few)
 
 after-step-requires : tie.Need-after-step-requires Inv-loop μ-loop
 after-step-requires c κs = step-on _ _ _ _ _ _ _ _ _ _ _ (c .before .before .before .before .before .loop .inv .0) _ _ (c .before .before .before .before .loop-test .taken) (c .before .before .before .before .before .before .before .entry-at .ensures) refl
@@ -90,8 +93,9 @@ settle-spec =
     entry-at-requires
     values-of-requires
     loop-holds
-    mul-t25
-    element-copy-out-t28
+    mul-cost
+    element-copy-out-cost
+    cast-cost
     cast-t29
     after-step-requires
     offer-action-requires

@@ -43,12 +43,12 @@ use denote.Triple.Clauses.{ensured, lasts}
 use denote.Triple.Table.{entered, cited}
 use denote.Triple.Walked.{says, needs, Stays, stay-none, stay-none-ref, stay-none-slice, walkOf, goes-none, goes-none-ref, goes-none-slice, Walks, ends-at, walked, walk-meets}
 use denote.Exit.{yes}
-use Rattle.plans.specs.declared.ReducedAction.{ReducedAction}
+use Rattle.files.specs.declared.units.ReducedAction.{ReducedAction}
 use Rattle.search.specs.declared.Entry.{Entry}
 use Rattle.search.specs.Entries.{tableEntry}
 use Rattle.search.specs.ReadOff.{Chosen, CanLead, FirstLed}
-use Rattle.plans.proofs.ReducedAction as A₀
-use Rattle.plans.proofs.ReducedAction.Laws as A′
+use Rattle.files.proofs.units.ReducedAction as A₀
+use Rattle.files.proofs.units.ReducedAction.Laws as A′
 use Rattle.search.proofs.Entry as T₀
 use Rattle.search.proofs.Entry.Laws as T′
 use Rattle.search.proofs.EntrySlices.{R, vals, tells, holds}

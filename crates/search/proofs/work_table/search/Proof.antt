@@ -52,8 +52,8 @@ use Rattle.search.specs.Entries.{entriesIn, tableEntry, CanFill}
 use Rattle.search.specs.ReadOff.{StepsToWrite, StepsWritten}
 use Rattle.search.specs.Planner.{searchBuffers}
 use Rattle.search.specs.Found.{CanSearchFiles, SearchesFiles, SearchedFiles, Begins, CanFinish, Finishes}
-use Rattle.plans.proofs.Steps as N₀
-use Rattle.plans.proofs.Steps.Laws as N′
+use Rattle.files.proofs.units.Steps as N₀
+use Rattle.files.proofs.units.Steps.Laws as N′
 use Rattle.reduction.proofs.Reduced as D₀
 use Rattle.reduction.proofs.Reduced.Laws as D′
 use Rattle.search.proofs.Entry as T₀

@@ -46,13 +46,13 @@ use denote.Triple.Clauses.{ensured, lasts}
 use denote.Triple.Table.{entered, cited}
 use denote.Triple.Walked.{says, needs, Stays, stay-none, stay-none-ref, stay-slice, stay-none-slice, walkOf, goes-none, goes-none-ref, goes-slice, goes-none-slice, Walks, ends-at, walked, walk-meets}
 use denote.Exit.{yes}
-use Rattle.plans.specs.declared.ReducedAction.{ReducedAction}
+use Rattle.files.specs.declared.units.ReducedAction.{ReducedAction}
 use Rattle.search.specs.declared.Entry.{Entry}
 use Rattle.search.specs.declared.stages.Searched.{Searched}
 use Rattle.search.specs.Entries.{tableEntry}
 use Rattle.search.specs.ReadOff.{CanNext, NextStates, CanLead, FirstLed, CanPut, StepPut, CanStep, StepsToWrite, StepsWritten}
-use Rattle.plans.proofs.ReducedAction as A₀
-use Rattle.plans.proofs.ReducedAction.Laws as A′
+use Rattle.files.proofs.units.ReducedAction as A₀
+use Rattle.files.proofs.units.ReducedAction.Laws as A′
 use Rattle.search.proofs.stages.Searched as S₀
 use Rattle.search.proofs.stages.Searched.Laws as S′
 use Rattle.search.proofs.EntrySlices.{R, holds, fails}

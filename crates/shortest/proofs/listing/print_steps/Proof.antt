@@ -13,6 +13,9 @@ abbrev μ-loop : tie.MeasureT-loop
 steps-requires : tie.Need-steps-requires Inv-loop μ-loop
 steps-requires c κs = search needs
 
+cast-count : tie.Need-cast-count Inv-loop μ-loop
+cast-count c = search needs
+
 loop-holds : tie.Need-loop-holds Inv-loop μ-loop
 loop-holds c = search needs
 
@@ -41,6 +44,7 @@ print-steps-spec =
     Inv-loop
     μ-loop
     steps-requires
+    cast-count
     loop-holds
     step-requires
     print-step-requires
