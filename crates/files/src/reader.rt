@@ -6,8 +6,8 @@ use crate::records;
 
 // The file being read and the offset reached.
 pub(crate) struct Reader<'a> {
-    file: &'a [u8],
-    at: usize,
+    pub(crate) file: &'a [u8],
+    pub(crate) at: usize,
 }
 
 // The reader behind the record at its offset.
