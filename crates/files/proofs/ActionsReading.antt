@@ -7,7 +7,7 @@ use mathlib.Core.List.{List}
 use lib.ListN.{length}
 use Rattle.files.specs.Bytes.{placed}
 use Rattle.files.specs.Contracts.{ActionRoom, ActionRead, ActionsRoom, ActionsRead}
-use Rattle.files.specs.Records.{offsetLimit, recordEnd}
+use Rattle.files.specs.Records.{recordEnd}
 use Rattle.files.specs.Rows.{filledRows, storedCosts, conditionLists, effectLists}
 use Rattle.files.specs.TaskFile.{actionFrom, actionsFrom}
 

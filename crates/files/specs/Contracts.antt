@@ -7,10 +7,12 @@ use lib.ListN.{length, getD, set}
 use Rattle.files.specs.declared.Outcome.{Outcome}
 use Rattle.files.specs.declared.reader.Reader.{Reader}
 use Rattle.files.specs.declared.records.Rule.{Rule}
+use Rattle.files.specs.declared.runs.Run.{Run}
 use Rattle.files.specs.Bytes.{u32At, placed}
 use Rattle.files.specs.Dense.{Arrays, held, arrays, OriginSizes}
 use Rattle.files.specs.Records.{bodyRule, offsetLimit, recordEnd}
 use Rattle.files.specs.Rows.{cleared, filled, filledRows, storedSizes, storedStarts, storedCosts, conditionLists, effectLists}
+use Rattle.files.specs.Runs.{runFrom}
 use Rattle.files.specs.Task.{Variable, Action}
 use Rattle.files.specs.TaskFile.{checkTask, taskOf, variablesIn, actionsIn, conditionsIn, effectsIn, effectsPlace, pairsFrom}
 
@@ -34,6 +36,18 @@ pub record Moved (s : RefT (List ℕ)) (at : ℕ) (r : Reader) : Type 0 where
   pub file : r .file ≡ s
   pub is : r .at ≡ recordEnd (now s) at
   pub below : r .at < at + 65540
+
+-- a record behind another, or the first, within the reach of a reader
+pub record Behind (before at : ℕ) : Type 0 where
+  pub behind : before ≤ at
+  pub reach : at < offsetLimit
+
+-- a run of records from an offset on
+pub record Ran (s : List ℕ) (at sort most : ℕ) (r : Run) : Type 0 where
+  pub is : r ≡ runFrom s sort at at most
+  pub behind : r .before ≤ r .at
+  pub reach : r .at ≤ at + 65540 * most
+  pub few : r .left ≤ most
 
 -- counts within the limits of a task
 pub record WithinLimits (variables actions : ℕ) : Type 0 where

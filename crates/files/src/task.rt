@@ -11,6 +11,7 @@ use crate::limits;
 use crate::outcomes;
 use crate::reader;
 use crate::records;
+use crate::runs;
 
 // The counts that a header states.
 pub fn variables_in(s: &[u8]) -> usize
@@ -198,7 +199,7 @@ fn check_action_form(s: &[u8], at: usize) -> Outcome
     outcomes::done()
 }
 
-fn check_action(s: &[u8], at: usize) -> Outcome
+pub(crate) fn check_action(s: &[u8], at: usize) -> Outcome
     requires { ⌜ at < offsetLimit ⌝ }
     ensures { λ r. ⌜ r ≡ actionAt (now (s .entry)) at ⌝ }
 {
@@ -222,17 +223,11 @@ pub(crate) fn check_actions(s: &[u8], at: usize, count: usize) -> Outcome
     requires { ⌜ at + 65540 * count < offsetLimit ⌝ }
     ensures { λ r. ⌜ r ≡ actionsAt (now (s .entry)) at count ⌝ }
 {
-    let mut place = at;
-    let mut left = count;
-    while 0 < left {
-        let action = check_action(s, place);
-        if action.number != 0 {
-            return action;
-        }
-        place = reader::record_after(s, place);
-        left -= 1;
+    let run = runs::run_from(s, at, runs::ACCEPTED_ACTIONS, count);
+    if 0 < run.left {
+        return check_action(s, run.at);
     }
-    records::check_sign_off(s, place)
+    records::check_sign_off(s, run.at)
 }
 
 // Where the goal, the first action and action `a` stand.
@@ -252,5 +247,5 @@ pub fn action_place(s: &[u8], a: usize) -> usize
     requires { ⌜ a < 65536 ⌝ }
     ensures { λ r. ⌜ IsBelow r (actionPlace (now (s .entry)) a) 8589934592 ⌝ }
 {
-    reader::records_after(s, actions_place(s), a)
+    runs::run_from(s, actions_place(s), runs::ANY, a).at
 }
