@@ -11,9 +11,8 @@ use Rattle.files.specs.declared.runs.Run.{Run}
 use Rattle.files.specs.Bytes.{u16At}
 use Rattle.files.specs.Outcome.{done, isDone, andThen}
 use Rattle.files.specs.OriginFile.{variableOriginAt, variableOriginsAt, variableOriginsFrom, originVariablesIn, originActionsPlace, leastAfter}
-use Rattle.files.specs.Records.{kindAt, recordEnd, recordsEnd, signOffAt}
+use Rattle.files.specs.Records.{kindAt, recordEnd, recordsEnd}
 use Rattle.files.specs.Runs.{takes, goesOn, runOf, runFrom}
-use Rattle.files.specs.TaskFile.{actionAt, actionsAt}
 
 pub record-behind : (s : List ℕ) (at : ℕ) → at ≤ recordEnd s at
 unfolding recordEnd
@@ -88,28 +87,6 @@ ending-early : (r : Run) (follows refused : Outcome) → 0 < r .left → refused
 unfolding ending
 ending-early r follows refused h = rw (ne-eqb (r .left) 0 (λ e. omega (arith, e))) refl
 
--- accepted actions
-after-actions : List ℕ → Run → Outcome
-after-actions s r = ending r (signOffAt s (r .at)) (actionAt s (r .at))
-
-run-actions : (s : List ℕ) (before at k : ℕ) → after-actions s (runFrom s 2 before at k) ≡ actionsAt s at k
-unfolding takes runFrom actionsAt andThen ending after-actions
-run-actions s before at zero = refl
-run-actions s before at (suc k) = go (isDone (actionAt s at)) (run-actions s at (recordEnd s at) k)
-  where
-    go : (t : Bool) → after-actions s (runFrom s 2 at (recordEnd s at) k) ≡ actionsAt s (recordEnd s at) k
-        → after-actions s (cond t (runFrom s 2 at (recordEnd s at) k) (runOf before at (suc k))) ≡ cond t (actionsAt s (recordEnd s at) k) (actionAt s at)
-    go true e = e
-    go false e = sym (ending-early (runOf before at (suc k)) _ _ (omega arith))
-
-pub actions-taken : (s : List ℕ) (at k : ℕ) (run : Run) (r : Outcome) → run ≡ runFrom s 2 at at k → run .left ≤ 0 → r ≡ signOffAt s (run .at) → r ≡ actionsAt s at k
-unfolding after-actions
-actions-taken s at k run r e h f = f ∙ ending-all run _ _ h ∙ ap (after-actions s) e ∙ run-actions s at at k
-
-pub actions-refused : (s : List ℕ) (at k : ℕ) (run : Run) (r : Outcome) → run ≡ runFrom s 2 at at k → 0 < run .left → r ≡ actionAt s (run .at) → r ≡ actionsAt s at k
-unfolding after-actions
-actions-refused s at k run r e h f = f ∙ ending-early run _ _ h ∙ ap (after-actions s) e ∙ run-actions s at at k
-
 -- accepted variable origins
 after-origins : List ℕ → Run → Outcome
 after-origins s r = ending r done (variableOriginAt s (leastAfter s (r .before) (r .at)) (r .at))
@@ -126,27 +103,27 @@ least-next : (s : List ℕ) (at : ℕ) → u16At s (at + 4) + 1 ≡ leastAfter s
 unfolding recordEnd
 least-next s at = least-later s at (recordEnd s at) (u16At s (at + 4)) (λ e. omega (arith, e)) refl
 
-run-origins-accepted : (s : List ℕ) (before at k : ℕ) → after-origins s (runFrom s 3 before at k) ≡ variableOriginsAt s (leastAfter s before at) at k
+run-origins-accepted : (s : List ℕ) (before at k : ℕ) → after-origins s (runFrom s 2 before at k) ≡ variableOriginsAt s (leastAfter s before at) at k
 unfolding takes runFrom variableOriginsAt andThen ending after-origins
 run-origins-accepted s before at zero = refl
 run-origins-accepted s before at (suc k) =
     go (isDone (variableOriginAt s (leastAfter s before at) at))
     (run-origins-accepted s at (recordEnd s at) k ∙ ap (λ (n : ℕ). variableOriginsAt s n (recordEnd s at) k) (sym (least-next s at)))
   where
-    go : (t : Bool) → after-origins s (runFrom s 3 at (recordEnd s at) k) ≡ variableOriginsAt s (u16At s (at + 4) + 1) (recordEnd s at) k
-        → after-origins s (cond t (runFrom s 3 at (recordEnd s at) k) (runOf before at (suc k)))
+    go : (t : Bool) → after-origins s (runFrom s 2 at (recordEnd s at) k) ≡ variableOriginsAt s (u16At s (at + 4) + 1) (recordEnd s at) k
+        → after-origins s (cond t (runFrom s 2 at (recordEnd s at) k) (runOf before at (suc k)))
         ≡ cond t (variableOriginsAt s (u16At s (at + 4) + 1) (recordEnd s at) k) (variableOriginAt s (leastAfter s before at) at)
     go true e = e
     go false e = sym (ending-early (runOf before at (suc k)) _ _ (omega arith))
 
-origins-run : (s : List ℕ) (k : ℕ) (run : Run) → run ≡ runFrom s 3 0 0 k → after-origins s run ≡ variableOriginsAt s 0 0 k
+origins-run : (s : List ℕ) (k : ℕ) (run : Run) → run ≡ runFrom s 2 0 0 k → after-origins s run ≡ variableOriginsAt s 0 0 k
 origins-run s k run e = ap (after-origins s) e ∙ run-origins-accepted s 0 0 k ∙ ap (λ (n : ℕ). variableOriginsAt s n 0 k) (sym (least-first s 0 0 refl))
 
-pub origins-taken : (s : List ℕ) (k : ℕ) (run : Run) (r : Outcome) → run ≡ runFrom s 3 0 0 k → run .left ≤ 0 → r ≡ done → r ≡ variableOriginsAt s 0 0 k
+pub origins-taken : (s : List ℕ) (k : ℕ) (run : Run) (r : Outcome) → run ≡ runFrom s 2 0 0 k → run .left ≤ 0 → r ≡ done → r ≡ variableOriginsAt s 0 0 k
 unfolding after-origins
 origins-taken s k run r e h f = f ∙ ending-all run _ _ h ∙ origins-run s k run e
 
-pub origins-refused : (s : List ℕ) (k : ℕ) (run : Run) (r : Outcome) → run ≡ runFrom s 3 0 0 k → 0 < run .left → r ≡ variableOriginAt s (leastAfter s (run .before) (run .at)) (run .at) → r ≡ variableOriginsAt s 0 0 k
+pub origins-refused : (s : List ℕ) (k : ℕ) (run : Run) (r : Outcome) → run ≡ runFrom s 2 0 0 k → 0 < run .left → r ≡ variableOriginAt s (leastAfter s (run .before) (run .at)) (run .at) → r ≡ variableOriginsAt s 0 0 k
 unfolding after-origins
 origins-refused s k run r e h f = f ∙ ending-early run _ _ h ∙ origins-run s k run e
 
@@ -159,13 +136,9 @@ pub takes-origin : (s : List ℕ) (sort before at kind : ℕ) → (sort ≡ 0 �
 unfolding takes
 takes-origin s sort before at kind d e f = rw (ne-eqb sort 0 d, eq-eqb sort 1 e) (ap (λ (n : ℕ). eqb n 6) f)
 
-pub takes-action : (s : List ℕ) (sort before at : ℕ) (o : Outcome) → (sort ≡ 0 → ⊥) → (sort ≡ 1 → ⊥) → sort ≡ 2 → o ≡ actionAt s at → eqb (o .number) 0 ≡ takes s sort before at
+pub takes-accepted : (s : List ℕ) (sort before at : ℕ) (o : Outcome) → (sort ≡ 0 → ⊥) → (sort ≡ 1 → ⊥) → o ≡ variableOriginAt s (leastAfter s before at) at → eqb (o .number) 0 ≡ takes s sort before at
 unfolding takes isDone
-takes-action s sort before at o d₀ d₁ e f = rw (ne-eqb sort 0 d₀, ne-eqb sort 1 d₁, eq-eqb sort 2 e) (ap (λ (x : Outcome). eqb (x .number) 0) f)
-
-pub takes-accepted : (s : List ℕ) (sort before at : ℕ) (o : Outcome) → (sort ≡ 0 → ⊥) → (sort ≡ 1 → ⊥) → (sort ≡ 2 → ⊥) → o ≡ variableOriginAt s (leastAfter s before at) at → eqb (o .number) 0 ≡ takes s sort before at
-unfolding takes isDone
-takes-accepted s sort before at o d₀ d₁ d₂ f = rw (ne-eqb sort 0 d₀, ne-eqb sort 1 d₁, ne-eqb sort 2 d₂) (ap (λ (x : Outcome). eqb (x .number) 0) f)
+takes-accepted s sort before at o d₀ d₁ f = rw (ne-eqb sort 0 d₀, ne-eqb sort 1 d₁) (ap (λ (x : Outcome). eqb (x .number) 0) f)
 
 pub goes-none : (s : List ℕ) (sort before at k : ℕ) → k ≡ 0 → false ≡ goesOn s sort before at k
 unfolding goesOn

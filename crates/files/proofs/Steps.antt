@@ -7,8 +7,8 @@ use lib.Dec.{leb, ltb}
 use Rattle.files.specs.declared.Outcome.{Outcome}
 use Rattle.files.specs.Bytes.{u16At}
 use Rattle.files.specs.Outcome.{done, refusal, guard, andThen}
-use Rattle.files.specs.Records.{numbersAt}
-use Rattle.files.specs.TaskFile.{variableAt, variablesAt, pairAt, pairsAt}
+use Rattle.files.specs.Records.{recordEnd, numbersAt, signOffAt}
+use Rattle.files.specs.TaskFile.{variableAt, variablesAt, pairAt, pairsAt, actionAt, actionsAt}
 use Rattle.files.specs.OriginFile.{actionOriginsAt}
 use Rattle.files.proofs.Guards.{goes-le, stops-le, goes-lt, stops-lt, goes-on, stops}
 use Rattle.files.proofs.Countdown.{one-more, none-left}
@@ -62,6 +62,25 @@ pairs-next s at-least at k whole r variable w h e z f =
     ap (λ (v : ℕ). pairsAt s (v + 1) (at + 4) (k - 1)) f
     ∙ goes-on _ _ _ r e z refl
     ∙ sym (pairs-step s at-least at k h)
+    ∙ w
+
+-- actions, and the sign-off behind them
+actions-step : (s : List ℕ) (at k : ℕ) → 0 < k → actionsAt s at k ≡ andThen (actionAt s at) (actionsAt s (recordEnd s at) (k - 1))
+unfolding actionsAt
+actions-step s at k h = ap (actionsAt s at) (one-more k h)
+
+pub actions-none : (s : List ℕ) (at k : ℕ) (whole r : Outcome) → actionsAt s at k ≡ whole → k ≤ 0 → r ≡ signOffAt s at → r ≡ whole
+unfolding actionsAt
+actions-none s at k whole r w h e = e ∙ sym (ap (actionsAt s at) (none-left k h)) ∙ w
+
+pub actions-stop : (s : List ℕ) (at k : ℕ) (whole r : Outcome) → actionsAt s at k ≡ whole → 0 < k → r ≡ actionAt s at → (r .number ≡ 0 → ⊥) → r ≡ whole
+actions-stop s at k whole r w h e d = stops _ _ r e d ∙ sym (actions-step s at k h) ∙ w
+
+pub actions-next : (s : List ℕ) (at k : ℕ) (whole r : Outcome) (next : ℕ) → actionsAt s at k ≡ whole → 0 < k → r ≡ actionAt s at → r .number ≡ 0 → next ≡ recordEnd s at → actionsAt s next (k - 1) ≡ whole
+actions-next s at k whole r next w h e z f =
+    ap (λ (p : ℕ). actionsAt s p (k - 1)) f
+    ∙ goes-on _ _ _ r e z refl
+    ∙ sym (actions-step s at k h)
     ∙ w
 
 -- action origins: they fall, or stop at one that is too large

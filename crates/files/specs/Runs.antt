@@ -7,15 +7,13 @@ use Rattle.files.specs.declared.runs.Run.{Run}
 use Rattle.files.specs.OriginFile.{variableOriginAt, leastAfter}
 use Rattle.files.specs.Outcome.{isDone}
 use Rattle.files.specs.Records.{kindAt, recordEnd}
-use Rattle.files.specs.TaskFile.{actionAt}
 
--- whether a run of a sort takes the record at `at`, behind the one at `before`: any record, a variable origin, an accepted action, an accepted variable origin
+-- whether a run of a sort takes the record at `at`, behind the one at `before`: any record, a variable origin, an accepted variable origin
 unfoldable pub takes : List ℕ → ℕ → ℕ → ℕ → Bool
 takes s sort before at =
     cond (eqb sort 0) true
     (cond (eqb sort 1) (eqb (kindAt s at) 6)
-    (cond (eqb sort 2) (isDone (actionAt s at))
-    (isDone (variableOriginAt s (leastAfter s before at) at))))
+    (isDone (variableOriginAt s (leastAfter s before at) at)))
 
 -- the same with `left` records still to take
 unfoldable pub goesOn : List ℕ → ℕ → ℕ → ℕ → ℕ → Bool

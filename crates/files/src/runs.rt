@@ -8,17 +8,13 @@ use crate::origin;
 use crate::reader;
 use crate::reader::Reader;
 use crate::records;
-use crate::task;
 
-// The sorts of runs: of any records, of variable origins, and of actions and variable origins that
-// are accepted.
+// The sorts of runs: of any records, of variable origins, and of variable origins that are accepted.
 pub(crate) const ANY: usize = 0;
 
 pub(crate) const ORIGINS: usize = 1;
 
-pub(crate) const ACCEPTED_ACTIONS: usize = 2;
-
-pub(crate) const ACCEPTED_ORIGINS: usize = 3;
+pub(crate) const ACCEPTED_ORIGINS: usize = 2;
 
 // Where a run's last record stands, and the first behind it, and how many more it could have had. A
 // run of no records has its start in both places.
@@ -38,9 +34,6 @@ fn takes(s: &[u8], sort: usize, before: usize, at: usize) -> bool
     }
     if sort == ORIGINS {
         return records::kind_at(s, at) == records::VARIABLE_ORIGIN;
-    }
-    if sort == ACCEPTED_ACTIONS {
-        return task::check_action(s, at).number == 0;
     }
     origin::check_after(s, before, at).number == 0
 }

@@ -10,6 +10,7 @@ use crate::bytes;
 use crate::limits;
 use crate::outcomes;
 use crate::reader;
+use crate::reader::Reader;
 use crate::records;
 use crate::runs;
 
@@ -199,7 +200,7 @@ fn check_action_form(s: &[u8], at: usize) -> Outcome
     outcomes::done()
 }
 
-pub(crate) fn check_action(s: &[u8], at: usize) -> Outcome
+fn check_action(s: &[u8], at: usize) -> Outcome
     requires { ⌜ at < offsetLimit ⌝ }
     ensures { λ r. ⌜ r ≡ actionAt (now (s .entry)) at ⌝ }
 {
@@ -223,11 +224,17 @@ pub(crate) fn check_actions(s: &[u8], at: usize, count: usize) -> Outcome
     requires { ⌜ at + 65540 * count < offsetLimit ⌝ }
     ensures { λ r. ⌜ r ≡ actionsAt (now (s .entry)) at count ⌝ }
 {
-    let run = runs::run_from(s, at, runs::ACCEPTED_ACTIONS, count);
-    if 0 < run.left {
-        return check_action(s, run.at);
+    let mut reader = Reader { file: s, at };
+    let mut left = count;
+    while 0 < left {
+        let action = check_action(s, reader.at);
+        if action.number != 0 {
+            return action;
+        }
+        reader = reader::past(reader);
+        left -= 1;
     }
-    records::check_sign_off(s, run.at)
+    records::check_sign_off(s, reader.at)
 }
 
 // Where the goal, the first action and action `a` stand.

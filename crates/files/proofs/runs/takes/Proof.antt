@@ -1,5 +1,5 @@
 -- Each sort is told by its number.
-use Rattle.files.proofs.RunLaws.{takes-any, takes-origin, takes-action, takes-accepted}
+use Rattle.files.proofs.RunLaws.{takes-any, takes-origin, takes-accepted}
 use borrow.Author.Needs.{needs}
 use Rattle.files.proofs.runs.takes.Statement.{statement}
 use Rattle.files.proofs.runs.takes.Tie as tie
@@ -13,17 +13,11 @@ kind-at-requires c κs = search needs
 returns-2 : tie.Need-returns-2
 returns-2 c = takes-origin _ _ _ _ _ (c .before .before .if1 .left) (c .before .if2 .taken) (c .kind-at .ensures)
 
-check-action-requires : tie.Need-check-action-requires
-check-action-requires c κs = search needs
-
-returns-3 : tie.Need-returns-3
-returns-3 c = takes-action _ _ _ _ _ (c .before .before .before .before .if1 .left) (c .before .before .before .if2 .left) (c .before .before .if3 .taken) (c .before .check-action .ensures)
-
 check-after-requires : tie.Need-check-after-requires
 check-after-requires c κs = search needs
 
-returns-4 : tie.Need-returns-4
-returns-4 c = takes-accepted _ _ _ _ _ (c .before .before .before .before .if1 .left) (c .before .before .before .if2 .left) (c .before .before .if3 .left) (c .before .check-after .ensures)
+returns-3 : tie.Need-returns-3
+returns-3 c = takes-accepted _ _ _ _ _ (c .before .before .before .if1 .left) (c .before .before .if2 .left) (c .before .check-after .ensures)
 
 pub takes-spec : {M : Type 1} → statement M
 takes-spec =
@@ -32,7 +26,5 @@ takes-spec =
     returns
     kind-at-requires
     returns-2
-    check-action-requires
-    returns-3
     check-after-requires
-    returns-4)
+    returns-3)
