@@ -1,14 +1,14 @@
 -- How the decoder's arrays are filled, step by step, as a loop that counts down wants it: what filling in the rest gives,
 -- `whole`, is given again one cell further on, or is what the array holds.
-use Prim.Native.Nat.{ℕ, _+_, _-_, _%_, _≤_, _<_}
+use Prim.Native.Nat.{ℕ, _+_, _-_, _*_, _%_, _≤_, _<_}
 use mathlib.Core.Path.{_≡_, refl, sym, ap, ap₂, _∙_}
 use mathlib.Core.List.{List}
 use lib.ListN.{set}
 use borrow.Author.Tests.{lt-ltb, le-ltb}
 use Rattle.files.specs.Bytes.{u16At, u32At, placed}
-use Rattle.files.specs.Records.{recordEnd}
-use Rattle.files.specs.TaskFile.{pairsFrom, variablesFrom, conditionsIn, effectsIn, effectsPlace, actionFrom, actionsFrom}
-use Rattle.files.specs.Rows.{cleared, stored, filled, filledRows, storedSizes, storedStarts, storedCosts, conditionLists, effectLists}
+use Rattle.files.specs.Contracts.{ActionRead}
+use Rattle.files.specs.TaskFile.{pairsFrom, variablesFrom, conditionsIn, effectsIn, effectsPlace}
+use Rattle.files.specs.Rows.{cleared, stored, filled, storedSizes, storedStarts}
 use Rattle.files.proofs.Countdown.{one-more, none-left}
 
 pub cleared-next : (row whole : List ℕ) (at k : ℕ) → cleared row at k ≡ whole → 0 < k → cleared (set row at 255) (at + 1) (k - 1) ≡ whole
@@ -64,46 +64,15 @@ pub starts-none : (b whole : List ℕ) (i : ℕ) (s : List ℕ) (at k : ℕ) →
 unfolding placed storedStarts variablesFrom
 starts-none b whole i s at k w h = sym (ap (λ (n : ℕ). placed b i (storedStarts (variablesFrom s at n))) (none-left k h)) ∙ w
 
--- an entry for each action
-pub costs-next : (b whole : List ℕ) (i : ℕ) (s : List ℕ) (at k x next : ℕ) → placed b i (storedCosts (actionsFrom s at k)) ≡ whole → 0 < k → x ≡ u32At s (at + 4) → next ≡ recordEnd s at
-    → placed (set b i x) (i + 1) (storedCosts (actionsFrom s next (k - 1))) ≡ whole
-unfolding placed storedCosts actionsFrom actionFrom
-costs-next b whole i s at k x next w h ex en =
-    ap₂ (λ (y m : ℕ). placed (set b i y) (i + 1) (storedCosts (actionsFrom s m (k - 1)))) ex en
-    ∙ sym (ap (λ (n : ℕ). placed b i (storedCosts (actionsFrom s at n))) (one-more k h))
-    ∙ w
-
-pub costs-none : (b whole : List ℕ) (i : ℕ) (s : List ℕ) (at k : ℕ) → placed b i (storedCosts (actionsFrom s at k)) ≡ whole → k ≤ 0 → b ≡ whole
-unfolding placed storedCosts actionsFrom
-costs-none b whole i s at k w h = sym (ap (λ (n : ℕ). placed b i (storedCosts (actionsFrom s at n))) (none-left k h)) ∙ w
-
--- a row for each action
-pub conditions-next : (rows blank rows′ whole : List ℕ) (base : ℕ) (s : List ℕ) (at k count next : ℕ) → filledRows rows base (conditionLists (actionsFrom s at k)) ≡ whole → 0 < k
-    → count ≡ conditionsIn s at → next ≡ recordEnd s at → blank ≡ cleared rows base 64 → rows′ ≡ filled blank base (pairsFrom s (at + 12) count)
-    → filledRows rows′ (base + 64) (conditionLists (actionsFrom s next (k - 1))) ≡ whole
-unfolding filledRows conditionLists actionsFrom actionFrom
-conditions-next rows blank rows′ whole base s at k count next w h ec en eb e =
-    ap₂ (λ (l : List ℕ) (m : ℕ). filledRows l (base + 64) (conditionLists (actionsFrom s m (k - 1))))
-    (e ∙ ap₂ (λ (l : List ℕ) (m : ℕ). filled l base (pairsFrom s (at + 12) m)) eb ec)
-    en
-    ∙ sym (ap (λ (n : ℕ). filledRows rows base (conditionLists (actionsFrom s at n))) (one-more k h))
-    ∙ w
-
-pub effects-next : (rows blank rows′ whole : List ℕ) (base : ℕ) (s : List ℕ) (at k count from next : ℕ) → filledRows rows base (effectLists (actionsFrom s at k)) ≡ whole → 0 < k
-    → count ≡ effectsIn s at → from ≡ effectsPlace s at → next ≡ recordEnd s at → blank ≡ cleared rows base 64 → rows′ ≡ filled blank base (pairsFrom s from count)
-    → filledRows rows′ (base + 64) (effectLists (actionsFrom s next (k - 1))) ≡ whole
-unfolding filledRows effectLists actionsFrom actionFrom
-effects-next rows blank rows′ whole base s at k count from next w h ec ef en eb e =
-    ap₂ (λ (l : List ℕ) (m : ℕ). filledRows l (base + 64) (effectLists (actionsFrom s m (k - 1))))
-    (e ∙ ap (λ (l : List ℕ). filled l base (pairsFrom s from count)) eb ∙ ap₂ (λ (m n : ℕ). filled (cleared rows base 64) base (pairsFrom s m n)) ef ec)
-    en
-    ∙ sym (ap (λ (n : ℕ). filledRows rows base (effectLists (actionsFrom s at n))) (one-more k h))
-    ∙ w
-
-pub conditions-none : (rows whole : List ℕ) (base : ℕ) (s : List ℕ) (at k : ℕ) → filledRows rows base (conditionLists (actionsFrom s at k)) ≡ whole → k ≤ 0 → rows ≡ whole
-unfolding filledRows conditionLists actionsFrom
-conditions-none rows whole base s at k w h = sym (ap (λ (n : ℕ). filledRows rows base (conditionLists (actionsFrom s at n))) (none-left k h)) ∙ w
-
-pub effects-none : (rows whole : List ℕ) (base : ℕ) (s : List ℕ) (at k : ℕ) → filledRows rows base (effectLists (actionsFrom s at k)) ≡ whole → k ≤ 0 → rows ≡ whole
-unfolding filledRows effectLists actionsFrom
-effects-none rows whole base s at k w h = sym (ap (λ (n : ℕ). filledRows rows base (effectLists (actionsFrom s at n))) (none-left k h)) ∙ w
+-- an action's entry and rows
+pub action-read : (s : List ℕ) (at a : ℕ) (costs conditions effects : List ℕ) (base cost : ℕ) (blank conditions′ : List ℕ) (count : ℕ) (blank′ effects′ : List ℕ) (from count′ : ℕ)
+    → base ≡ 64 * a → cost ≡ u32At s (at + 4) → count ≡ conditionsIn s at → from ≡ effectsPlace s at → count′ ≡ effectsIn s at
+    → blank ≡ cleared conditions base 64 → conditions′ ≡ filled blank base (pairsFrom s (at + 12) count)
+    → blank′ ≡ cleared effects base 64 → effects′ ≡ filled blank′ base (pairsFrom s from count′)
+    → ActionRead s at a costs conditions effects (set costs a cost) conditions′ effects′
+action-read s at a costs conditions effects base cost blank conditions′ count blank′ effects′ from count′ eb ec en ef em e₁ e₂ e₃ e₄ =
+    record {
+      costRead = ap (set costs a) ec;
+      conditionsRead = cc;
+      effectsRead = cc;
+    }

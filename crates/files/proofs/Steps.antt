@@ -1,30 +1,17 @@
 -- How the recursive checks go, step by step, as a loop that counts down wants it: what holds of the definition from
 -- here on, `whole`, holds again one entry further on, or is what the loop returns.
-use Prim.Native.Nat.{ℕ, suc, _+_, _-_, _≤_, _<_}
+use Prim.Native.Nat.{ℕ, _+_, _-_, _≤_, _<_}
 use mathlib.Core.Path.{_≡_, refl, sym, ap, _∙_}
-use mathlib.Core.Bool.{cond}
 use mathlib.Core.List.{List}
-use native.Mathlib.Omega.{arith}
-use lib.Dec.{leb, ltb, eqb}
-use borrow.Author.Tests.{eq-eqb, ne-eqb}
+use lib.Dec.{leb, ltb}
 use Rattle.files.specs.declared.Outcome.{Outcome}
 use Rattle.files.specs.Bytes.{u16At}
 use Rattle.files.specs.Outcome.{done, refusal, guard, andThen}
-use Rattle.files.specs.Records.{kindAt, recordEnd, recordsEnd, numbersAt, signOffAt}
+use Rattle.files.specs.Records.{recordEnd, numbersAt, signOffAt}
 use Rattle.files.specs.TaskFile.{variableAt, variablesAt, pairAt, pairsAt, actionAt, actionsAt}
-use Rattle.files.specs.OriginFile.{variableOriginAt, variableOriginsAt, actionOriginsAt, variableOriginsFrom}
+use Rattle.files.specs.OriginFile.{actionOriginsAt}
 use Rattle.files.proofs.Guards.{goes-le, stops-le, goes-lt, stops-lt, goes-on, stops}
 use Rattle.files.proofs.Countdown.{one-more, none-left}
-
--- records: the place behind them
-pub records-none : (s : List ℕ) (at k whole : ℕ) → recordsEnd s at k ≡ whole → k ≤ 0 → at ≡ whole
-unfolding recordsEnd
-records-none s at k whole w h = sym (ap (recordsEnd s at) (none-left k h)) ∙ w
-
-pub records-next : (s : List ℕ) (at k whole next : ℕ) → recordsEnd s at k ≡ whole → 0 < k → next ≡ recordEnd s at → recordsEnd s next (k - 1) ≡ whole
-unfolding recordsEnd
-records-next s at k whole next w h e =
-    ap (λ (p : ℕ). recordsEnd s p (k - 1)) e ∙ sym (ap (recordsEnd s at) (one-more k h)) ∙ w
 
 -- numbers below a limit
 numbers-step : (limit : ℕ) (s : List ℕ) (at k : ℕ) → 0 < k → numbersAt limit s at k ≡ guard (ltb (u16At s at) limit) 5 at (numbersAt limit s (at + 2) (k - 1))
@@ -96,26 +83,6 @@ actions-next s at k whole r next w h e z f =
     ∙ sym (actions-step s at k h)
     ∙ w
 
--- variable origins
-variable-origins-step : (s : List ℕ) (at-least at k : ℕ) → 0 < k → variableOriginsAt s at-least at k ≡ andThen (variableOriginAt s at-least at) (variableOriginsAt s (u16At s (at + 4) + 1) (recordEnd s at) (k - 1))
-unfolding variableOriginsAt
-variable-origins-step s at-least at k h = ap (variableOriginsAt s at-least at) (one-more k h)
-
-pub variable-origins-none : (s : List ℕ) (at-least at k : ℕ) (whole r : Outcome) → variableOriginsAt s at-least at k ≡ whole → k ≤ 0 → r ≡ done → r ≡ whole
-unfolding variableOriginsAt
-variable-origins-none s at-least at k whole r w h e = e ∙ sym (ap (variableOriginsAt s at-least at) (none-left k h)) ∙ w
-
-pub variable-origins-stop : (s : List ℕ) (at-least at k : ℕ) (whole r : Outcome) → variableOriginsAt s at-least at k ≡ whole → 0 < k → r ≡ variableOriginAt s at-least at → (r .number ≡ 0 → ⊥) → r ≡ whole
-variable-origins-stop s at-least at k whole r w h e d = stops _ _ r e d ∙ sym (variable-origins-step s at-least at k h) ∙ w
-
-pub variable-origins-next : (s : List ℕ) (at-least at k : ℕ) (whole r : Outcome) (variable next : ℕ) → variableOriginsAt s at-least at k ≡ whole → 0 < k → r ≡ variableOriginAt s at-least at → r .number ≡ 0 → variable ≡ u16At s (at + 4) → next ≡ recordEnd s at → variableOriginsAt s (variable + 1) next (k - 1) ≡ whole
-variable-origins-next s at-least at k whole r variable next w h e z f g =
-    ap (λ (v : ℕ). variableOriginsAt s (v + 1) next (k - 1)) f
-    ∙ ap (λ (p : ℕ). variableOriginsAt s (u16At s (at + 4) + 1) p (k - 1)) g
-    ∙ goes-on _ _ _ r e z refl
-    ∙ sym (variable-origins-step s at-least at k h)
-    ∙ w
-
 -- action origins: they fall, or stop at one that is too large
 action-origins-step : (s : List ℕ) (at-least at k : ℕ) → 0 < k → actionOriginsAt s at-least at k ≡ guard (leb at-least (u16At s at)) 6 at (guard (ltb (u16At s at) 512) 5 at (actionOriginsAt s (u16At s at + 1) (at + 2) (k - 1)))
 unfolding actionOriginsAt
@@ -141,23 +108,3 @@ action-origins-next s at-least at k whole n w h e l m =
     ∙ goes-le _ _ 6 at _ _ at-least n refl e l (goes-lt _ _ 5 at _ _ n 512 e refl m refl)
     ∙ sym (action-origins-step s at-least at k h)
     ∙ w
-
--- how many variable origins stand in a row
-origins-counted-step : (s : List ℕ) (at k : ℕ) → 0 < k → variableOriginsFrom s at k ≡ cond (eqb (kindAt s at) 6) (suc (variableOriginsFrom s (recordEnd s at) (k - 1))) 0
-unfolding variableOriginsFrom
-origins-counted-step s at k h = ap (variableOriginsFrom s at) (one-more k h)
-
-pub origins-counted-none : (s : List ℕ) (at k found whole : ℕ) → found + variableOriginsFrom s at k ≡ whole → k ≤ 0 → found ≡ whole
-unfolding variableOriginsFrom
-origins-counted-none s at k found whole w h = omega (arith, ap (variableOriginsFrom s at) (none-left k h))
-
-pub origins-counted-stop : (s : List ℕ) (at k found whole kind : ℕ) → found + variableOriginsFrom s at k ≡ whole → 0 < k → kind ≡ kindAt s at → (kind ≡ 6 → ⊥) → found ≡ whole
-origins-counted-stop s at k found whole kind w h e d =
-    let none : variableOriginsFrom s at k ≡ 0 = origins-counted-step s at k h ∙ rw (ne-eqb (kindAt s at) 6 (λ q. d (e ∙ q))) in
-    omega arith
-
-pub origins-counted-next : (s : List ℕ) (at k found whole kind next : ℕ) → found + variableOriginsFrom s at k ≡ whole → 0 < k → kind ≡ kindAt s at → kind ≡ 6 → next ≡ recordEnd s at → found + 1 + variableOriginsFrom s next (k - 1) ≡ whole
-origins-counted-next s at k found whole kind next w h e z f =
-    let more : variableOriginsFrom s at k ≡ suc (variableOriginsFrom s next (k - 1)) =
-    origins-counted-step s at k h ∙ rw (eq-eqb (kindAt s at) 6 (sym e ∙ z), f) in
-    omega arith

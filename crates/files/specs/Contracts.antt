@@ -3,16 +3,18 @@ use Prim.Native.Nat.{ℕ, _+_, _*_, _≤_, _<_}
 use mathlib.Core.Path.{_≡_}
 use mathlib.Core.List.{List}
 use denote.Ref.{RefT, now}
-use lib.ListN.{length, getD}
+use lib.ListN.{length, getD, set}
 use Rattle.files.specs.declared.Outcome.{Outcome}
 use Rattle.files.specs.declared.reader.Reader.{Reader}
 use Rattle.files.specs.declared.records.Rule.{Rule}
-use Rattle.files.specs.Bytes.{placed}
+use Rattle.files.specs.declared.runs.Run.{Run}
+use Rattle.files.specs.Bytes.{u32At, placed}
 use Rattle.files.specs.Dense.{Arrays, held, arrays, OriginSizes}
-use Rattle.files.specs.Records.{bodyRule, recordEnd}
-use Rattle.files.specs.Rows.{storedSizes, storedStarts}
-use Rattle.files.specs.Task.{Variable}
-use Rattle.files.specs.TaskFile.{checkTask, taskOf, variablesIn, actionsIn}
+use Rattle.files.specs.Records.{bodyRule, offsetLimit, recordEnd}
+use Rattle.files.specs.Rows.{cleared, filled, filledRows, storedSizes, storedStarts, storedCosts, conditionLists, effectLists}
+use Rattle.files.specs.Runs.{runFrom}
+use Rattle.files.specs.Task.{Variable, Action}
+use Rattle.files.specs.TaskFile.{checkTask, taskOf, variablesIn, actionsIn, conditionsIn, effectsIn, effectsPlace, pairsFrom}
 
 -- a number is the one given, and below a bound
 pub record IsBelow (r value bound : ℕ) : Type 0 where
@@ -34,6 +36,18 @@ pub record Moved (s : RefT (List ℕ)) (at : ℕ) (r : Reader) : Type 0 where
   pub file : r .file ≡ s
   pub is : r .at ≡ recordEnd (now s) at
   pub below : r .at < at + 65540
+
+-- a record behind another, or the first, within the reach of a reader
+pub record Behind (before at : ℕ) : Type 0 where
+  pub behind : before ≤ at
+  pub reach : at < offsetLimit
+
+-- a run of records from an offset on
+pub record Ran (s : List ℕ) (at sort most : ℕ) (r : Run) : Type 0 where
+  pub is : r ≡ runFrom s sort at at most
+  pub behind : r .before ≤ r .at
+  pub reach : r .at ≤ at + 65540 * most
+  pub few : r .left ≤ most
 
 -- counts within the limits of a task
 pub record WithinLimits (variables actions : ℕ) : Type 0 where
@@ -65,6 +79,32 @@ pub record VariableRoom (count : ℕ) (sizes starts : List ℕ) : Type 0 where
 pub record VariablesRead (variables : List Variable) (sizes starts sizesAfter startsAfter : List ℕ) : Type 0 where
   pub sizesRead : sizesAfter ≡ placed sizes 0 (storedSizes variables)
   pub startsRead : startsAfter ≡ placed starts 0 (storedStarts variables)
+
+-- arrays have room for action a, whose record stands at `at`, and for the first `count` actions
+pub record ActionRoom (costs conditions effects : List ℕ) (at a : ℕ) : Type 0 where
+  pub costsRoom : a < length costs
+  pub conditionsRoom : 64 * a + 64 ≤ length conditions
+  pub effectsRoom : 64 * a + 64 ≤ length effects
+  pub few : a < 65536
+  pub reach : at < offsetLimit
+
+pub record ActionsRoom (costs conditions effects : List ℕ) (at count : ℕ) : Type 0 where
+  pub costsRoom : count ≤ length costs
+  pub conditionsRoom : 64 * count ≤ length conditions
+  pub effectsRoom : 64 * count ≤ length effects
+  pub few : count < 65536
+  pub reach : at + 65540 * count < offsetLimit
+
+-- arrays before and after action a is stored, and after the actions from 0 on are
+pub record ActionRead (s : List ℕ) (at a : ℕ) (costs conditions effects costsAfter conditionsAfter effectsAfter : List ℕ) : Type 0 where
+  pub costRead : costsAfter ≡ set costs a (u32At s (at + 4))
+  pub conditionsRead : conditionsAfter ≡ filled (cleared conditions (64 * a) 64) (64 * a) (pairsFrom s (at + 12) (conditionsIn s at))
+  pub effectsRead : effectsAfter ≡ filled (cleared effects (64 * a) 64) (64 * a) (pairsFrom s (effectsPlace s at) (effectsIn s at))
+
+pub record ActionsRead (actions : List Action) (costs conditions effects costsAfter conditionsAfter effectsAfter : List ℕ) : Type 0 where
+  pub costsRead : costsAfter ≡ placed costs 0 (storedCosts actions)
+  pub conditionsRead : conditionsAfter ≡ filledRows conditions 0 (conditionLists actions)
+  pub effectsRead : effectsAfter ≡ filledRows effects 0 (effectLists actions)
 
 -- arrays with the counts that a file's header states
 abbrev pub fileArrays : List ℕ → List ℕ → List ℕ → List ℕ → List ℕ → List ℕ → List ℕ → Arrays

@@ -8,6 +8,7 @@ pub mod Records
 pub mod Task
 pub mod TaskFile
 pub mod OriginFile
+pub mod Runs
 pub mod PlanFile
 pub mod Reading
 pub mod Accepted

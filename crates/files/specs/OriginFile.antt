@@ -29,6 +29,10 @@ variableOriginAt s atLeast at =
     (guard (ltb (u16At s (at + 4)) 64) 5 (at + 4)
     (numbersAt 32 s (at + 6) (valuesIn s at))))
 
+-- the least variable of the origin at `at`: above that of the one at `before`, and any where it is the first, which has itself before it
+unfoldable pub leastAfter : List ℕ → ℕ → ℕ → ℕ
+leastAfter s before at = cond (eqb before at) 0 (u16At s (before + 4) + 1)
+
 unfoldable pub variableOriginsAt : List ℕ → ℕ → ℕ → ℕ → Outcome
 variableOriginsAt s atLeast at zero = done
 variableOriginsAt s atLeast at (suc count) =

@@ -3,15 +3,14 @@
 ghost use mathlib.Core.Path.{_≡_};
 ghost use Prim.Native.Nat.{_+_, _*_, _^_, _≤_};
 ghost use lib.ListN.{length};
-ghost use Rattle.files.specs.Bytes.{placed};
-ghost use Rattle.files.specs.Contracts.{Readable, VariableRoom, VariablesRead, fileArrays, TaskRead};
-ghost use Rattle.files.specs.Records.{offsetLimit};
-ghost use Rattle.files.specs.Rows.{cleared, stored, filled, filledRows, storedCosts, conditionLists, effectLists};
+ghost use Rattle.files.specs.Contracts.{Readable, VariableRoom, VariablesRead, ActionRoom, ActionRead, ActionsRoom, ActionsRead, fileArrays, TaskRead};
+ghost use Rattle.files.specs.Rows.{cleared, stored, filled};
 ghost use Rattle.files.specs.TaskFile.{pairsFrom, variablesFrom, actionsFrom};
 use crate::Outcome;
 use crate::bytes;
 use crate::limits;
 use crate::reader;
+use crate::reader::Reader;
 use crate::records;
 use crate::task;
 
@@ -72,56 +71,50 @@ fn read_variables(sizes: &mut [u8], starts: &mut [u8], s: &[u8], count: usize)
     }
 }
 
-// The costs of `count` actions from `at` on.
-fn read_costs(costs: &mut [u32], s: &[u8], at: usize, count: usize)
-    requires { ⌜ Readable count (now costs) (at + 65540 * count) offsetLimit ⌝ }
-    ensures { λ r. ⌜ now (costs .exit) ≡ placed (now (costs .entry)) 0 (storedCosts (actionsFrom (now (s .entry)) at count)) ⌝ }
+// The cost, the conditions and the effects of the action record at `at`, as those of action `a`.
+fn read_action(
+    costs: &mut [u32],
+    conditions: &mut [u8],
+    effects: &mut [u8],
+    s: &[u8],
+    at: usize,
+    a: usize,
+)
+    requires { ⌜ ActionRoom (now costs) (now conditions) (now effects) at a ⌝ }
+    ensures { λ r. ⌜ ActionRead (now (s .entry)) at a (now (costs .entry)) (now (conditions .entry)) (now (effects .entry)) (now (costs .exit)) (now (conditions .exit)) (now (effects .exit)) ⌝ }
 {
-    let mut i: usize = 0;
-    let mut place = at;
-    let mut left = count;
-    while 0 < left {
-        costs[i] = bytes::u32_at(s, place + 4) as u32;
-        i += 1;
-        place = reader::record_after(s, place);
-        left -= 1;
-    }
+    let base = limits::ROW * a;
+    costs[a] = bytes::u32_at(s, at + 4) as u32;
+    clear_row(conditions, base);
+    fill_row(conditions, base, s, at + 12, task::conditions_in(s, at));
+    clear_row(effects, base);
+    fill_row(
+        effects,
+        base,
+        s,
+        task::effects_place(s, at),
+        task::effects_in(s, at),
+    );
 }
 
-// The conditions of `count` actions from `at` on, a row each.
-fn read_conditions(rows: &mut [u8], s: &[u8], at: usize, count: usize)
-    requires { ⌜ Readable (64 * count) (now rows) (at + 65540 * count) offsetLimit ⌝ }
-    ensures { λ r. ⌜ now (rows .exit) ≡ filledRows (now (rows .entry)) 0 (conditionLists (actionsFrom (now (s .entry)) at count)) ⌝ }
+// `count` actions from `at` on.
+fn read_actions(
+    costs: &mut [u32],
+    conditions: &mut [u8],
+    effects: &mut [u8],
+    s: &[u8],
+    at: usize,
+    count: usize,
+)
+    requires { ⌜ ActionsRoom (now costs) (now conditions) (now effects) at count ⌝ }
+    ensures { λ r. ⌜ ActionsRead (actionsFrom (now (s .entry)) at count) (now (costs .entry)) (now (conditions .entry)) (now (effects .entry)) (now (costs .exit)) (now (conditions .exit)) (now (effects .exit)) ⌝ }
 {
-    let mut base: usize = 0;
-    let mut place = at;
-    let mut left = count;
-    while 0 < left {
-        let pairs = task::conditions_in(s, place);
-        clear_row(rows, base);
-        fill_row(rows, base, s, place + 12, pairs);
-        base += limits::ROW;
-        place = reader::record_after(s, place);
-        left -= 1;
-    }
-}
-
-// The effects of `count` actions from `at` on, a row each.
-fn read_effects(rows: &mut [u8], s: &[u8], at: usize, count: usize)
-    requires { ⌜ Readable (64 * count) (now rows) (at + 65540 * count) offsetLimit ⌝ }
-    ensures { λ r. ⌜ now (rows .exit) ≡ filledRows (now (rows .entry)) 0 (effectLists (actionsFrom (now (s .entry)) at count)) ⌝ }
-{
-    let mut base: usize = 0;
-    let mut place = at;
-    let mut left = count;
-    while 0 < left {
-        let pairs = task::effects_in(s, place);
-        let from = task::effects_place(s, place);
-        clear_row(rows, base);
-        fill_row(rows, base, s, from, pairs);
-        base += limits::ROW;
-        place = reader::record_after(s, place);
-        left -= 1;
+    let mut reader = Reader { file: s, at };
+    let mut a: usize = 0;
+    while a < count {
+        read_action(costs, conditions, effects, s, reader.at, a);
+        reader = reader::past(reader);
+        a += 1;
     }
 }
 
@@ -154,8 +147,6 @@ pub fn read_task(
         goal_at + 4,
         records::body_length(file, goal_at) / 4,
     );
-    read_costs(costs, file, at, actions);
-    read_conditions(conditions, file, at, actions);
-    read_effects(effects, file, at, actions);
+    read_actions(costs, conditions, effects, file, at, actions);
     checked
 }

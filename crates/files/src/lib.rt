@@ -8,6 +8,7 @@ pub mod outcomes;
 pub mod plan;
 mod reader;
 pub mod records;
+mod runs;
 pub mod task;
 pub mod units;
 pub mod write;

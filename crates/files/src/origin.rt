@@ -1,15 +1,15 @@
 // Origin files: the check of each record in the order of refusals.
 ghost use mathlib.Core.Path.{_≡_};
 ghost use Prim.Native.Nat.{_+_, _*_, _^_, _<_};
-ghost use Rattle.files.specs.Contracts.{IsBelow, IsAtMost};
-ghost use Rattle.files.specs.OriginFile.{valuesIn, variableOriginAt, variableOriginsAt, actionOriginsAt, originVariablesIn, originActionsPlace};
+ghost use Rattle.files.specs.Contracts.{IsBelow, IsAtMost, Behind};
+ghost use Rattle.files.specs.OriginFile.{valuesIn, leastAfter, variableOriginAt, variableOriginsAt, actionOriginsAt, originVariablesIn, originActionsPlace};
 ghost use Rattle.files.specs.Records.{offsetLimit};
 use crate::Outcome;
 use crate::bytes;
 use crate::limits;
 use crate::outcomes;
-use crate::reader;
 use crate::records;
+use crate::runs;
 
 // Up to how many variable origins are counted: one more than can pass.
 const COUNTED: usize = limits::MOST_VARIABLES + 1;
@@ -44,22 +44,34 @@ fn check_variable(s: &[u8], at_least: usize, at: usize) -> Outcome
     records::check_numbers(limits::MOST_VALUES, s, at + 6, values_in(s, at))
 }
 
+// The least variable that the variable origin at `at` may have, behind the one at `before`; the first
+// has itself before it.
+fn least_after(s: &[u8], before: usize, at: usize) -> usize
+    requires { ⌜ Behind before at ⌝ }
+    ensures { λ r. ⌜ r ≡ leastAfter (now (s .entry)) before at ⌝ }
+{
+    if before == at {
+        return 0;
+    }
+    bytes::u16_at(s, before + 4) + 1
+}
+
+// The variable origin at `at`, behind the one at `before`.
+pub(crate) fn check_after(s: &[u8], before: usize, at: usize) -> Outcome
+    requires { ⌜ Behind before at ⌝ }
+    ensures { λ r. ⌜ r ≡ variableOriginAt (now (s .entry)) (leastAfter (now (s .entry)) before at) at ⌝ }
+{
+    check_variable(s, least_after(s, before, at), at)
+}
+
 // `count` variable origins from the file's start on.
 pub(crate) fn check_variables(s: &[u8], count: usize) -> Outcome
     requires { ⌜ 65540 * count < offsetLimit ⌝ }
     ensures { λ r. ⌜ r ≡ variableOriginsAt (now (s .entry)) 0 0 count ⌝ }
 {
-    let mut at_least: usize = 0;
-    let mut place: usize = 0;
-    let mut left = count;
-    while 0 < left {
-        let variable = check_variable(s, at_least, place);
-        if variable.number != 0 {
-            return variable;
-        }
-        at_least = bytes::u16_at(s, place + 4) + 1;
-        place = reader::record_after(s, place);
-        left -= 1;
+    let run = runs::run_from(s, 0, runs::ACCEPTED_ORIGINS, count);
+    if 0 < run.left {
+        return check_after(s, run.before, run.at);
     }
     outcomes::done()
 }
@@ -91,24 +103,12 @@ pub(crate) fn check_actions(s: &[u8], at: usize, count: usize) -> Outcome
 pub(crate) fn variables_in(s: &[u8]) -> usize
     ensures { λ r. ⌜ IsAtMost r (originVariablesIn (now (s .entry))) 65 ⌝ }
 {
-    let mut found: usize = 0;
-    let mut place: usize = 0;
-    let mut left = COUNTED;
-    while 0 < left {
-        let kind = records::kind_at(s, place);
-        if kind != records::VARIABLE_ORIGIN {
-            return found;
-        }
-        found += 1;
-        place = reader::record_after(s, place);
-        left -= 1;
-    }
-    found
+    COUNTED - runs::run_from(s, 0, runs::ORIGINS, COUNTED).left
 }
 
 // Where the record of kind 7 stands.
 pub fn actions_place(s: &[u8]) -> usize
     ensures { λ r. ⌜ IsBelow r (originActionsPlace (now (s .entry))) 8589934592 ⌝ }
 {
-    reader::records_after(s, 0, variables_in(s))
+    runs::run_from(s, 0, runs::ORIGINS, COUNTED).at
 }

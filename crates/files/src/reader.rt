@@ -1,13 +1,13 @@
-// A reader of records, and the walk from record to record.
-ghost use Prim.Native.Nat.{_+_, _*_, _<_};
-ghost use Rattle.files.specs.Contracts.{IsBelow, IsAtMost, Moved};
-ghost use Rattle.files.specs.Records.{offsetLimit, recordEnd, recordsEnd};
+// A reader of records, and the step from record to record.
+ghost use Prim.Native.Nat.{_+_, _<_};
+ghost use Rattle.files.specs.Contracts.{IsBelow, Moved};
+ghost use Rattle.files.specs.Records.{offsetLimit, recordEnd};
 use crate::records;
 
 // The file being read and the offset reached.
 pub(crate) struct Reader<'a> {
-    file: &'a [u8],
-    at: usize,
+    pub(crate) file: &'a [u8],
+    pub(crate) at: usize,
 }
 
 // The reader behind the record at its offset.
@@ -27,18 +27,4 @@ pub fn record_after(file: &[u8], at: usize) -> usize
     ensures { λ r. ⌜ IsBelow r (recordEnd (now (file .entry)) at) (at + 65540) ⌝ }
 {
     past(Reader { file, at }).at
-}
-
-// Where the record after `count` records from `at` on stands.
-pub fn records_after(file: &[u8], at: usize, count: usize) -> usize
-    requires { ⌜ at + 65540 * count < offsetLimit ⌝ }
-    ensures { λ r. ⌜ IsAtMost r (recordsEnd (now (file .entry)) at count) (at + 65540 * count) ⌝ }
-{
-    let mut reader = Reader { file, at };
-    let mut left = count;
-    while 0 < left {
-        reader = past(reader);
-        left -= 1;
-    }
-    reader.at
 }

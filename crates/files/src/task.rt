@@ -10,7 +10,9 @@ use crate::bytes;
 use crate::limits;
 use crate::outcomes;
 use crate::reader;
+use crate::reader::Reader;
 use crate::records;
+use crate::runs;
 
 // The counts that a header states.
 pub fn variables_in(s: &[u8]) -> usize
@@ -222,17 +224,17 @@ pub(crate) fn check_actions(s: &[u8], at: usize, count: usize) -> Outcome
     requires { ⌜ at + 65540 * count < offsetLimit ⌝ }
     ensures { λ r. ⌜ r ≡ actionsAt (now (s .entry)) at count ⌝ }
 {
-    let mut place = at;
+    let mut reader = Reader { file: s, at };
     let mut left = count;
     while 0 < left {
-        let action = check_action(s, place);
+        let action = check_action(s, reader.at);
         if action.number != 0 {
             return action;
         }
-        place = reader::record_after(s, place);
+        reader = reader::past(reader);
         left -= 1;
     }
-    records::check_sign_off(s, place)
+    records::check_sign_off(s, reader.at)
 }
 
 // Where the goal, the first action and action `a` stand.
@@ -252,5 +254,5 @@ pub fn action_place(s: &[u8], a: usize) -> usize
     requires { ⌜ a < 65536 ⌝ }
     ensures { λ r. ⌜ IsBelow r (actionPlace (now (s .entry)) a) 8589934592 ⌝ }
 {
-    reader::records_after(s, actions_place(s), a)
+    runs::run_from(s, actions_place(s), runs::ANY, a).at
 }

@@ -48,52 +48,38 @@ body-length-requires c κs = search needs
 fill-row-requires : tie.Need-fill-row-requires
 fill-row-requires c κs = search needs
 
-read-costs-requires : tie.Need-read-costs-requires
-read-costs-requires c κs =
-    let f = now (c .before .before .before .before .before .before .before .before .before .before .before .before .before .before .before .before .before .args .file) in
-    let octets : Octets f = λ i. omega (arith, c .before .before .before .before .before .before .before .before .before .before .before .before .before .before .before .before .shared-slice-known .given i) in
-    let passes : checkTask f .number ≡ 0 = ap (λ (o : Outcome). o .number) (sym (c .before .before .before .before .before .before .before .before .before .before .before .before .before .before .before .check-task .ensures)) ∙ c .before .before .before .before .before .before .before .before .before .before .before .before .before .if1 .left in
-    let few = actions-in-few f octets passes in search needs
-
-read-conditions-requires : tie.Need-read-conditions-requires
-read-conditions-requires c κs =
+read-actions-requires : tie.Need-read-actions-requires
+read-actions-requires c κs =
     let f = now (c .before .before .before .before .before .before .before .before .before .before .before .before .before .before .before .before .before .before .before .args .file) in
     let octets : Octets f = λ i. omega (arith, c .before .before .before .before .before .before .before .before .before .before .before .before .before .before .before .before .before .before .shared-slice-known .given i) in
     let passes : checkTask f .number ≡ 0 = ap (λ (o : Outcome). o .number) (sym (c .before .before .before .before .before .before .before .before .before .before .before .before .before .before .before .before .before .check-task .ensures)) ∙ c .before .before .before .before .before .before .before .before .before .before .before .before .before .before .before .if1 .left in
     let few = actions-in-few f octets passes in search needs
 
-read-effects-requires : tie.Need-read-effects-requires
-read-effects-requires c κs =
-    let f = now (c .before .before .before .before .before .before .before .before .before .before .before .before .before .before .before .before .before .before .before .before .before .args .file) in
-    let octets : Octets f = λ i. omega (arith, c .before .before .before .before .before .before .before .before .before .before .before .before .before .before .before .before .before .before .before .before .shared-slice-known .given i) in
-    let passes : checkTask f .number ≡ 0 = ap (λ (o : Outcome). o .number) (sym (c .before .before .before .before .before .before .before .before .before .before .before .before .before .before .before .before .before .before .before .check-task .ensures)) ∙ c .before .before .before .before .before .before .before .before .before .before .before .before .before .before .before .before .before .if1 .left in
-    let few = actions-in-few f octets passes in search needs
-
 returns-2 : tie.Need-returns-2
 returns-2 c =
-    let f = now (c .before .before .before .before .before .before .before .before .before .before .before .before .before .before .before .before .before .before .before .before .before .before .args .file) in
-    let octets : Octets f = λ i. omega (arith, c .before .before .before .before .before .before .before .before .before .before .before .before .before .before .before .before .before .before .before .before .before .shared-slice-known .given i) in
-    let passes : checkTask f .number ≡ 0 = ap (λ (o : Outcome). o .number) (sym (c .before .before .before .before .before .before .before .before .before .before .before .before .before .before .before .before .before .before .before .before .check-task .ensures)) ∙ c .before .before .before .before .before .before .before .before .before .before .before .before .before .before .before .before .before .before .if1 .left in
-    task-read f _ _ _ (c .before .before .before .before .before .before .before .before .before .before .before .before .before .before .before .before .before .before .before .before .check-task .ensures) (c .before .before .before .before .before .before .before .before .before .before .before .before .before .before .before .before .before .before .if1 .left)
+    let f = now (c .before .before .before .before .before .before .before .before .before .before .before .before .before .before .before .before .before .before .before .before .args .file) in
+    let octets : Octets f = λ i. omega (arith, c .before .before .before .before .before .before .before .before .before .before .before .before .before .before .before .before .before .before .before .shared-slice-known .given i) in
+    let passes : checkTask f .number ≡ 0 = ap (λ (o : Outcome). o .number) (sym (c .before .before .before .before .before .before .before .before .before .before .before .before .before .before .before .before .before .before .check-task .ensures)) ∙ c .before .before .before .before .before .before .before .before .before .before .before .before .before .before .before .before .if1 .left in
+    task-read f _ _ _ (c .before .before .before .before .before .before .before .before .before .before .before .before .before .before .before .before .before .before .check-task .ensures) (c .before .before .before .before .before .before .before .before .before .before .before .before .before .before .before .before .if1 .left)
     (held-file f octets passes _ _ _ _ _ _ _ _ _ _ _ _ _ _ _ _ _ _
-    (c .before .before .before .before .before .before .before .before .before .before .before .before .variables-in .ensures .is)
-    (c .before .before .before .before .before .before .before .before .before .before .before .before .before .before .before .actions-in .ensures .is)
-    (c .before .before .before .before .before .before .before .before .before .before .before .before .before .before .before .before .before .goal-place .ensures .is)
-    (c .before .before .before .before .before .before .before .before .before .before .before .before .before .before .before .before .actions-place .ensures .is)
-    (c .before .before .before .before .before .before .before .body-length .ensures .is)
+    (c .before .before .before .before .before .before .before .before .before .before .variables-in .ensures .is)
+    (c .before .before .before .before .before .before .before .before .before .before .before .before .before .actions-in .ensures .is)
+    (c .before .before .before .before .before .before .before .before .before .before .before .before .before .before .before .goal-place .ensures .is)
+    (c .before .before .before .before .before .before .before .before .before .before .before .before .before .before .actions-place .ensures .is)
+    (c .before .before .before .before .before .body-length .ensures .is)
     (omega arith)
     (omega arith)
     (omega arith)
     (omega arith)
     (omega arith)
     (omega arith)
-    (c .before .before .before .before .before .before .before .before .before .before .before .read-variables .ensures .sizesRead)
-    (c .before .before .before .before .before .before .before .before .before .before .before .read-variables .ensures .startsRead)
-    (c .before .before .before .before .before .before .before .before .before .clear-row .ensures)
-    (c .before .before .before .before .before .before .fill-row .ensures)
-    (c .before .before .before .before .read-costs .ensures)
-    (c .before .before .read-conditions .ensures)
-    (c .read-effects .ensures))
+    (c .before .before .before .before .before .before .before .before .before .read-variables .ensures .sizesRead)
+    (c .before .before .before .before .before .before .before .before .before .read-variables .ensures .startsRead)
+    (c .before .before .before .before .before .before .before .clear-row .ensures)
+    (c .before .before .before .before .fill-row .ensures)
+    (c .read-actions .ensures .costsRead)
+    (c .read-actions .ensures .conditionsRead)
+    (c .read-actions .ensures .effectsRead))
 
 pub read-task-spec : {M : Type 1} → statement M
 read-task-spec =
@@ -110,7 +96,5 @@ read-task-spec =
     add-fill-row
     body-length-requires
     fill-row-requires
-    read-costs-requires
-    read-conditions-requires
-    read-effects-requires
+    read-actions-requires
     returns-2)
