@@ -1,29 +1,37 @@
 -- The search of one task by its stages, from what its parts came to.
-use Prim.Native.Nat.{ℕ, _+_, _*_, _≤_, _<_}
+use Prim.Native.Nat.{ℕ, _+_, _*_, _-_, _≤_, _<_}
 use mathlib.Core.Path.{_≡_, refl, sym, ap, ap₂, subst, _∙_}
 use mathlib.Core.Bool.{true, false}
 use mathlib.Core.List.{List, []}
 use mathlib.Core.Option.{Option, none, some, Option·map, Option·getD}
 use native.Mathlib.Omega.{arith}
-use lib.ListN.{length, getD, length-map}
+use lib.ListN.{length, getD, take, length-map}
 use Rattle.files.specs.declared.Outcome.{Outcome}
 use Rattle.files.specs.Outcome.{done, refusal, isDone, fits, overwrite}
-use Rattle.files.specs.OriginFile.{originOf}
+use Rattle.files.specs.Accepted.{acceptedTask}
+use Rattle.files.specs.Dense.{Arrays, held}
+use Rattle.files.specs.OriginFile.{originOf, originActionsPlace}
 use Rattle.files.specs.PlanFile.{planFile}
 use Rattle.files.specs.Task.{Task}
-use Rattle.files.proofs.Guards.{goes-le, stops-le, is-refused}
+use Rattle.files.specs.TaskFile.{taskOf}
+use Rattle.files.proofs.Guards.{goes-le, stops-le, is-refused, is-done, done-number}
+use Rattle.files.proofs.HeldTask.{actions-held}
+use Rattle.files.proofs.Logic.{clash, split}
 use Rattle.files.proofs.Lengths.{plan-file-length}
 use Rattle.files.proofs.Stages.{is-yes, by-end, by-stop, by-next}
 use Rattle.files.proofs.Valid.{Valid}
 use Rattle.plans.specs.Plan.{Total, totalOf}
+use Rattle.reduction.specs.declared.Reduced.{Reduced}
 use Rattle.reduction.specs.Preserved.{byOriginFile}
 use Rattle.search.specs.declared.Entry.{Entry}
 use Rattle.search.specs.declared.stages.Found.{Found}
+use Rattle.search.specs.declared.stages.Searched.{Searched}
 use Rattle.search.specs.States.{stateCount}
 use Rattle.search.specs.Table.{distances, tableOf}
 use Rattle.search.specs.FirstPlan.{startNumber, firstPlan, foundPlan}
 use Rattle.search.specs.Planner.{statesFit, planFits, searchBuffers, searchStages}
-use Rattle.search.specs.Found.{foundStates, notFound, foundWhole, Searches}
+use Rattle.search.specs.Found.{foundStates, notFound, foundWhole, Searches, unsearched, SearchedIn, SearchedFiles}
+use Rattle.search.proofs.HeldStates.{held-variables, held-actions, searchable}
 use Rattle.search.proofs.Radix.{start-below}
 use Rattle.search.proofs.ReadOff.{steps-length}
 use Rattle.search.proofs.LeastPlans.{stepsRead, first-plan-some, search-least}
@@ -116,3 +124,68 @@ module _ (t : Task) (valid : Valid t) (x : Total) (e : getD (distances t) (start
 -- the plan by other numbers, where there is one
 pub plan-made : (t : Task) (plan : List ℕ) (original : List ℕ → List ℕ) → firstPlan t ≡ some plan → Option·getD (Option·map original (firstPlan t)) [] ≡ original (Option·getD (firstPlan t) [])
 plan-made t plan original e = rw e refl
+
+-- the search of the task that arrays hold: refused, and done
+pub searched-refused : (t : Task) (room named place : ℕ) (o : Outcome) → o ≡ statesFit t room → (o .number ≡ 0 → ⊥) → (r : Searched) → r ≡ unsearched o
+    → (entries : List Entry) (sizes costs conditions effects : List ℕ) → SearchedIn t room named place r entries sizes costs conditions effects
+searched-refused t room named place o e d r q entries sizes costs conditions effects =
+    let is : r .outcome ≡ o = ap (λ (x : Searched). x .outcome) q in
+    let not-done : r .outcome .number ≡ 0 → ⊥ = λ z. d (ap (λ (x : Outcome). x .number) (sym is) ∙ z) in
+    record {
+      outcome = is ∙ e;
+      refused = λ n. q ∙ ap unsearched (sym is);
+      found = λ z. absurd (not-done z);
+      named-is = λ z. absurd (not-done z);
+      place-is = λ z. absurd (not-done z);
+    }
+
+pub searched-done : (d : Arrays) (room named place : ℕ) → acceptedTask (held d) ≡ true → stateCount (held d .variables) ≤ 4096 → done ≡ statesFit (held d) room
+    → (o : Outcome) → o ≡ done → (states start : ℕ) → states ≡ stateCount (held d .variables) → start ≡ startNumber (held d) → (entries : List Entry) → entries ≡ tableOf (held d)
+    → SearchedIn (held d) room named place (record { outcome = o; states = states; start = start; variables = d .variables; actions = d .actions; named = named; place = place })
+    entries (d .sizes) (d .costs) (d .conditions) (d .effects)
+searched-done d room named place accepted few fit o q states start n s entries table =
+    record {
+      outcome = q ∙ fit;
+      refused = λ k. absurd (k (ap (λ (x : Outcome). x .number) q));
+      found = λ z.
+          record {
+            accepted = accepted;
+            few = few;
+            states = n;
+            start = s;
+            stepped =
+                record {
+                  starts = d .starts;
+                  variables-are = held-variables d;
+                  count = sym (actions-held d);
+                  actions-are = λ a h. held-actions d a (omega (arith, actions-held d));
+                };
+            asked = searchable d accepted few;
+            table = table;
+          };
+      named-is = λ z. refl;
+      place-is = λ z. refl;
+    }
+
+-- the part of a buffer that holds a file
+pub file-part : (n : ℕ) (buffer : List ℕ) → take (n - 0) buffer ≡ take n buffer
+file-part n buffer = let whole : n - 0 ≡ n = omega arith in ap (λ (m : ℕ). take m buffer) whole
+
+-- the same of the reduced file
+module _ (first : Reduced) (reduced origin : List ℕ) (room : ℕ) (r : Searched) (entries : List Entry) (sizes costs conditions effects : List ℕ) where
+  pub searched-not : (first .outcome .number ≡ 0 → ⊥) → r ≡ unsearched (first .outcome) → SearchedFiles first reduced origin room r entries sizes costs conditions effects
+  searched-not d q = record { refused = λ n. q; searched-in = λ z. absurd (d z); place-few = omega (arith, ap (λ (x : Searched). x .place) q) }
+
+  pub searched-files : first .outcome .number ≡ 0 → (h : Task) → h ≡ taskOf (take (first .reduced) reduced) → (place : ℕ) → place ≡ originActionsPlace (take (first .origin) origin) + 4 → place < 8589934600
+      → SearchedIn h room (first .origin) place r entries sizes costs conditions effects → SearchedFiles first reduced origin room r entries sizes costs conditions effects
+  searched-files z h is place p few k =
+      record {
+        refused = λ d. absurd (d z);
+        searched-in = λ _.
+            subst (λ (x : Task). SearchedIn x room (first .origin) (originActionsPlace (take (first .origin) origin) + 4) r entries sizes costs conditions effects) is
+            (subst (λ (n : ℕ). SearchedIn h room (first .origin) n r entries sizes costs conditions effects) p k);
+        place-few =
+            split (isDone (r .outcome))
+            (λ y. omega (arith, k .place-is (done-number (r .outcome) y)))
+            (λ n. omega (arith, ap (λ (x : Searched). x .place) (k .refused (λ w. clash (is-done (r .outcome) w) n))));
+      }

@@ -1,76 +1,69 @@
+-- Nothing is searched beside a refusal; else the arrays hold the task of the file.
+use Prim.Native.Nat.{ℕ, _+_, _-_}
+use mathlib.Core.Path.{_≡_, sym, ap, subst, _∙_}
+use mathlib.Core.List.{List}
+use native.Mathlib.Omega.{arith}
+use denote.Ref.{now}
+use lib.ListN.{take}
+use Rattle.files.specs.declared.Outcome.{Outcome}
+use Rattle.files.specs.Accepted.{acceptedTask}
+use Rattle.files.specs.Bytes.{Octets}
+use Rattle.files.specs.Dense.{held, arrays}
+use Rattle.files.specs.Outcome.{done}
+use Rattle.files.specs.OriginFile.{originActionsPlace}
+use Rattle.files.specs.TaskFile.{checkTask, taskOf}
+use Rattle.files.proofs.TaskChecked.{task-accepted}
+use Rattle.files.proofs.HeldTask.{held-by}
+use Rattle.search.proofs.FoundLaws.{file-part, searched-not, searched-files}
 use borrow.Author.Needs.{needs}
 use Rattle.search.proofs.stages.search_files.Statement.{statement}
 use Rattle.search.proofs.stages.search_files.Tie as tie
-use Rattle.search.proofs.stages.search_files.Reads as reads
-use Rattle.search.proofs.stages.search_files.Lts as lts
-use Rattle.files.proofs.decode.read_task.Reads as read-task-reads
-use Rattle.files.proofs.origin.actions_place.Reads as actions-place-reads
-use Rattle.files.proofs.task.actions_in.Reads as actions-in-reads
-use Rattle.files.proofs.task.variables_in.Reads as variables-in-reads
-use Rattle.search.proofs.stages.search_arrays.Reads as search-arrays-reads
-use Rattle.search.proofs.stages.unsearched.Reads as unsearched-reads
 
--- src/stages.rt:126:9
 unsearched-requires : tie.Need-unsearched-requires
 unsearched-requires c κs = search needs
 
--- src/stages.rt:126:9
 returns : tie.Need-returns
-returns c = ?
+returns c = searched-not _ _ _ _ _ _ _ _ _ _ (c .before .if1 .taken) (c .unsearched .ensures)
 
--- src/stages.rt:130:16
 sub-file : tie.Need-sub-file
 sub-file c = search needs
 
--- src/stages.rt:130:16
 part-file-start : tie.Need-part-file-start
 part-file-start c = search needs
 
--- src/stages.rt:130:16
 part-file-end : tie.Need-part-file-end
 part-file-end c = ?
 
--- src/stages.rt:133:5
 read-task-requires : tie.Need-read-task-requires
 read-task-requires c κs = search needs
 
--- src/stages.rt:146:38
 sub-actions-place : tie.Need-sub-actions-place
 sub-actions-place c = search needs
 
--- src/stages.rt:146:38
 part-actions-place-start : tie.Need-part-actions-place-start
 part-actions-place-start c = search needs
 
--- src/stages.rt:146:38
 part-actions-place-end : tie.Need-part-actions-place-end
 part-actions-place-end c = ?
 
--- src/stages.rt:146:9
 actions-place-requires : tie.Need-actions-place-requires
 actions-place-requires c κs = search needs
 
--- src/stages.rt:146:9
 add-search-arrays : tie.Need-add-search-arrays
 add-search-arrays c = search needs
 
--- src/stages.rt:147:9
 variables-in-requires : tie.Need-variables-in-requires
 variables-in-requires c κs = search needs
 
--- src/stages.rt:148:9
 actions-in-requires : tie.Need-actions-in-requires
 actions-in-requires c κs = search needs
 
--- src/stages.rt:142:5
 search-arrays-requires : tie.Need-search-arrays-requires
 search-arrays-requires c κs = ?
 
--- src/stages.rt:110:1
 same-length : tie.Need-same-length
 same-length c = search needs
 
--- src/stages.rt:110:1
 returns-2 : tie.Need-returns-2
 returns-2 c = ?
 
