@@ -1,5 +1,5 @@
--- What the walks of `work_table` cite of the types beside the table's: how an action's number, what a search comes to and the arrays of a task are spelled in memory, and the MIR types of references.
-use mathlib.Core.Path.{_≡_, ap, _∙_}
+-- What the walks of `work_table` cite of the types beside the table's: how numbers of actions and of steps, what the stages come to and the arrays of a task are spelled in memory, and the MIR types of references.
+use mathlib.Core.Path.{_≡_, ap, subst, _∙_}
 use Prim.Native.Nat.{ℕ, zero, suc, _+_}
 use native.Mathlib.Nat.{add-zero, add-suc}
 use mathlib.Core.List.{List, [], _∷_}
@@ -14,11 +14,24 @@ use denote.Array.{Array, array-vals, array-tells}
 use denote.Steps.{only}
 use denote.Struct.Laws as LL
 use Rattle.files.specs.declared.units.ReducedAction.{ReducedAction}
+use Rattle.files.specs.declared.units.Steps.{Steps}
+use Rattle.search.specs.declared.Entry.{Entry}
+use Rattle.search.specs.declared.Planned.{Planned}
+use Rattle.search.specs.declared.stages.Found.{Found}
 use Rattle.search.specs.declared.stages.Searched.{Searched}
 use Rattle.files.proofs.units.ReducedAction as A₀
 use Rattle.files.proofs.units.ReducedAction.Laws as A′
+use Rattle.files.proofs.units.Steps as N₀
+use Rattle.files.proofs.units.Steps.Laws as N′
+use Rattle.reduction.proofs.Reduced as D₀
+use Rattle.search.proofs.Entry.Laws as T′
+use Rattle.search.proofs.Planned as P₀
+use Rattle.search.proofs.Planned.Laws as P′
+use Rattle.search.proofs.stages.Found as F₀
+use Rattle.search.proofs.stages.Found.Laws as F′
 use Rattle.search.proofs.stages.Searched as S₀
 use Rattle.search.proofs.stages.Searched.Laws as S′
+use Rattle.search.proofs.EntrySlices.{R}
 
 -- an action's number
 abbrev pub Act : RattleType
@@ -30,6 +43,16 @@ action-vals = LL.vals A₀.the-type A′.the-laws
 pub action-tells : Tells Act (Is Act) action-vals
 action-tells = LL.tells A₀.the-type A′.the-laws
 
+-- a number of steps
+abbrev pub N : RattleType
+N = N₀.the-row
+
+abbrev pub steps-vals : Steps → List Val
+steps-vals = LL.vals N₀.the-type N′.the-laws
+
+pub steps-tells : Tells N (Is N) steps-vals
+steps-tells = LL.tells N₀.the-type N′.the-laws
+
 -- what a search comes to
 abbrev pub S : RattleType
 S = S₀.the-row
@@ -39,6 +62,26 @@ searched-vals = LL.vals S₀.the-type S′.the-laws
 
 pub searched-tells : Tells S (Is S) searched-vals
 searched-tells = LL.tells S₀.the-type S′.the-laws
+
+-- the answers of reduction, of a search with its plan, and of the planner
+abbrev pub D : RattleType
+D = D₀.the-row
+
+abbrev pub F : RattleType
+F = F₀.the-row
+
+abbrev pub P : RattleType
+P = P₀.the-row
+
+pub found-is : (r : Found) (vs : List Val) → Is F r vs → Is F r (F′.lowered r ∷ [])
+found-is r vs k = subst (Is F r) (F′.lowers .val-is r vs k) k
+
+pub planned-is : (r : Planned) (vs : List Val) → Is P r vs → Is P r (P′.lowered r ∷ [])
+planned-is r vs k = subst (Is P r) (P′.lowers .val-is r vs k) k
+
+-- an entry of the table
+pub entry-is : (e : Entry) (vs : List Val) → Is R e vs → Is R e (T′.lowered e ∷ [])
+entry-is e vs k = subst (Is R e) (T′.lowers .val-is e vs k) k
 
 -- the sizes of variables, the costs of actions, their conditions or effects, and the state that each leads to
 abbrev pub Sizes : RattleType

@@ -14,6 +14,7 @@ use crate::stages;
 use crate::stages::Found;
 use crate::stages::Searched;
 use plans::ReducedAction;
+use plans::Steps;
 
 // The entry of a state; that of none past the end of the table.
 pub fn entry_at(table: &[Entry], state: usize) -> Entry
@@ -72,7 +73,7 @@ fn first_action(
 fn write_steps(
     table: &[Entry],
     plan: &mut [u8],
-    steps: usize,
+    steps: Steps,
     searched: Searched,
     origin: &[u8],
     sizes: &[u8; 64],
@@ -80,12 +81,13 @@ fn write_steps(
     conditions: &[u8; 32768],
     effects: &[u8; 32768],
 )
-    requires { ⌜ StepsToWrite (tableEntry (now table)) (now plan) steps searched (now origin) (now sizes) (now costs) (now conditions) (now effects) ⌝ }
-    ensures { λ r. ⌜ StepsWritten (tableEntry (now (table .entry))) (now (plan .entry)) steps searched (now (origin .entry)) (now (sizes .entry)) (now (costs .entry)) (now (conditions .entry)) (now (effects .entry)) (now (plan .exit)) ⌝ }
+    requires { ⌜ StepsToWrite (tableEntry (now table)) (now plan) (steps .0) searched (now origin) (now sizes) (now costs) (now conditions) (now effects) ⌝ }
+    ensures { λ r. ⌜ StepsWritten (tableEntry (now (table .entry))) (now (plan .entry)) (steps .0) searched (now (origin .entry)) (now (sizes .entry)) (now (costs .entry)) (now (conditions .entry)) (now (effects .entry)) (now (plan .exit)) ⌝ }
 {
+    let count = steps.0 as usize;
     let mut state = searched.start;
     let mut i: usize = 0;
-    while i < steps {
+    while i < count {
         let nexts = first_plan::next_states(searched, state, sizes, conditions, effects);
         let action = first_action(table, &nexts, costs, searched.actions, state);
         state = first_plan::put_action(plan, i, action, searched, origin, &nexts);
@@ -127,7 +129,7 @@ pub fn search(
     write_steps(
         table,
         plan,
-        steps.0 as usize,
+        steps,
         searched,
         origin,
         &sizes,

@@ -57,6 +57,7 @@ use Rattle.search.proofs.stages.Found.Laws as F′
 use Rattle.search.proofs.Planned as P₀
 use Rattle.search.proofs.Planned.Laws as P′
 use Rattle.search.proofs.EntrySlices.{R}
+use Rattle.search.proofs.Spelled.{D, F, P, found-is, planned-is}
 use Rattle.search.proofs.StageLaws.{can-search-files, plans-both}
 use Rattle.search.proofs.PlannerRight.{plans-right}
 use Rattle.search.proofs.Hand.{ref, Known, lend-on, get-back, share-on, unshare, each-known}
@@ -92,24 +93,9 @@ module _ {M : Type 1} (𝓤 : URA M) (H : Heap 𝓤) (A : Atoms 𝓤) (mem : Mem
   abbrev Together : Contract 𝓤
   Together = tripleOf 𝓤 H A h.signature (h.spec 𝓤 H A mem run)
 
--- what the callees answer
-abbrev D : RattleType
-D = D₀.the-row
-
-abbrev F : RattleType
-F = F₀.the-row
-
-abbrev P : RattleType
-P = P₀.the-row
-
+-- what reduction answers
 reduced-is : (r : Reduced) (vs : List Val) → Is D r vs → Is D r (D′.lowered r ∷ [])
 reduced-is r vs k = subst (Is D r) (D′.lowers .val-is r vs k) k
-
-found-is : (r : Found) (vs : List Val) → Is F r vs → Is F r (F′.lowered r ∷ [])
-found-is r vs k = subst (Is F r) (F′.lowers .val-is r vs k) k
-
-planned-is : (r : Planned) (vs : List Val) → Is P r vs → Is P r (P′.lowered r ∷ [])
-planned-is r vs k = subst (Is P r) (P′.lowers .val-is r vs k) k
 
 -- the task's bytes
 octets : (ys : List ℕ) → Known u8 (uint-vals w8) ys → Octets ys

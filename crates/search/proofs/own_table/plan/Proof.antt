@@ -52,6 +52,7 @@ use Rattle.search.proofs.Entry.Laws as T′
 use Rattle.search.proofs.Planned as P₀
 use Rattle.search.proofs.Planned.Laws as P′
 use Rattle.search.proofs.EntrySlices.{R, vals, tells}
+use Rattle.search.proofs.Spelled.{P, planned-is, entry-is}
 use Rattle.search.proofs.Hand.{big-lit, ref, lend-array-mut, array-mut-home}
 use Rattle.search.proofs.entries.none as n
 use Rattle.search.proofs.entries.none.Symbol as n-def
@@ -77,16 +78,6 @@ module _ {M : Type 1} (𝓤 : URA M) (H : Heap 𝓤) (A : Atoms 𝓤) (mem : Mem
 
   abbrev Plan : Contract 𝓤
   Plan = tripleOf 𝓤 H A p.signature (p.spec 𝓤 H A mem run)
-
--- what the callees answer, as it is spelled in memory
-abbrev P : RattleType
-P = P₀.the-row
-
-entry-is : (e : Entry) (vs : List Val) → Is R e vs → Is R e (T′.lowered e ∷ [])
-entry-is e vs k = subst (Is R e) (T′.lowers .val-is e vs k) k
-
-planned-is : (r : Planned) (vs : List Val) → Is P r vs → Is P r (P′.lowered r ∷ [])
-planned-is r vs k = subst (Is P r) (P′.lowers .val-is r vs k) k
 
 -- the array, and what it holds at first
 abbrev AR : RattleType

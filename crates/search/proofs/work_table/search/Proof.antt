@@ -23,7 +23,7 @@ use contract.Monad.{Fun, fact}
 use contract.Running.{givenOf, tables, tablesOf}
 use types.Kit.{Given, Item, ‵, raw, some, later, _⊛_, ⋆, _$_, _∵_, !, qed, by, move, keep, drop, cut, use1, split, join, pick, rewrite, fsplit, fjoin, feqL, suffices, frame, await, done}
 use types.Part.{agg, rep, whole, sub, look-in}
-use types.Run.{look, init, forget, stop, hop, fld, from, load, lit, un, addr, of-opd, and-then, no-more, assigns, land, returns, enter, alloc1, alloc0, params1, pass1, pass0, free1, free0}
+use types.Run.{look, init, forget, stop, hop, fld, from, load, lit, addr, of-opd, and-then, no-more, assigns, land, returns, enter, alloc1, alloc0, params1, pass1, pass0, free1, free0}
 use sound.WpLaws.{FmC, fmOf, WpFn-mono}
 use denote.RattleType.{RattleType, owns}
 use denote.Laws.{Is, shows}
@@ -44,6 +44,7 @@ use denote.Triple.Table.{entered, cited}
 use denote.Triple.Walked.{says, needs, Stays, stay-dropped, stay-slice, gave-slice, walkOf, goes-dropped, goes-slice, goes-gave-slice, Walks, ends-at, walked, walk-meets}
 use denote.Exit.{yes}
 use Rattle.files.specs.Outcome.{overwrite}
+use Rattle.files.specs.declared.units.Steps.{Steps}
 use Rattle.reduction.specs.declared.Reduced.{Reduced}
 use Rattle.search.specs.declared.Entry.{Entry}
 use Rattle.search.specs.declared.stages.Found.{Found}
@@ -63,6 +64,7 @@ use Rattle.search.proofs.stages.Searched.Laws as S′
 use Rattle.search.proofs.stages.Found as F₀
 use Rattle.search.proofs.stages.Found.Laws as F′
 use Rattle.search.proofs.EntrySlices.{R}
+use Rattle.search.proofs.Spelled.{N, steps-vals, S, D, F, found-is, entry-is, Sizes, Costs, Rows}
 use Rattle.search.proofs.SearchLaws.{can-fill, can-steps, can-finish, searches-files}
 use Rattle.search.proofs.Hand.{big-lit, ref, lend-array, array-home, lend-array-mut, array-mut-home, lend-mut, mut-home, lend-shr, shr-home, lend-on, get-back, share-on, unshare}
 use Rattle.search.proofs.stages.search_files as c
@@ -94,15 +96,6 @@ use Rattle.search.proofs.work_table.search as f
 use Rattle.search.proofs.work_table.search.Statement as stated
 use Rattle.search.proofs.work_table.search.Code as code
 
-abbrev D : RattleType
-D = D₀.the-row
-
-abbrev S : RattleType
-S = S₀.the-row
-
-abbrev F : RattleType
-F = F₀.the-row
-
 -- nothing is kept of what is only read; the table comes back, and the plan's buffer is passed on for good
 abbrev stayed : Stays (f.ended .signature .params) (f.ended .kept)
 stayed = (stay-dropped (plain (λ _. D)) yes, (stay-dropped (plain (λ _. u32)) yes, (stay-dropped (shrSliceOf (0 ∷ []) tt (plain (λ _. u8))) yes, (stay-dropped (shrSliceOf (1 ∷ []) tt (plain (λ _. u8))) yes, (stay-slice (2 ∷ []) tt (plain (λ _. R)), (gave-slice (3 ∷ []) tt (plain (λ _. u8)), tt))))))
@@ -131,23 +124,14 @@ module _ {M : Type 1} (𝓤 : URA M) (H : Heap 𝓤) (A : Atoms 𝓤) (mem : Mem
 searched-is : (r : Searched) (vs : List Val) → Is S r vs → Is S r (S′.lowered r ∷ [])
 searched-is r vs k = subst (Is S r) (S′.lowers .val-is r vs k) k
 
-found-is : (r : Found) (vs : List Val) → Is F r vs → Is F r (F′.lowered r ∷ [])
-found-is r vs k = subst (Is F r) (F′.lowers .val-is r vs k) k
-
-entry-is : (e : Entry) (vs : List Val) → Is R e vs → Is R e (T′.lowered e ∷ [])
-entry-is e vs k = subst (Is R e) (T′.lowers .val-is e vs k) k
-
 states-fit : (r : Searched) (vs : List Val) → Is S r vs → r .states < 2 ^ 64
 states-fit r vs k = LL.owed S₀.the-type S′.the-laws r vs k .1 .0 .1
 
 start-fits : (r : Searched) (vs : List Val) → Is S r vs → r .start < 2 ^ 64
 start-fits r vs k = LL.owed S₀.the-type S′.the-laws r vs k .1 .1 .0 .1
 
-steps-fit : (r : Found) (vs : List Val) → Is F r vs → r .steps .0 < 2 ^ 16
-steps-fit r vs k = LL.owed N₀.the-type N′.the-laws (r .steps) _ (LL.owed F₀.the-type F′.the-laws r vs k .1 .1 .1 .1 .0) .0 .1
-
-wider : {n : ℕ} → n < 2 ^ 16 → n < 2 ^ 64
-wider h = omega (arith, h)
+steps-are : (r : Found) (vs : List Val) → Is F r vs → Is N (r .steps) (steps-vals (r .steps))
+steps-are r vs k = LL.owed F₀.the-type F′.the-laws r vs k .1 .1 .1 .1 .0
 
 -- the arrays, what they hold at first, and how they are spelled in memory
 module _ (w : Width) (n : ℕ) where
@@ -162,15 +146,6 @@ module _ (w : Width) (n : ℕ) where
 
 abbrev A64 : RattleType
 A64 = Array u64 8192
-
-abbrev As : RattleType
-As = Array u8 64
-
-abbrev Ac : RattleType
-Ac = Array u32 512
-
-abbrev Ar : RattleType
-Ar = Array u8 32768
 
 room64 : Room u64 8192
 room64 = (lit< tt, lit< tt)
@@ -262,8 +237,8 @@ module _ {M : Type 1} (𝓤 : URA M) (H : Heap 𝓤) (A : Atoms 𝓤) (W : Given
   abbrev Filing : Five ℕ → Five GName → Five ℕ → List (Item 𝓤)
   Filing νs δs ls = ‵ (flft κ₀ q₀) ∷ ‵ (flft κ₁ q₁) ∷ ‵ (flft (νs .0 ∷ []) fullShare) ∷ ‵ (flft (νs .1 ∷ []) fullShare) ∷ ‵ (flft (νs .2 ∷ []) fullShare) ∷ ‵ (flft (νs .3 ∷ []) fullShare) ∷ ‵ (flft (νs .4 ∷ []) fullShare)
       ∷ ‵ (ShrSlice (named 0) κ₀ u8 .own (ref br or γr xr) (rv ∷ [])) ∷ ‵ (ShrSlice (named 1) κ₁ u8 .own (ref bo oo γo xo) (ov ∷ [])) ∷ ‵ (MutSlice (named 2) (νs .0 ∷ []) u64 .own (ref (ls .0) 0 (δs .0) (zeros w64 8192)) (sliceVal (ls .0, 0) 8192 ∷ []))
-      ∷ ‵ (MutRef (named 3) (νs .1 ∷ []) As .own (ref (ls .1) 0 (δs .1) (zeros w8 64)) (vptr (ls .1) 0 ∷ [])) ∷ ‵ (MutRef (named 4) (νs .2 ∷ []) Ac .own (ref (ls .2) 0 (δs .2) (zeros w32 512)) (vptr (ls .2) 0 ∷ []))
-      ∷ ‵ (MutRef (named 5) (νs .3 ∷ []) Ar .own (ref (ls .3) 0 (δs .3) (zeros w8 32768)) (vptr (ls .3) 0 ∷ [])) ∷ ‵ (MutRef (named 6) (νs .4 ∷ []) Ar .own (ref (ls .4) 0 (δs .4) (zeros w8 32768)) (vptr (ls .4) 0 ∷ [])) ∷ []
+      ∷ ‵ (MutRef (named 3) (νs .1 ∷ []) Sizes .own (ref (ls .1) 0 (δs .1) (zeros w8 64)) (vptr (ls .1) 0 ∷ [])) ∷ ‵ (MutRef (named 4) (νs .2 ∷ []) Costs .own (ref (ls .2) 0 (δs .2) (zeros w32 512)) (vptr (ls .2) 0 ∷ []))
+      ∷ ‵ (MutRef (named 5) (νs .3 ∷ []) Rows .own (ref (ls .3) 0 (δs .3) (zeros w8 32768)) (vptr (ls .3) 0 ∷ [])) ∷ ‵ (MutRef (named 6) (νs .4 ∷ []) Rows .own (ref (ls .4) 0 (δs .4) (zeros w8 32768)) (vptr (ls .4) 0 ∷ [])) ∷ []
 
   goes-files : (νs : Five ℕ) (δs : Five GName) (ls : Five ℕ) → length (zeros w64 8192) ≡ 8192 → ent 𝓤 (⋆ 𝓤 H A (Filing νs δs ls)) (Files 𝓤 H A at-mem run .pre (to-files νs δs ls))
   goes-files νs δs ls e =
@@ -332,11 +307,11 @@ module _ {M : Type 1} (𝓤 : URA M) (H : Heap 𝓤) (A : Atoms 𝓤) (W : Given
   abbrev lfts-write : ℕ → ℕ → Four ℕ → Lfts 7
   lfts-write μ ν νs = (μ ∷ [], (ν ∷ [], (κ₁, (νs .0 ∷ [], (νs .1 ∷ [], (νs .2 ∷ [], (νs .3 ∷ [], tt)))))))
 
-  abbrev write-args : Searched → Last → Found → List ℕ → GName → GName → Four GName → Four ℕ → RefT (List Entry) × (RefT (List ℕ) × (ℕ × (Searched × (RefT (List ℕ) × (RefT (List ℕ) × (RefT (List ℕ) × (RefT (List ℕ) × (RefT (List ℕ) × Unit {0}))))))))
-  write-args searched zs begun p₁ ε δ εs ls = (ref bt ot ε (filled searched zs), (ref bp op δ p₁, (begun .steps .0, (searched, (ref bo oo γo xo, (ref (ls .0) 0 (εs .0) (sizes-of zs), (ref (ls .1) 0 (εs .1) (costs-of zs), (ref (ls .2) 0 (εs .2) (conditions-of zs), (ref (ls .3) 0 (εs .3) (effects-of zs), tt)))))))))
+  abbrev write-args : Searched → Last → Found → List ℕ → GName → GName → Four GName → Four ℕ → RefT (List Entry) × (RefT (List ℕ) × (Steps × (Searched × (RefT (List ℕ) × (RefT (List ℕ) × (RefT (List ℕ) × (RefT (List ℕ) × (RefT (List ℕ) × Unit {0}))))))))
+  write-args searched zs begun p₁ ε δ εs ls = (ref bt ot ε (filled searched zs), (ref bp op δ p₁, (begun .steps, (searched, (ref bo oo γo xo, (ref (ls .0) 0 (εs .0) (sizes-of zs), (ref (ls .1) 0 (εs .1) (costs-of zs), (ref (ls .2) 0 (εs .2) (conditions-of zs), (ref (ls .3) 0 (εs .3) (effects-of zs), tt)))))))))
 
   abbrev to-write : Searched → Last → Found → List ℕ → ℕ → ℕ → Four ℕ → GName → GName → Four GName → Four ℕ → Write 𝓤 H A at-mem run .Ghost
-  to-write searched zs begun p₁ μ ν νs ε δ εs ls = ((lfts-write μ ν νs, (fullShare, (fullShare, (q₁, (fullShare, (fullShare, (fullShare, (fullShare, tt))))))), tt, write-args searched zs begun p₁ ε δ εs ls, (tv ∷ [], (pv ∷ [], (vint w64 (begun .steps .0) ∷ [], (S′.lowered searched ∷ [], (ov ∷ [], (vptr (ls .0) 0 ∷ [], (vptr (ls .1) 0 ∷ [], (vptr (ls .2) 0 ∷ [], (vptr (ls .3) 0 ∷ [], tt)))))))))), tt)
+  to-write searched zs begun p₁ μ ν νs ε δ εs ls = ((lfts-write μ ν νs, (fullShare, (fullShare, (q₁, (fullShare, (fullShare, (fullShare, (fullShare, tt))))))), tt, write-args searched zs begun p₁ ε δ εs ls, (tv ∷ [], (pv ∷ [], (steps-vals (begun .steps), (S′.lowered searched ∷ [], (ov ∷ [], (vptr (ls .0) 0 ∷ [], (vptr (ls .1) 0 ∷ [], (vptr (ls .2) 0 ∷ [], (vptr (ls .3) 0 ∷ [], tt)))))))))), tt)
 
   abbrev Tokens₂ : ℕ → ℕ → Four ℕ → Item 𝓤
   Tokens₂ μ ν νs = ‵ (flft (μ ∷ []) fullShare) ⊛ ‵ (flft (ν ∷ []) fullShare) ⊛ ‵ (flft κ₁ q₁) ⊛ ‵ (flft (νs .0 ∷ []) fullShare) ⊛ ‵ (flft (νs .1 ∷ []) fullShare) ⊛ ‵ (flft (νs .2 ∷ []) fullShare) ⊛ ‵ (flft (νs .3 ∷ []) fullShare) ⊛ ‵ ftrue
@@ -344,15 +319,15 @@ module _ {M : Type 1} (𝓤 : URA M) (H : Heap 𝓤) (A : Atoms 𝓤) (W : Given
   abbrev Writing : Searched → Last → List ℕ → ℕ → ℕ → Four ℕ → GName → GName → Four GName → Four ℕ → List (Item 𝓤)
   Writing searched zs p₁ μ ν νs ε δ εs ls = ‵ (flft (μ ∷ []) fullShare) ∷ ‵ (flft (ν ∷ []) fullShare) ∷ ‵ (flft κ₁ q₁) ∷ ‵ (flft (νs .0 ∷ []) fullShare) ∷ ‵ (flft (νs .1 ∷ []) fullShare) ∷ ‵ (flft (νs .2 ∷ []) fullShare) ∷ ‵ (flft (νs .3 ∷ []) fullShare)
       ∷ ‵ (ShrSlice (named 0) (μ ∷ []) R .own (ref bt ot ε (filled searched zs)) (tv ∷ [])) ∷ ‵ (MutSlice (named 1) (ν ∷ []) u8 .own (ref bp op δ p₁) (pv ∷ [])) ∷ ‵ (ShrSlice (named 2) κ₁ u8 .own (ref bo oo γo xo) (ov ∷ []))
-      ∷ ‵ (ShrRef (named 3) (νs .0 ∷ []) As .own (ref (ls .0) 0 (εs .0) (sizes-of zs)) (vptr (ls .0) 0 ∷ [])) ∷ ‵ (ShrRef (named 4) (νs .1 ∷ []) Ac .own (ref (ls .1) 0 (εs .1) (costs-of zs)) (vptr (ls .1) 0 ∷ []))
-      ∷ ‵ (ShrRef (named 5) (νs .2 ∷ []) Ar .own (ref (ls .2) 0 (εs .2) (conditions-of zs)) (vptr (ls .2) 0 ∷ [])) ∷ ‵ (ShrRef (named 6) (νs .3 ∷ []) Ar .own (ref (ls .3) 0 (εs .3) (effects-of zs)) (vptr (ls .3) 0 ∷ [])) ∷ []
+      ∷ ‵ (ShrRef (named 3) (νs .0 ∷ []) Sizes .own (ref (ls .0) 0 (εs .0) (sizes-of zs)) (vptr (ls .0) 0 ∷ [])) ∷ ‵ (ShrRef (named 4) (νs .1 ∷ []) Costs .own (ref (ls .1) 0 (εs .1) (costs-of zs)) (vptr (ls .1) 0 ∷ []))
+      ∷ ‵ (ShrRef (named 5) (νs .2 ∷ []) Rows .own (ref (ls .2) 0 (εs .2) (conditions-of zs)) (vptr (ls .2) 0 ∷ [])) ∷ ‵ (ShrRef (named 6) (νs .3 ∷ []) Rows .own (ref (ls .3) 0 (εs .3) (effects-of zs)) (vptr (ls .3) 0 ∷ [])) ∷ []
 
   goes-write : (searched : Searched) (zs : Last) (begun : Found) (p₁ : List ℕ) (μ ν : ℕ) (νs : Four ℕ) (ε δ : GName) (εs : Four GName) (ls : Four ℕ)
-      → StepsToWrite (tableEntry (filled searched zs)) p₁ (begun .steps .0) searched xo (sizes-of zs) (costs-of zs) (conditions-of zs) (effects-of zs) → begun .steps .0 < 2 ^ 64 → Is S searched (S′.lowered searched ∷ [])
+      → StepsToWrite (tableEntry (filled searched zs)) p₁ (begun .steps .0) searched xo (sizes-of zs) (costs-of zs) (conditions-of zs) (effects-of zs) → Is N (begun .steps) (steps-vals (begun .steps)) → Is S searched (S′.lowered searched ∷ [])
       → ent 𝓤 (⋆ 𝓤 H A (Writing searched zs p₁ μ ν νs ε δ εs ls)) (Write 𝓤 H A at-mem run .pre (to-write searched zs begun p₁ μ ν νs ε δ εs ls))
-  goes-write searched zs begun p₁ μ ν νs ε δ εs ls ready small is =
+  goes-write searched zs begun p₁ μ ν νs ε δ εs ls ready counted is =
       qed W (Writing searched zs p₁ μ ν νs ε δ εs ls) ∵ says ! ready $ nothing ! $ move ! (7 ∷ 0 ∷ []) $ join ! $ move ! (6 ∷ 0 ∷ []) $ join ! $ move ! (5 ∷ 0 ∷ []) $ join ! $ move ! (4 ∷ 0 ∷ []) $ join ! $ move ! (3 ∷ 0 ∷ []) $ join ! $ move ! (2 ∷ 0 ∷ []) $ join ! $ move ! (1 ∷ 0 ∷ []) $ join ! $ frame ! $
-      nothing ! $ move ! (7 ∷ 0 ∷ []) $ fjoin ! $ move ! (6 ∷ 0 ∷ []) $ fjoin ! $ move ! (5 ∷ 0 ∷ []) $ fjoin ! $ move ! (4 ∷ 0 ∷ []) $ fjoin ! $ move ! (3 ∷ 0 ∷ []) $ fjoin ! $ owned ! S (Is S) (LL.makes S₀.the-type S′.the-plain 𝓤 H A) searched (S′.lowered searched ∷ []) is $ fjoin ! $ owned ! usize (Is usize) (uint-makes 𝓤 H A W w64) (begun .steps .0) _ (refl, small) $ fjoin ! $ move ! (2 ∷ 0 ∷ []) $ fjoin ! $ move ! (1 ∷ 0 ∷ []) $ fjoin ! $ done !
+      nothing ! $ move ! (7 ∷ 0 ∷ []) $ fjoin ! $ move ! (6 ∷ 0 ∷ []) $ fjoin ! $ move ! (5 ∷ 0 ∷ []) $ fjoin ! $ move ! (4 ∷ 0 ∷ []) $ fjoin ! $ move ! (3 ∷ 0 ∷ []) $ fjoin ! $ owned ! S (Is S) (LL.makes S₀.the-type S′.the-plain 𝓤 H A) searched (S′.lowered searched ∷ []) is $ fjoin ! $ owned ! N (Is N) (LL.makes N₀.the-type N′.the-plain 𝓤 H A) (begun .steps) (steps-vals (begun .steps)) counted $ fjoin ! $ move ! (2 ∷ 0 ∷ []) $ fjoin ! $ move ! (1 ∷ 0 ∷ []) $ fjoin ! $ done !
 
   abbrev Written : Searched → Last → Found → List ℕ → List ℕ → Type 0
   Written searched zs begun p₁ p₂ = StepsWritten (tableEntry (filled searched zs)) p₁ (begun .steps .0) searched xo (sizes-of zs) (costs-of zs) (conditions-of zs) (effects-of zs) p₂
@@ -384,19 +359,19 @@ module _ {M : Type 1} (𝓤 : URA M) (H : Heap 𝓤) (A : Atoms 𝓤) (W : Given
       move ! (6 ∷ []) $ use1 W (‵ (ShrSlice (named 1) κ₁ u8 .own (ref bo oo γo xo) (ov ∷ [])) ⊛ ‵ (ShrSlice (named 1) κ₁ u8 .own (ref bo oo γo xo) (ov ∷ []))) (shr-slice-copy 𝓤 H A W (named 1) κ₁ u8 .twice (ref bo oo γo xo) (ov ∷ [])) $ split ! $
       -- the arrays
       owned ! u64 (Is u64) (uint-makes 𝓤 H A W w64) 0 (vint w64 0 ∷ []) (refl, lit< tt) $ use1 W (‵ (A64 .own (zeros w64 8192) (zeros-val w64 8192 ∷ []))) (array-repeat 𝓤 H A W u64 (uint-copy 𝓤 H A W w64) 8192 0 (vint w64 0)) $ peeks ! A64 (Is A64) (shows 𝓤 H A A64) (zeros w64 8192) (zeros-val w64 8192 ∷ []) (λ is7. assigns ! (rep ! 8192 (lit ! tt)) (from ! (stop !)) (init ! 78 refl (array-typed u64 (uint-lawful 𝓤 H A W w64 .typed) 8192 (zeros w64 8192) (zeros-val w64 8192 ∷ []) is7 .0)) $
-      owned ! u8 (Is u8) (uint-makes 𝓤 H A W w8) 0 (vint w8 0 ∷ []) (refl, lit< tt) $ use1 W (‵ (As .own (zeros w8 64) (zeros-val w8 64 ∷ []))) (array-repeat 𝓤 H A W u8 (uint-copy 𝓤 H A W w8) 64 0 (vint w8 0)) $ peeks ! As (Is As) (shows 𝓤 H A As) (zeros w8 64) (zeros-val w8 64 ∷ []) (λ is8. assigns ! (rep ! 64 (lit ! tt)) (from ! (stop !)) (init ! 77 refl (array-typed u8 (uint-lawful 𝓤 H A W w8 .typed) 64 (zeros w8 64) (zeros-val w8 64 ∷ []) is8 .0)) $
-      owned ! u32 (Is u32) (uint-makes 𝓤 H A W w32) 0 (vint w32 0 ∷ []) (refl, lit< tt) $ use1 W (‵ (Ac .own (zeros w32 512) (zeros-val w32 512 ∷ []))) (array-repeat 𝓤 H A W u32 (uint-copy 𝓤 H A W w32) 512 0 (vint w32 0)) $ peeks ! Ac (Is Ac) (shows 𝓤 H A Ac) (zeros w32 512) (zeros-val w32 512 ∷ []) (λ is9. assigns ! (rep ! 512 (lit ! tt)) (from ! (stop !)) (init ! 76 refl (array-typed u32 (uint-lawful 𝓤 H A W w32 .typed) 512 (zeros w32 512) (zeros-val w32 512 ∷ []) is9 .0)) $
-      owned ! u8 (Is u8) (uint-makes 𝓤 H A W w8) 0 (vint w8 0 ∷ []) (refl, lit< tt) $ use1 W (‵ (Ar .own (zeros w8 32768) (zeros-val w8 32768 ∷ []))) (array-repeat 𝓤 H A W u8 (uint-copy 𝓤 H A W w8) 32768 0 (vint w8 0)) $ peeks ! Ar (Is Ar) (shows 𝓤 H A Ar) (zeros w8 32768) (zeros-val w8 32768 ∷ []) (λ is10. assigns ! (rep ! 32768 (lit ! tt)) (from ! (stop !)) (init ! 75 refl (array-typed u8 (uint-lawful 𝓤 H A W w8 .typed) 32768 (zeros w8 32768) (zeros-val w8 32768 ∷ []) is10 .0)) $
-      owned ! u8 (Is u8) (uint-makes 𝓤 H A W w8) 0 (vint w8 0 ∷ []) (refl, lit< tt) $ use1 W (‵ (Ar .own (zeros w8 32768) (zeros-val w8 32768 ∷ []))) (array-repeat 𝓤 H A W u8 (uint-copy 𝓤 H A W w8) 32768 0 (vint w8 0)) $ peeks ! Ar (Is Ar) (shows 𝓤 H A Ar) (zeros w8 32768) (zeros-val w8 32768 ∷ []) (λ is11. assigns ! (rep ! 32768 (lit ! tt)) (from ! (stop !)) (init ! 74 refl (array-typed u8 (uint-lawful 𝓤 H A W w8 .typed) 32768 (zeros w8 32768) (zeros-val w8 32768 ∷ []) is11 .0)) $
+      owned ! u8 (Is u8) (uint-makes 𝓤 H A W w8) 0 (vint w8 0 ∷ []) (refl, lit< tt) $ use1 W (‵ (Sizes .own (zeros w8 64) (zeros-val w8 64 ∷ []))) (array-repeat 𝓤 H A W u8 (uint-copy 𝓤 H A W w8) 64 0 (vint w8 0)) $ peeks ! Sizes (Is Sizes) (shows 𝓤 H A Sizes) (zeros w8 64) (zeros-val w8 64 ∷ []) (λ is8. assigns ! (rep ! 64 (lit ! tt)) (from ! (stop !)) (init ! 77 refl (array-typed u8 (uint-lawful 𝓤 H A W w8 .typed) 64 (zeros w8 64) (zeros-val w8 64 ∷ []) is8 .0)) $
+      owned ! u32 (Is u32) (uint-makes 𝓤 H A W w32) 0 (vint w32 0 ∷ []) (refl, lit< tt) $ use1 W (‵ (Costs .own (zeros w32 512) (zeros-val w32 512 ∷ []))) (array-repeat 𝓤 H A W u32 (uint-copy 𝓤 H A W w32) 512 0 (vint w32 0)) $ peeks ! Costs (Is Costs) (shows 𝓤 H A Costs) (zeros w32 512) (zeros-val w32 512 ∷ []) (λ is9. assigns ! (rep ! 512 (lit ! tt)) (from ! (stop !)) (init ! 76 refl (array-typed u32 (uint-lawful 𝓤 H A W w32 .typed) 512 (zeros w32 512) (zeros-val w32 512 ∷ []) is9 .0)) $
+      owned ! u8 (Is u8) (uint-makes 𝓤 H A W w8) 0 (vint w8 0 ∷ []) (refl, lit< tt) $ use1 W (‵ (Rows .own (zeros w8 32768) (zeros-val w8 32768 ∷ []))) (array-repeat 𝓤 H A W u8 (uint-copy 𝓤 H A W w8) 32768 0 (vint w8 0)) $ peeks ! Rows (Is Rows) (shows 𝓤 H A Rows) (zeros w8 32768) (zeros-val w8 32768 ∷ []) (λ is10. assigns ! (rep ! 32768 (lit ! tt)) (from ! (stop !)) (init ! 75 refl (array-typed u8 (uint-lawful 𝓤 H A W w8 .typed) 32768 (zeros w8 32768) (zeros-val w8 32768 ∷ []) is10 .0)) $
+      owned ! u8 (Is u8) (uint-makes 𝓤 H A W w8) 0 (vint w8 0 ∷ []) (refl, lit< tt) $ use1 W (‵ (Rows .own (zeros w8 32768) (zeros-val w8 32768 ∷ []))) (array-repeat 𝓤 H A W u8 (uint-copy 𝓤 H A W w8) 32768 0 (vint w8 0)) $ peeks ! Rows (Is Rows) (shows 𝓤 H A Rows) (zeros w8 32768) (zeros-val w8 32768 ∷ []) (λ is11. assigns ! (rep ! 32768 (lit ! tt)) (from ! (stop !)) (init ! 74 refl (array-typed u8 (uint-lawful 𝓤 H A W w8 .typed) 32768 (zeros w8 32768) (zeros-val w8 32768 ∷ []) is11 .0)) $
       assigns ! (of-opd ! (load ! (from ! (fld ! refl (stop !))) (look-in ! 86 (sub ! 1 refl (whole !))))) (from ! (stop !)) (init ! 66 refl (tt, record { fits = gt .0 })) $
       assigns ! (addr ! (from ! (stop !))) (from ! (stop !)) (init ! 64 refl (tt, tt)) $ assigns ! (agg ! (and-then ! (load ! (from ! (stop !)) (look ! 64 refl)) (and-then ! (big-lit ! (record { fits = lit< tt })) (no-more !)))) (from ! (stop !)) (init ! 62 refl (tt, (tt, (record { fits = lit< tt }, tt)))) $
       assigns ! (addr ! (from ! (stop !))) (from ! (stop !)) (init ! 60 refl (tt, tt)) $ assigns ! (addr ! (from ! (stop !))) (from ! (stop !)) (init ! 58 refl (tt, tt)) $ assigns ! (addr ! (from ! (stop !))) (from ! (stop !)) (init ! 56 refl (tt, tt)) $ assigns ! (addr ! (from ! (stop !))) (from ! (stop !)) (init ! 54 refl (tt, tt)) $
       -- the search, on the arrays
       move ! (82 ∷ 4 ∷ []) $ lend-array-mut ! tt u64 tt (named 2) 8192 (zeros w64 8192) (zeros-val w64 8192) l₇ room64 (λ ν₇ δ₇ full.
-      move ! (82 ∷ 6 ∷ []) $ lend-mut ! tt As tt (named 3) (zeros w8 64) (zeros-val w8 64) l₈ (λ ν₈ δ₈.
-      move ! (82 ∷ 8 ∷ []) $ lend-mut ! tt Ac tt (named 4) (zeros w32 512) (zeros-val w32 512) l₉ (λ ν₉ δ₉.
-      move ! (82 ∷ 10 ∷ []) $ lend-mut ! tt Ar tt (named 5) (zeros w8 32768) (zeros-val w8 32768) l₁₀ (λ ν₁₀ δ₁₀.
-      move ! (82 ∷ 12 ∷ []) $ lend-mut ! tt Ar tt (named 6) (zeros w8 32768) (zeros-val w8 32768) l₁₁ (λ ν₁₁ δ₁₁.
+      move ! (82 ∷ 6 ∷ []) $ lend-mut ! tt Sizes tt (named 3) (zeros w8 64) (zeros-val w8 64) l₈ (λ ν₈ δ₈.
+      move ! (82 ∷ 8 ∷ []) $ lend-mut ! tt Costs tt (named 4) (zeros w32 512) (zeros-val w32 512) l₉ (λ ν₉ δ₉.
+      move ! (82 ∷ 10 ∷ []) $ lend-mut ! tt Rows tt (named 5) (zeros w8 32768) (zeros-val w8 32768) l₁₀ (λ ν₁₀ δ₁₀.
+      move ! (82 ∷ 12 ∷ []) $ lend-mut ! tt Rows tt (named 6) (zeros w8 32768) (zeros-val w8 32768) l₁₁ (λ ν₁₁ δ₁₁.
       move ! (20 ∷ 19 ∷ 12 ∷ 9 ∷ 6 ∷ 3 ∷ 0 ∷ 23 ∷ 15 ∷ 13 ∷ 10 ∷ 7 ∷ 4 ∷ 1 ∷ []) $ cut (Filing (ν₇, ν₈, ν₉, ν₁₀, ν₁₁) (δ₇, δ₈, δ₉, δ₁₀, δ₁₁) (l₇, l₈, l₉, l₁₀, l₁₁)) (raw (Files 𝓤 H A at-mem run .pre (to-files (ν₇, ν₈, ν₉, ν₁₀, ν₁₁) (δ₇, δ₈, δ₉, δ₁₀, δ₁₁) (l₇, l₈, l₉, l₁₀, l₁₁))) ∷ []) _ (goes-files (ν₇, ν₈, ν₉, ν₁₀, ν₁₁) (δ₇, δ₈, δ₉, δ₁₀, δ₁₁) (l₇, l₈, l₉, l₁₀, l₁₁) full) $
       calls-at ! fm (Files 𝓤 H A at-mem run) k-files (to-files (ν₇, ν₈, ν₉, ν₁₀, ν₁₁) (δ₇, δ₈, δ₉, δ₁₀, δ₁₁) (l₇, l₈, l₉, l₁₀, l₁₁)) (and-then ! (load ! (from ! (stop !)) (look ! 86 refl)) (and-then ! (load ! (from ! (stop !)) (look ! 82 refl)) (and-then ! (load ! (from ! (stop !)) (look ! 80 refl)) (and-then ! (load ! (from ! (stop !)) (look ! 63 refl)) (and-then ! (load ! (from ! (stop !)) (look ! 59 refl)) (and-then ! (load ! (from ! (stop !)) (look ! 57 refl)) (and-then ! (load ! (from ! (stop !)) (look ! 55 refl)) (and-then ! (load ! (from ! (stop !)) (look ! 53 refl)) (and-then ! (load ! (from ! (stop !)) (look ! 51 refl)) (no-more !)))))))))) (λ w.
       use1 W (later (some (λ (searched : Searched). (Tokens (ν₇, ν₈, ν₉, ν₁₀, ν₁₁) ⊛ ‵ (S .own searched (w ∷ []))) ⊛ raw (ensured 𝓤 H A c.ended (c.clauses 𝓤 H A at-mem run) (lfts-files (ν₇, ν₈, ν₉, ν₁₀, ν₁₁)) (files-args (δ₇, δ₈, δ₉, δ₁₀, δ₁₁) (l₇, l₈, l₉, l₁₀, l₁₁)) tt searched)))) (id⊢ 𝓤 _) $ await ! tt $ pick ! (λ searched. split ! $ move ! (1 ∷ []) $
@@ -407,10 +382,10 @@ module _ {M : Type 1} (𝓤 : URA M) (H : Heap 𝓤) (A : Atoms 𝓤) (W : Given
       split ! $ move ! (1 ∷ []) $ split ! $ move ! (1 ∷ []) $ split ! $ move ! (1 ∷ []) $ split ! $ move ! (1 ∷ []) $ split ! $ move ! (1 ∷ []) $ split ! $ move ! (1 ∷ []) $ split ! $ move ! (1 ∷ []) $ drop ! $
       -- the arrays come back
       move ! (4 ∷ 16 ∷ 11 ∷ []) $ array-mut-home ! tt u64 (uint-vals w64) (uint-tells w64) 8192 (entries-of zs) l₇ (λ u₇ held.
-      move ! (5 ∷ 15 ∷ 11 ∷ []) $ mut-home ! tt As tt (array-val w8 64) (array-tells u8 (uint-vals w8) (uint-tells w8) 64) (sizes-of zs) l₈ (λ _.
-      move ! (6 ∷ 14 ∷ 11 ∷ []) $ mut-home ! tt Ac tt (array-val w32 512) (array-tells u32 (uint-vals w32) (uint-tells w32) 512) (costs-of zs) l₉ (λ _.
-      move ! (7 ∷ 13 ∷ 11 ∷ []) $ mut-home ! tt Ar tt (array-val w8 32768) (array-tells u8 (uint-vals w8) (uint-tells w8) 32768) (conditions-of zs) l₁₀ (λ _.
-      move ! (8 ∷ 12 ∷ 11 ∷ []) $ mut-home ! tt Ar tt (array-val w8 32768) (array-tells u8 (uint-vals w8) (uint-tells w8) 32768) (effects-of zs) l₁₁ (λ _.
+      move ! (5 ∷ 15 ∷ 11 ∷ []) $ mut-home ! tt Sizes tt (array-val w8 64) (array-tells u8 (uint-vals w8) (uint-tells w8) 64) (sizes-of zs) l₈ (λ _.
+      move ! (6 ∷ 14 ∷ 11 ∷ []) $ mut-home ! tt Costs tt (array-val w32 512) (array-tells u32 (uint-vals w32) (uint-tells w32) 512) (costs-of zs) l₉ (λ _.
+      move ! (7 ∷ 13 ∷ 11 ∷ []) $ mut-home ! tt Rows tt (array-val w8 32768) (array-tells u8 (uint-vals w8) (uint-tells w8) 32768) (conditions-of zs) l₁₀ (λ _.
+      move ! (8 ∷ 12 ∷ 11 ∷ []) $ mut-home ! tt Rows tt (array-val w8 32768) (array-tells u8 (uint-vals w8) (uint-tells w8) 32768) (effects-of zs) l₁₁ (λ _.
       -- the table is filled
       assigns ! (addr ! (from ! (fld ! refl (hop ! (look-in ! 84 (sub ! 0 refl (whole !))) (stop !))))) (from ! (stop !)) (init ! 53 refl (tt, tt)) $ assigns ! (agg ! (and-then ! (load ! (from ! (stop !)) (look ! 53 refl)) (and-then ! (load ! (from ! (fld ! refl (stop !))) (look-in ! 84 (sub ! 1 refl (whole !)))) (no-more !)))) (from ! (stop !)) (init ! 51 refl (tt, (tt, (record { fits = gt .0 }, tt)))) $
       assigns ! (addr ! (from ! (stop !))) (from ! (stop !)) (init ! 49 refl (tt, tt)) $ assigns ! (agg ! (and-then ! (load ! (from ! (stop !)) (look ! 49 refl)) (and-then ! (big-lit ! (record { fits = lit< tt })) (no-more !)))) (from ! (stop !)) (init ! 47 refl (tt, (tt, (record { fits = lit< tt }, tt)))) $
@@ -445,29 +420,28 @@ module _ {M : Type 1} (𝓤 : URA M) (H : Heap 𝓤) (A : Atoms 𝓤) (W : Given
       land ! (from ! (stop !)) (init ! 73 refl (LL.lawful F₀.the-type F′.the-laws 𝓤 H A W .typed begun (w₃ ∷ []) k₃ .0)) $ rewrite ! 73 (λ (u : Val). ‵ (fat fullShare F′.mir l₁₃ 0 u)) (ap only (F′.lowers .val-is begun (w₃ ∷ []) k₃)) refl $
       split ! $ move ! (1 ∷ []) $ drop ! $ move ! (0 ∷ 2 ∷ 1 ∷ []) $ get-back ! tt u8 (named 3) xp (ps .0) (length xp) bp op refl len₁ gp $
       -- its steps are written
-      assigns ! (of-opd ! (load ! (from ! (fld ! refl (stop !))) (look-in ! 72 (sub ! 4 refl (whole !))))) (from ! (stop !)) (init ! 70 refl (tt, (record { fits = steps-fit begun (w₃ ∷ []) k₃ }, tt))) $
+      assigns ! (of-opd ! (load ! (from ! (fld ! refl (stop !))) (look-in ! 72 (sub ! 4 refl (whole !))))) (from ! (stop !)) (init ! 70 refl (LL.lawful N₀.the-type N′.the-laws 𝓤 H A W .typed (begun .steps) (steps-vals (begun .steps)) (steps-are begun (w₃ ∷ []) k₃) .0)) $
       assigns ! (addr ! (from ! (fld ! refl (hop ! (look-in ! 83 (sub ! 0 refl (whole !))) (stop !))))) (from ! (stop !)) (init ! 34 refl (tt, tt)) $ assigns ! (agg ! (and-then ! (load ! (from ! (stop !)) (look ! 34 refl)) (and-then ! (load ! (from ! (fld ! refl (stop !))) (look-in ! 83 (sub ! 1 refl (whole !)))) (no-more !)))) (from ! (stop !)) (init ! 32 refl (tt, (tt, (record { fits = gt .0 }, tt)))) $
       assigns ! (addr ! (from ! (fld ! refl (hop ! (look-in ! 81 (sub ! 0 refl (whole !))) (stop !))))) (from ! (stop !)) (init ! 30 refl (tt, tt)) $ assigns ! (agg ! (and-then ! (load ! (from ! (stop !)) (look ! 30 refl)) (and-then ! (load ! (from ! (fld ! refl (stop !))) (look-in ! 81 (sub ! 1 refl (whole !)))) (no-more !)))) (from ! (stop !)) (init ! 28 refl (tt, (tt, (record { fits = gp .0 }, tt)))) $
-      forget ! 68 refl $ assigns ! (un ! (load ! (from ! (fld ! refl (stop !))) (look-in ! 70 (sub ! 0 refl (whole !)))) (record { fits = wider (steps-fit begun (w₃ ∷ []) k₃) })) (from ! (stop !)) (init ! 68 refl (tt, record { fits = wider (steps-fit begun (w₃ ∷ []) k₃) })) $
       assigns ! (addr ! (from ! (stop !))) (from ! (stop !)) (init ! 26 refl (tt, tt)) $ assigns ! (addr ! (from ! (stop !))) (from ! (stop !)) (init ! 24 refl (tt, tt)) $ assigns ! (addr ! (from ! (stop !))) (from ! (stop !)) (init ! 22 refl (tt, tt)) $ assigns ! (addr ! (from ! (stop !))) (from ! (stop !)) (init ! 20 refl (tt, tt)) $
       move ! (2 ∷ 3 ∷ []) $ share-on ! tt R (named 2) (named 0) (filled searched zs) (length ys) bt ot (subst (λ (table : List Entry). length table ≡ length ys) is len-table) gt (λ μ₄ ε₄. move ! (3 ∷ 4 ∷ []) $ lend-on ! tt u8 (named 3) (named 1) (ps .0) (length xp) bp op len₁ gp (λ ν₄ δ₄.
-      move ! (13 ∷ 14 ∷ []) $ lend-shr ! tt As tt (named 3) (sizes-of zs) (array-val w8 64 (sizes-of zs)) l₈ (λ μ₈ ε₈.
-      move ! (14 ∷ 15 ∷ []) $ lend-shr ! tt Ac tt (named 4) (costs-of zs) (array-val w32 512 (costs-of zs)) l₉ (λ μ₉ ε₉.
-      move ! (15 ∷ 16 ∷ []) $ lend-shr ! tt Ar tt (named 5) (conditions-of zs) (array-val w8 32768 (conditions-of zs)) l₁₀ (λ μ₁₀ ε₁₀.
-      move ! (16 ∷ 17 ∷ []) $ lend-shr ! tt Ar tt (named 6) (effects-of zs) (array-val w8 32768 (effects-of zs)) l₁₁ (λ μ₁₁ ε₁₁.
+      move ! (13 ∷ 14 ∷ []) $ lend-shr ! tt Sizes tt (named 3) (sizes-of zs) (array-val w8 64 (sizes-of zs)) l₈ (λ μ₈ ε₈.
+      move ! (14 ∷ 15 ∷ []) $ lend-shr ! tt Costs tt (named 4) (costs-of zs) (array-val w32 512 (costs-of zs)) l₉ (λ μ₉ ε₉.
+      move ! (15 ∷ 16 ∷ []) $ lend-shr ! tt Rows tt (named 5) (conditions-of zs) (array-val w8 32768 (conditions-of zs)) l₁₀ (λ μ₁₀ ε₁₀.
+      move ! (16 ∷ 17 ∷ []) $ lend-shr ! tt Rows tt (named 6) (effects-of zs) (array-val w8 32768 (effects-of zs)) l₁₁ (λ μ₁₁ ε₁₁.
       move ! (15 ∷ 12 ∷ 19 ∷ 9 ∷ 6 ∷ 3 ∷ 0 ∷ 16 ∷ 13 ∷ 21 ∷ 10 ∷ 7 ∷ 4 ∷ 1 ∷ []) $ cut (Writing searched zs (ps .0) μ₄ ν₄ (μ₈, μ₉, μ₁₀, μ₁₁) ε₄ δ₄ (ε₈, ε₉, ε₁₀, ε₁₁) (l₈, l₉, l₁₀, l₁₁)) (raw (Write 𝓤 H A at-mem run .pre (to-write searched zs begun (ps .0) μ₄ ν₄ (μ₈, μ₉, μ₁₀, μ₁₁) ε₄ δ₄ (ε₈, ε₉, ε₁₀, ε₁₁) (l₈, l₉, l₁₀, l₁₁))) ∷ []) _
-      (goes-write searched zs begun (ps .0) μ₄ ν₄ (μ₈, μ₉, μ₁₀, μ₁₁) ε₄ δ₄ (ε₈, ε₉, ε₁₀, ε₁₁) (l₈, l₉, l₁₀, l₁₁) (can-steps first xr xo ys searched (entries-of zs) (sizes-of zs) (costs-of zs) (conditions-of zs) (effects-of zs) held filed can xp (ps .0) begun begins len₁) (wider (steps-fit begun (w₃ ∷ []) k₃)) (searched-is searched (w ∷ []) k)) $
-      calls-at ! fm (Write 𝓤 H A at-mem run) k-write (to-write searched zs begun (ps .0) μ₄ ν₄ (μ₈, μ₉, μ₁₀, μ₁₁) ε₄ δ₄ (ε₈, ε₉, ε₁₀, ε₁₁) (l₈, l₉, l₁₀, l₁₁)) (and-then ! (load ! (from ! (stop !)) (look ! 25 refl)) (and-then ! (load ! (from ! (stop !)) (look ! 21 refl)) (and-then ! (load ! (from ! (stop !)) (look ! 61 refl)) (and-then ! (load ! (from ! (stop !)) (look ! 67 refl)) (and-then ! (load ! (from ! (stop !)) (look ! 78 refl)) (and-then ! (load ! (from ! (stop !)) (look ! 19 refl)) (and-then ! (load ! (from ! (stop !)) (look ! 17 refl)) (and-then ! (load ! (from ! (stop !)) (look ! 15 refl)) (and-then ! (load ! (from ! (stop !)) (look ! 13 refl)) (no-more !)))))))))) (λ w₄.
+      (goes-write searched zs begun (ps .0) μ₄ ν₄ (μ₈, μ₉, μ₁₀, μ₁₁) ε₄ δ₄ (ε₈, ε₉, ε₁₀, ε₁₁) (l₈, l₉, l₁₀, l₁₁) (can-steps first xr xo ys searched (entries-of zs) (sizes-of zs) (costs-of zs) (conditions-of zs) (effects-of zs) held filed can xp (ps .0) begun begins len₁) (steps-are begun (w₃ ∷ []) k₃) (searched-is searched (w ∷ []) k)) $
+      calls-at ! fm (Write 𝓤 H A at-mem run) k-write (to-write searched zs begun (ps .0) μ₄ ν₄ (μ₈, μ₉, μ₁₀, μ₁₁) ε₄ δ₄ (ε₈, ε₉, ε₁₀, ε₁₁) (l₈, l₉, l₁₀, l₁₁)) (and-then ! (load ! (from ! (stop !)) (look ! 25 refl)) (and-then ! (load ! (from ! (stop !)) (look ! 21 refl)) (and-then ! (load ! (from ! (stop !)) (look ! 63 refl)) (and-then ! (load ! (from ! (stop !)) (look ! 67 refl)) (and-then ! (load ! (from ! (stop !)) (look ! 78 refl)) (and-then ! (load ! (from ! (stop !)) (look ! 19 refl)) (and-then ! (load ! (from ! (stop !)) (look ! 17 refl)) (and-then ! (load ! (from ! (stop !)) (look ! 15 refl)) (and-then ! (load ! (from ! (stop !)) (look ! 13 refl)) (no-more !)))))))))) (λ w₄.
       use1 W (later (some (λ (r₄ : Unit {0}). (Tokens₂ μ₄ ν₄ (μ₈, μ₉, μ₁₀, μ₁₁) ⊛ ‵ (Nothing .own r₄ (w₄ ∷ []))) ⊛ raw (ensured 𝓤 H A s.ended (s.clauses 𝓤 H A at-mem run) (lfts-write μ₄ ν₄ (μ₈, μ₉, μ₁₀, μ₁₁)) (write-args searched zs begun (ps .0) ε₄ δ₄ (ε₈, ε₉, ε₁₀, ε₁₁) (l₈, l₉, l₁₀, l₁₁)) tt r₄)))) (id⊢ 𝓤 _) $ await ! tt $ pick ! (λ r₄. split ! $ move ! (1 ∷ []) $
       use1 W (some (λ (vs : Unit {0} × (List ℕ × (Unit {0} × (Unit {0} × (Unit {0} × (Unit {0} × (Unit {0} × (Unit {0} × (Unit {0} × Unit {0}))))))))). ‵ (lasts s.ended (lfts-write μ₄ ν₄ (μ₈, μ₉, μ₁₀, μ₁₁)) (write-args searched zs begun (ps .0) ε₄ δ₄ (ε₈, ε₉, ε₁₀, ε₁₁) (l₈, l₉, l₁₀, l₁₁)) vs) ⊛ raw (fact 𝓤 (Written searched zs begun (ps .0) (vs .1 .0))))) (id⊢ 𝓤 _) $ pick ! (λ vs. split ! $ move ! (1 ∷ []) $ heard ! (Written searched zs begun (ps .0) (vs .1 .0)) (λ written.
       fsplit ! $ drop ! $ fsplit ! $ fsplit ! $ move ! (1 ∷ []) $ feqL ! (λ len₂. move ! (1 ∷ []) $ fsplit ! $ drop ! $ fsplit ! $ drop ! $ fsplit ! $ drop ! $ fsplit ! $ drop ! $ fsplit ! $ drop ! $ fsplit ! $ drop ! $ fsplit ! $ drop ! $ drop ! $
       move ! (1 ∷ []) $ split ! $ move ! (1 ∷ []) $ feqL ! (λ u₄. forget ! 48 refl $ land ! (from ! (stop !)) (init ! 48 refl (nothing-lawful 𝓤 H A W .typed tt (w₄ ∷ []) u₄ .0)) $
       split ! $ move ! (1 ∷ []) $ split ! $ move ! (1 ∷ []) $ split ! $ move ! (1 ∷ []) $ split ! $ move ! (1 ∷ []) $ split ! $ move ! (1 ∷ []) $ split ! $ move ! (1 ∷ []) $ split ! $ move ! (1 ∷ []) $ drop ! $
       move ! (6 ∷ 13 ∷ []) $ unshare ! tt R (named 2) (filled searched zs) (length ys) bt ot (subst (λ (table : List Entry). length table ≡ length ys) is len-table) gt $ move ! (7 ∷ 13 ∷ 8 ∷ []) $ get-back ! tt u8 (named 3) (ps .0) (vs .1 .0) (length xp) bp op len₁ len₂ gp $
-      move ! (7 ∷ 12 ∷ []) $ shr-home ! tt As tt (array-val w8 64) (array-tells u8 (uint-vals w8) (uint-tells w8) 64) (sizes-of zs) l₈ $ move ! (1 ∷ []) $ drop ! $
-      move ! (7 ∷ 11 ∷ []) $ shr-home ! tt Ac tt (array-val w32 512) (array-tells u32 (uint-vals w32) (uint-tells w32) 512) (costs-of zs) l₉ $ move ! (1 ∷ []) $ drop ! $
-      move ! (7 ∷ 10 ∷ []) $ shr-home ! tt Ar tt (array-val w8 32768) (array-tells u8 (uint-vals w8) (uint-tells w8) 32768) (conditions-of zs) l₁₀ $ move ! (1 ∷ []) $ drop ! $
-      move ! (7 ∷ 9 ∷ []) $ shr-home ! tt Ar tt (array-val w8 32768) (array-tells u8 (uint-vals w8) (uint-tells w8) 32768) (effects-of zs) l₁₁ $ move ! (1 ∷ []) $ drop ! $
+      move ! (7 ∷ 12 ∷ []) $ shr-home ! tt Sizes tt (array-val w8 64) (array-tells u8 (uint-vals w8) (uint-tells w8) 64) (sizes-of zs) l₈ $ move ! (1 ∷ []) $ drop ! $
+      move ! (7 ∷ 11 ∷ []) $ shr-home ! tt Costs tt (array-val w32 512) (array-tells u32 (uint-vals w32) (uint-tells w32) 512) (costs-of zs) l₉ $ move ! (1 ∷ []) $ drop ! $
+      move ! (7 ∷ 10 ∷ []) $ shr-home ! tt Rows tt (array-val w8 32768) (array-tells u8 (uint-vals w8) (uint-tells w8) 32768) (conditions-of zs) l₁₀ $ move ! (1 ∷ []) $ drop ! $
+      move ! (7 ∷ 9 ∷ []) $ shr-home ! tt Rows tt (array-val w8 32768) (array-tells u8 (uint-vals w8) (uint-tells w8) 32768) (effects-of zs) l₁₁ $ move ! (1 ∷ []) $ drop ! $
       -- and it is ended
       assigns ! (addr ! (from ! (fld ! refl (hop ! (look-in ! 76 (sub ! 0 refl (whole !))) (stop !))))) (from ! (stop !)) (init ! 13 refl (tt, tt)) $ assigns ! (agg ! (and-then ! (load ! (from ! (stop !)) (look ! 13 refl)) (and-then ! (load ! (from ! (fld ! refl (stop !))) (look-in ! 76 (sub ! 1 refl (whole !)))) (no-more !)))) (from ! (stop !)) (init ! 11 refl (tt, (tt, (record { fits = gp .0 }, tt)))) $
       move ! (5 ∷ 4 ∷ []) $ cut (Finishing (vs .1 .0)) (raw (Finish 𝓤 H A at-mem run .pre (to-finish begun (vs .1 .0))) ∷ []) _ (goes-finish begun (vs .1 .0) (can-finish searched (start-entry searched zs) xp (ps .0) (vs .1 .0) begun begins (len₂ ∙ len₁)) (found-is begun (w₃ ∷ []) k₃)) $
