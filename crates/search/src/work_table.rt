@@ -17,7 +17,7 @@ use plans::ReducedAction;
 use plans::Steps;
 
 // The entry of a state; that of none past the end of the table.
-pub fn entry_at(table: &[Entry], state: usize) -> Entry
+fn entry_at(table: &[Entry], state: usize) -> Entry
     ensures { λ r. ⌜ r ≡ tableEntry (now (table .entry)) state ⌝ }
 {
     if state < table.len() {
@@ -27,7 +27,7 @@ pub fn entry_at(table: &[Entry], state: usize) -> Entry
 }
 
 // Writes the entry of a state.
-pub fn put_entry(table: &mut [Entry], state: usize, entry: Entry)
+fn put_entry(table: &mut [Entry], state: usize, entry: Entry)
     requires { ⌜ state < length (now table) ⌝ }
     ensures { λ r. ⌜ now (table .exit) ≡ set (now (table .entry)) state entry ⌝ }
 {

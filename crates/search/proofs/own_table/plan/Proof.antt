@@ -1,7 +1,7 @@
 -- `search::own_table::plan` meets its contract: a walk of its MIR, by hand, with no branch and no loop. A local array of entries, each the answer of `entries::none`, is lent to `search::plan` as its table; what the caller lent is passed on.
 -- All that the proof knows of the two callees is that they meet their contracts.
 -- Assumes nothing.
-use mathlib.Core.Path.{_≡_, refl, ap, subst}
+use mathlib.Core.Path.{_≡_, refl, ap}
 use Prim.Native.Nat.{ℕ, _<_, _^_}
 use mathlib.Core.List.{List, [], _∷_}
 use lib.ListN.{length, replicate}

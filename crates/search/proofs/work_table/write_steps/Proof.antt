@@ -30,7 +30,7 @@ use sound.WpLaws.{FmC, fmOf, WpFn-mono}
 use denote.RattleType.{owns}
 use denote.Laws.{Is, shows}
 use denote.Memory.{lone}
-use denote.Plain.{uint-makes, uint-vals, uint-tells, uint-lawful}
+use denote.Plain.{uint-makes, uint-lawful}
 use denote.Builtin.{u8, usize}
 use denote.Array.{array-typed}
 use denote.Ref.{RefT, now, ShrRef, ptr-vals, shr-tells, shr-copy}
