@@ -5,10 +5,12 @@ use mathlib.Core.Bool.{true, false}
 use mathlib.Core.List.{List, []}
 use mathlib.Core.Option.{Option, none, some, Option·map, Option·getD}
 use native.Mathlib.Omega.{arith}
-use lib.ListN.{length, getD, take, length-map}
+use lib.ListN.{length, getD, take, length-take, length-map, List·getD-eq-default}
+use lib.Seq.{getD-take}
 use Rattle.files.specs.declared.Outcome.{Outcome}
 use Rattle.files.specs.Outcome.{done, refusal, isDone, fits, overwrite}
 use Rattle.files.specs.Accepted.{acceptedTask}
+use Rattle.files.specs.Bytes.{Octets}
 use Rattle.files.specs.Dense.{Arrays, held}
 use Rattle.files.specs.OriginFile.{originOf, originActionsPlace}
 use Rattle.files.specs.PlanFile.{planFile}
@@ -16,7 +18,7 @@ use Rattle.files.specs.Task.{Task}
 use Rattle.files.specs.TaskFile.{taskOf}
 use Rattle.files.proofs.Guards.{goes-le, stops-le, is-refused, is-done, done-number}
 use Rattle.files.proofs.HeldTask.{actions-held}
-use Rattle.files.proofs.Logic.{clash, split}
+use Rattle.files.proofs.Logic.{clash, split, split-le}
 use Rattle.files.proofs.Lengths.{plan-file-length}
 use Rattle.files.proofs.Stages.{is-yes, by-end, by-stop, by-next}
 use Rattle.files.proofs.Valid.{Valid}
@@ -170,6 +172,12 @@ searched-done d room named place accepted few fit o q states start n s entries t
 -- the part of a buffer that holds a file
 pub file-part : (n : ℕ) (buffer : List ℕ) → take (n - 0) buffer ≡ take n buffer
 file-part n buffer = let whole : n - 0 ≡ n = omega arith in ap (λ (m : ℕ). take m buffer) whole
+
+pub part-octets : (n : ℕ) (buffer : List ℕ) → Octets buffer → Octets (take n buffer)
+part-octets n buffer octets i =
+    split-le n i
+    (λ h. let past : length (take n buffer) ≤ i = omega (arith, length-take n buffer) in omega (arith, List·getD-eq-default (take n buffer) 0 past))
+    (λ h. omega (arith, getD-take n buffer i 0 h, octets i))
 
 -- the same of the reduced file
 module _ (first : Reduced) (reduced origin : List ℕ) (room : ℕ) (r : Searched) (entries : List Entry) (sizes costs conditions effects : List ℕ) where

@@ -1,19 +1,16 @@
 -- The number stands in the file's part of the buffer.
-use Prim.Native.Nat.{ℕ, _+_, _-_, _*_}
-use mathlib.Core.Path.{_≡_, sym, ap, _∙_}
+use Prim.Native.Nat.{ℕ, _+_, _*_}
+use mathlib.Core.Path.{sym, ap, _∙_}
 use mathlib.Core.List.{List}
 use native.Mathlib.Omega.{arith}
 use denote.Ref.{now}
-use lib.ListN.{length, getD, take}
+use lib.ListN.{length, getD}
 use Rattle.files.specs.Bytes.{placed, u16Bytes}
 use Rattle.files.specs.OriginFile.{originOf, originActionsPlace}
+use Rattle.search.proofs.FoundLaws.{file-part}
 use borrow.Author.Needs.{needs}
 use Rattle.search.proofs.first_plan.put_action.Statement.{statement}
 use Rattle.search.proofs.first_plan.put_action.Tie as tie
-
--- the part of the buffer that holds the file
-file-part : (n : ℕ) (s : List ℕ) → take (n - 0) s ≡ take n s
-file-part n s = let whole : n - 0 ≡ n = omega arith in ap (λ (m : ℕ). take m s) whole
 
 sub-original : tie.Need-sub-original
 sub-original c = search needs
@@ -34,9 +31,6 @@ original-requires c κs =
       inside = omega (arith, s .pre .inside, ap (λ (l : List ℕ). length (originOf l .actions)) part);
     }
 
-cast-put-step : tie.Need-cast-put-step
-cast-put-step c = search needs
-
 put-step-requires : tie.Need-put-step-requires
 put-step-requires c κs = search needs
 
@@ -51,9 +45,9 @@ same-length c = search needs
 
 returns : tie.Need-returns
 returns c =
-    let s = c .before .before .before .before .before .before .before .before .before .before .before in
+    let s = c .before .before .before .before .before .before .before .before .before .before in
     let part = file-part (s .args .searched .named) (now (s .args .origin)) in
-    let number = c .before .before .before .before .before .before .before .original .ensures ∙ ap (λ (l : List ℕ). getD (originOf l .actions) (s .args .action .0) 0) part in
+    let number = c .before .before .before .before .before .before .original .ensures ∙ ap (λ (l : List ℕ). getD (originOf l .actions) (s .args .action .0) 0) part in
     record {
       plan-is = c .before .before .before .before .put-step .ensures ∙ ap (λ (n : ℕ). placed (now (s .args .plan)) (4 + 2 * s .args .i) (u16Bytes n)) number;
       next-is = c .next-at .ensures;
@@ -67,7 +61,6 @@ put-action-spec =
     part-original-start
     part-original-end
     original-requires
-    cast-put-step
     put-step-requires
     cast-next-at
     next-at-requires

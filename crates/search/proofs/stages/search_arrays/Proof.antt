@@ -32,7 +32,7 @@ unsearched-requires : tie.Need-unsearched-requires
 unsearched-requires c κs = search needs
 
 returns : tie.Need-returns
-returns c = 
+returns c =
     let k = c .before .before .before in
     let t = held (task-of (to-start k)) in
     let many : 4096 < stateCount (t .variables) = omega (arith, held-states (task-of (to-start k)), k .count .ensures .many (c .before .before .if1 .taken)) in
@@ -45,7 +45,7 @@ unsearched-requires-2 : tie.Need-unsearched-requires-2
 unsearched-requires-2 c κs = search needs
 
 returns-2 : tie.Need-returns-2
-returns-2 c = 
+returns-2 c =
     let k = c .before .before .before .before in
     let t = held (task-of (to-start k)) in
     let s = states-of k (c .before .before .before .if1 .left) in
@@ -54,7 +54,7 @@ returns-2 c =
     searched-refused t _ _ _ _ (table-short t _ _ few short (c .before .refuse2 .ensures ∙ ap (refusal 21) s)) (refusal-number _ 21 _ (omega arith) (c .before .refuse2 .ensures)) _ (c .unsearched2 .ensures) _ _ _ _ _
 
 search-requires : tie.Need-search-requires
-search-requires c κs = 
+search-requires c κs =
     let k = c .before .before .before in
     let l = c .before .before .if1 .left in
     let s = to-start k in
@@ -67,7 +67,7 @@ same-length : tie.Need-same-length
 same-length c = search needs
 
 returns-3 : tie.Need-returns-3
-returns-3 c = 
+returns-3 c =
     let h = c .before .before .before in
     let k = h .before .before .before .before in
     let s = to-start k in

@@ -14,10 +14,30 @@ use Rattle.files.specs.OriginFile.{originActionsPlace}
 use Rattle.files.specs.TaskFile.{checkTask, taskOf}
 use Rattle.files.proofs.TaskChecked.{task-accepted}
 use Rattle.files.proofs.HeldTask.{held-by}
-use Rattle.search.proofs.FoundLaws.{file-part, searched-not, searched-files}
+use Rattle.search.proofs.FoundLaws.{file-part, part-octets, searched-not, searched-files}
 use borrow.Author.Needs.{needs}
 use Rattle.search.proofs.stages.search_files.Statement.{statement}
 use Rattle.search.proofs.stages.search_files.Tie as tie
+
+-- from each call to the one before it
+abbrev to-start : tie.After-read-task → tie.Start
+to-start c = c .before .before .before .before .before .before .before .before .before .before .before .before .before .before
+
+abbrev to-read : tie.After-actions-in → tie.After-read-task
+to-read c = c .before .before .before .before .before
+
+reduced-done : (c : tie.After-read-task) → to-start c .args .first .outcome .number ≡ 0
+reduced-done c = c .before .before .before .before .before .before .before .before .if1 .left
+
+-- the part of the buffer that holds the reduced file
+abbrev file-of : tie.After-read-task → List ℕ
+file-of c = take (to-start c .args .first .reduced - 0) (now (to-start c .args .reduced))
+
+checked : (c : tie.After-read-task) → checkTask (file-of c) ≡ done
+checked c = ap checkTask (file-part (to-start c .args .first .reduced) (now (to-start c .args .reduced))) ∙ to-start c .pre .source (reduced-done c) .checked
+
+passes : (c : tie.After-read-task) → c .read-task .result .number ≡ 0
+passes c = ap (λ (o : Outcome). o .number) (c .read-task .ensures .outcome ∙ checked c)
 
 unsearched-requires : tie.Need-unsearched-requires
 unsearched-requires c κs = search needs
@@ -32,7 +52,7 @@ part-file-start : tie.Need-part-file-start
 part-file-start c = search needs
 
 part-file-end : tie.Need-part-file-end
-part-file-end c = ?
+part-file-end c = omega (arith, c .before .before .before .before .before .before .pre .source (c .if1 .left) .reduced-fits)
 
 read-task-requires : tie.Need-read-task-requires
 read-task-requires c κs = search needs
@@ -44,7 +64,7 @@ part-actions-place-start : tie.Need-part-actions-place-start
 part-actions-place-start c = search needs
 
 part-actions-place-end : tie.Need-part-actions-place-end
-part-actions-place-end c = ?
+part-actions-place-end c = omega (arith, c .before .before .before .before .before .before .before .before .before .before .before .before .before .before .before .pre .source (c .before .before .before .before .before .before .before .before .before .if1 .left) .origin-fits)
 
 actions-place-requires : tie.Need-actions-place-requires
 actions-place-requires c κs = search needs
@@ -59,13 +79,28 @@ actions-in-requires : tie.Need-actions-in-requires
 actions-in-requires c κs = search needs
 
 search-arrays-requires : tie.Need-search-arrays-requires
-search-arrays-requires c κs = ?
+search-arrays-requires c κs =
+    let a = c .before .before .before .before .before .before in
+    let d = to-read a in
+    let octets : Octets (now (to-start d .args .reduced)) = λ i. omega (arith, d .before .before .before .before .before .before .before .before .before .before .before .before .before .shared-slice-known .given i) in
+    let is = held-by _ _ _ _ _ _ _ _ _ _ _ (a .before .variables-in .ensures .is) (a .actions-in .ensures .is) (d .read-task .ensures .task (passes d)) in
+    record {
+      source = ap acceptedTask is ∙ task-accepted (file-of d) (part-octets (to-start d .args .first .reduced - 0) (now (to-start d .args .reduced)) octets) (ap (λ (o : Outcome). o .number) (checked d));
+      room = to-start d .pre .room;
+    }
 
 same-length : tie.Need-same-length
 same-length c = search needs
 
 returns-2 : tie.Need-returns-2
-returns-2 c = ?
+returns-2 c =
+    let a = c .before .before .before .before .before .before .before .before .before in
+    let d = to-read a in
+    let s = to-start d in
+    let is = held-by _ _ _ _ _ _ _ _ _ _ _ (a .before .variables-in .ensures .is) (a .actions-in .ensures .is) (d .read-task .ensures .task (passes d)) in
+    let origins = file-part (s .args .first .origin) (now (s .args .origin)) in
+    searched-files _ _ _ _ _ _ _ _ _ _ (reduced-done d) _ (is ∙ ap taskOf (file-part (s .args .first .reduced) (now (s .args .reduced)))) _
+    (ap (λ (n : ℕ). n + 4) (a .before .before .actions-place .ensures .is ∙ ap originActionsPlace origins)) (omega (arith, a .before .before .actions-place .ensures .below)) (c .before .before .search-arrays .ensures)
 
 pub search-files-spec : {M : Type 1} → statement M
 search-files-spec =
