@@ -4,16 +4,16 @@ use mathlib.Core.Path.{_≡_}
 use mathlib.Core.Bool.{Bool, true, false, not, cond, _&&_}
 use mathlib.Core.List.{List}
 use mathlib.Core.Option.{none, some}
+use lib.Dec.{ltb}
 use lib.ListN.{length, getD, take}
 use Rattle.files.specs.Accepted.{acceptedTask}
 use Rattle.files.specs.Bytes.{placed, u16Bytes}
-use Rattle.files.specs.Dense.{rowAction}
+use Rattle.files.specs.Dense.{rowPairs, rowAction}
 use Rattle.files.specs.OriginFile.{originOf, originActionsPlace}
 use Rattle.files.specs.Records.{numberBytes}
 use Rattle.files.specs.Task.{Action, Task, actionCount, actionOf}
-use Rattle.plans.specs.State.{applicable}
+use Rattle.plans.specs.State.{allHold, applicable}
 use Rattle.plans.specs.Tally.{listState}
-use Rattle.files.specs.declared.units.ReducedAction.{ReducedAction}
 use Rattle.reduction.specs.Preserved.{byOriginFile}
 use Rattle.search.specs.States.{stateCount, stateAt}
 use Rattle.search.specs.Table.{stepsOf, entryOf, same, through, nextState, distances}
@@ -21,6 +21,7 @@ use Rattle.search.specs.FirstPlan.{firstAction, startNumber, foundPlan}
 use Rattle.search.specs.Entries.{isNone, sameEntry, afterStep, Low}
 use Rattle.search.specs.Rows.{rowVariables, rowStates, Searchable}
 use Rattle.search.specs.declared.Entry.{Entry}
+use Rattle.search.specs.declared.first_plan.Step.{Step}
 use Rattle.search.specs.declared.stages.Searched.{Searched}
 
 -- arrays hold the variables and actions of a task
@@ -49,69 +50,90 @@ pub record GoesTo (variables s a : ℕ) (sizes conditions effects : List ℕ) (r
   pub below : r < rowStates variables sizes
   pub is : (t : Task) (actions : ℕ) (costs : List ℕ) → Stepped t variables actions sizes costs conditions effects → a < actions → r ≡ stateAfter t s a
 
--- what the next states ask and give
-pub record CanNext (searched : Searched) (s : ℕ) (sizes conditions effects : List ℕ) : Type 0 where
+-- an action to begin with
+pub record CanScan (searched : Searched) (from : ℕ) : Type 0 where
+  pub variables-few : searched .variables ≤ 64
+  pub actions-few : searched .actions ≤ 512
+  pub more : from < searched .actions
+
+-- the first action from `from` on whose conditions hold for values, or the last action of all
+pub record FirstApplicable (searched : Searched) (from : ℕ) (values conditions : List ℕ) (r : ℕ) : Type 0 where
+  pub first : from ≤ r
+  pub below : r < searched .actions
+  pub skipped : (b : ℕ) → from ≤ b → b < r → allHold (rowPairs conditions (64 * b) 0 (searched .variables)) (listState values) ≡ false
+
+-- a state with its values, and an action to begin with
+pub record CanStepFrom (searched : Searched) (from s : ℕ) (values sizes conditions effects : List ℕ) : Type 0 where
   pub costs : List ℕ
   pub asked : Searchable (searched .variables) (searched .actions) sizes costs conditions effects
   pub below : s < rowStates (searched .variables) sizes
+  pub values-are : (starts : List ℕ) → listState values ≡ stateAt (rowVariables (searched .variables) sizes starts) s
+  pub more : from < searched .actions
 
-abbrev pub NextStates : Searched → ℕ → List ℕ → List ℕ → List ℕ → List ℕ → Type 0
-NextStates searched s sizes conditions effects nexts =
-    (a : ℕ) → a < searched .actions → GoesTo (searched .variables) s a sizes conditions effects (getD nexts a 0)
+-- the step by the first applicable action from `from` on, or by the last action of all
+pub record StepFrom (searched : Searched) (from s : ℕ) (sizes conditions effects : List ℕ) (r : Step) : Type 0 where
+  pub first : from ≤ r .action .0
+  pub below : r .action .0 < searched .actions
+  pub goes : GoesTo (searched .variables) s (r .action .0) sizes conditions effects (r .next)
+  pub skipped : (t : Task) (costs : List ℕ) → Stepped t (searched .variables) (searched .actions) sizes costs conditions effects
+      → (b : ℕ) → from ≤ b → b < r .action .0 → applicable (actionOf t b) (stateAt (t .variables) s) ≡ false
 
 -- a state with entry `own` has it by way of an action that leads to one with entry `next`
 unfoldable pub hasBy : Action → Entry → Entry → Bool
 hasBy a next own = not (isNone next) && sameEntry (afterStep a next) own
 
--- an action of the row, and the entry where it leads
-pub record CanChoose (a : ℕ) (next : Entry) (costs : List ℕ) : Type 0 where
+-- an action, and the entry where it leads
+pub record CanCompare (a : ℕ) (next : Entry) (costs : List ℕ) : Type 0 where
   pub few : a < 512
   pub low : isNone next ≡ false → Low next
   pub cost-most : getD costs a 0 ≤ 1000000
 
--- the action where the state has its entry by way of it, else the one found so far
-abbrev pub Chosen : (first a : ℕ) (next : Entry) (costs : List ℕ) (own : Entry) → ℕ → Type 0
-Chosen first a next costs own r = (x : Action) → x .cost ≡ getD costs a 0 → r ≡ cond (hasBy x next own) a first
+abbrev pub HasBy : (a : ℕ) (next : Entry) (costs : List ℕ) (own : Entry) → Bool → Type 0
+HasBy a next costs own r = (x : Action) → x .cost ≡ getD costs a 0 → r ≡ hasBy x next own
 
--- entries of next states
-pub record CanLead (look : ℕ → Entry) (nexts costs : List ℕ) (actions : ℕ) : Type 0 where
-  pub few : actions ≤ 512
-  pub more : 0 < actions
-  pub low : (a : ℕ) → a < actions → isNone (look (getD nexts a 0)) ≡ false → Low (look (getD nexts a 0))
-  pub cost-most : (a : ℕ) → a < actions → getD costs a 0 ≤ 1000000
+-- a later action is to be looked at
+abbrev pub LooksOn : (searched : Searched) (step : Step) (next : Entry) (costs : List ℕ) (own : Entry) → Bool → Type 0
+LooksOn searched step next costs own r =
+    (x : Action) → x .cost ≡ getD costs (step .action .0) 0 → r ≡ ltb (step .action .0 + 1) (searched .actions) && not (hasBy x next own)
+
+-- a state with its values, and entries
+pub record CanLead (look : ℕ → Entry) (searched : Searched) (s : ℕ) (values sizes costs conditions effects : List ℕ) : Type 0 where
+  pub asked : Searchable (searched .variables) (searched .actions) sizes costs conditions effects
+  pub below : s < rowStates (searched .variables) sizes
+  pub values-are : (starts : List ℕ) → listState values ≡ stateAt (rowVariables (searched .variables) sizes starts) s
+  pub more : 0 < searched .actions
+  pub low : (x : ℕ) → x < rowStates (searched .variables) sizes → isNone (look x) ≡ false → Low (look x)
 
 -- they are those of a task's states, and the state has its entry by way of one of the actions
-pub record Leads (t : Task) (look : ℕ → Entry) (nexts costs : List ℕ) (actions s : ℕ) : Type 0 where
-  pub count : actions ≡ actionCount t
-  pub costs-are : (a : ℕ) → a < actions → actionOf t a .cost ≡ getD costs a 0
-  pub nexts-are : (a : ℕ) → a < actions → getD nexts a 0 ≡ stateAfter t s a
-  pub entries-are : (a : ℕ) → a < actions → look (getD nexts a 0) ≡ entryOf (getD (distances t) (getD nexts a 0) none)
-  pub own-is : look s ≡ entryOf (getD (distances t) s none)
+pub record Leads (t : Task) (look : ℕ → Entry) (searched : Searched) (s : ℕ) (sizes costs conditions effects : List ℕ) : Type 0 where
+  pub stepped : Stepped t (searched .variables) (searched .actions) sizes costs conditions effects
+  pub entries-are : (x : ℕ) → x < rowStates (searched .variables) sizes → look x ≡ entryOf (getD (distances t) x none)
+  pub below : s < rowStates (searched .variables) sizes
   pub own-near : isNone (look s) ≡ false
   pub own-low : Low (look s)
   pub one : ℕ
-  pub one-below : one < actions
+  pub one-below : one < searched .actions
   pub one-leads : same (through t (distances t) s one) (getD (distances t) s none) ≡ true
 
--- the first action by which a state has its entry
-pub record FirstLed (look : ℕ → Entry) (nexts costs : List ℕ) (actions s : ℕ) (r : ReducedAction) : Type 0 where
-  pub below : r .0 < actions
-  pub is : (t : Task) → Leads t look nexts costs actions s → r .0 ≡ firstAction t (distances t) s 0 (actionCount t)
+-- the step by the first action by which a state has its entry
+pub record FirstLed (look : ℕ → Entry) (searched : Searched) (s : ℕ) (sizes costs conditions effects : List ℕ) (r : Step) : Type 0 where
+  pub below : r .action .0 < searched .actions
+  pub goes : GoesTo (searched .variables) s (r .action .0) sizes conditions effects (r .next)
+  pub is : (t : Task) → Leads t look searched s sizes costs conditions effects → r .action .0 ≡ firstAction t (distances t) s 0 (actionCount t)
 
 -- room for step i, and a number for the action
 pub record CanPut (plan : List ℕ) (i action : ℕ) (searched : Searched) (origin : List ℕ) : Type 0 where
   pub few : i ≤ 65536
   pub room : 6 + 2 * i ≤ length plan
-  pub action-few : action < 512
   pub named-fits : searched .named ≤ length origin
   pub place-is : searched .place ≡ originActionsPlace (take (searched .named) origin) + 4
   pub place-few : searched .place < 8589934600
   pub inside : action < length (originOf (take (searched .named) origin) .actions)
 
--- step i is written, and the state is that of the action
-pub record StepPut (plan : List ℕ) (i action : ℕ) (searched : Searched) (origin nexts : List ℕ) (r : ℕ) (now : List ℕ) : Type 0 where
-  pub plan-is : now ≡ placed plan (4 + 2 * i) (u16Bytes (getD (originOf (take (searched .named) origin) .actions) action 0))
-  pub next-is : r ≡ getD nexts action 0
+-- step i is written, and the state is that which it leads to
+pub record StepPut (plan : List ℕ) (i : ℕ) (step : Step) (searched : Searched) (origin : List ℕ) (r : ℕ) (now : List ℕ) : Type 0 where
+  pub plan-is : now ≡ placed plan (4 + 2 * i) (u16Bytes (getD (originOf (take (searched .named) origin) .actions) (step .action .0) 0))
+  pub next-is : r ≡ step .next
 
 -- what the steps ask
 pub record CanStep (look : ℕ → Entry) (plan : List ℕ) (steps : ℕ) (searched : Searched) (origin sizes costs conditions effects : List ℕ) : Type 0 where

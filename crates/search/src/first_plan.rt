@@ -1,11 +1,11 @@
-// The parts of reading a plan off a table that do not look at the table: where each action leads,
-// whether a state has its entry by way of an action, and the steps of the plan file.
-ghost use Rattle.search.specs.ReadOff.{CanGo, GoesTo, CanNext, NextStates, CanChoose, Chosen, StepPut, CanPut};
+// The parts of reading a plan off a table that do not look at the table: where an action leads from
+// a state, whether the state has its entry by way of it, and the steps of the plan file.
 ghost use mathlib.Core.Path.{_≡_};
-ghost use Prim.Native.Nat.{_<_};
+ghost use Prim.Native.Nat.{_+_};
 ghost use lib.ListN.{getD};
 ghost use Rattle.files.specs.OriginFile.{originOf};
 ghost use Rattle.search.specs.Rows.{NumberAt};
+ghost use Rattle.search.specs.ReadOff.{CanGo, GoesTo, CanScan, CanStepFrom, FirstApplicable, StepFrom, CanCompare, HasBy, LooksOn, CanPut, StepPut};
 use crate::Entry;
 use crate::entries;
 use crate::stages::Searched;
@@ -14,31 +14,14 @@ use plans::Minutes;
 use plans::OriginalAction;
 use plans::ReducedAction;
 
-// The next state of every action; where an action is not applicable, the state itself, whose entry
-// with a step more is never its own.
-pub fn next_states(
-    searched: Searched,
-    state: usize,
-    sizes: &[u8; 64],
-    conditions: &[u8; 32768],
-    effects: &[u8; 32768],
-) -> [usize; 512]
-    requires { ⌜ CanNext searched state (now sizes) (now conditions) (now effects) ⌝ }
-    ensures { λ r. ⌜ NextStates searched state (now (sizes .entry)) (now (conditions .entry)) (now (effects .entry)) r ⌝ }
-{
-    let variables = searched.variables;
-    let actions = searched.actions;
-    let values = states::values_of(sizes, variables, state);
-    let mut nexts = [0usize; 512];
-    let mut a: usize = 0;
-    while a < actions {
-        nexts[a] = next_state(sizes, conditions, effects, variables, &values, state, a);
-        a += 1;
-    }
-    nexts
+// An action, and the state that it leads to. Where the action is not applicable that is the state
+// itself, whose entry with a step more is never its own.
+pub struct Step {
+    pub action: ReducedAction,
+    pub next: usize,
 }
 
-// The state that an action leads to, or the state itself.
+// The state that action `a` leads to, or the state itself.
 fn next_state(
     sizes: &[u8; 64],
     conditions: &[u8; 32768],
@@ -58,39 +41,97 @@ fn next_state(
     state
 }
 
-// The next state of an action.
-pub fn next_at(nexts: &[usize; 512], a: usize) -> usize
-    requires { ⌜ a < 512 ⌝ }
-    ensures { λ r. ⌜ r ≡ getD (now (nexts .entry)) a 0 ⌝ }
+// The first applicable action from `from` on, or the last action of all.
+fn applicable_from(
+    searched: Searched,
+    from: usize,
+    values: &[u8; 64],
+    conditions: &[u8; 32768],
+) -> usize
+    requires { ⌜ CanScan searched from ⌝ }
+    ensures { λ r. ⌜ FirstApplicable searched from (now (values .entry)) (now (conditions .entry)) r ⌝ }
 {
-    nexts[a]
+    let variables = searched.variables;
+    let last = searched.actions - 1;
+    let mut a = from;
+    while a < last {
+        if states::all_hold(conditions, 64 * a, variables, values) {
+            return a;
+        }
+        a += 1;
+    }
+    a
 }
 
-// Before any action was looked at.
-pub fn no_action() -> ReducedAction
-    ensures { λ r. ⌜ r .0 ≡ 0 ⌝ }
+// The step by the first applicable action from `from` on, or by the last action of all.
+pub fn step_from(
+    searched: Searched,
+    from: usize,
+    state: usize,
+    values: &[u8; 64],
+    sizes: &[u8; 64],
+    conditions: &[u8; 32768],
+    effects: &[u8; 32768],
+) -> Step
+    requires { ⌜ CanStepFrom searched from state (now values) (now sizes) (now conditions) (now effects) ⌝ }
+    ensures { λ r. ⌜ StepFrom searched from state (now (sizes .entry)) (now (conditions .entry)) (now (effects .entry)) r ⌝ }
 {
-    ReducedAction(0)
+    let variables = searched.variables;
+    let a = applicable_from(searched, from, values, conditions);
+    Step {
+        action: ReducedAction(a as u16),
+        next: next_state(sizes, conditions, effects, variables, values, state, a),
+    }
 }
 
-// Action `a` where a state has its entry by way of it, else the first one found so far.
-pub fn choose(
-    first: ReducedAction,
-    a: usize,
-    next: Entry,
-    costs: &[u32; 512],
-    own: Entry,
-) -> ReducedAction
-    requires { ⌜ CanChoose a next (now costs) ⌝ }
-    ensures { λ r. ⌜ Chosen (first .0) a next (now (costs .entry)) own (r .0) ⌝ }
+// The step by the first applicable action behind that of another step.
+pub fn step_after(
+    searched: Searched,
+    step: Step,
+    state: usize,
+    values: &[u8; 64],
+    sizes: &[u8; 64],
+    conditions: &[u8; 32768],
+    effects: &[u8; 32768],
+) -> Step
+    requires { ⌜ CanStepFrom searched (step .action .0 + 1) state (now values) (now sizes) (now conditions) (now effects) ⌝ }
+    ensures { λ r. ⌜ StepFrom searched (step .action .0 + 1) state (now (sizes .entry)) (now (conditions .entry)) (now (effects .entry)) r ⌝ }
+{
+    let action = step.action;
+    step_from(
+        searched,
+        action.0 as usize + 1,
+        state,
+        values,
+        sizes,
+        conditions,
+        effects,
+    )
+}
+
+// Whether a state has its entry by way of an action that leads to a state with entry `next`.
+fn has_by(action: ReducedAction, next: Entry, costs: &[u32; 512], own: Entry) -> bool
+    requires { ⌜ CanCompare (action .0) next (now costs) ⌝ }
+    ensures { λ r. ⌜ HasBy (action .0) next (now (costs .entry)) own r ⌝ }
 {
     if entries::is_none(next) {
-        return first;
+        return false;
     }
-    if entries::same(entries::after_step(next, Minutes(costs[a] as u64)), own) {
-        return ReducedAction(a as u16);
+    let a = action.0 as usize;
+    entries::same(entries::after_step(next, Minutes(costs[a] as u64)), own)
+}
+
+// Whether a later action is to be looked at: where there is one, and the state has not its entry
+// by way of this one.
+pub fn looks_on(searched: Searched, step: Step, next: Entry, costs: &[u32; 512], own: Entry) -> bool
+    requires { ⌜ CanCompare (step .action .0) next (now costs) ⌝ }
+    ensures { λ r. ⌜ LooksOn searched step next (now (costs .entry)) own r ⌝ }
+{
+    let action = step.action;
+    if searched.actions <= action.0 as usize + 1 {
+        return false;
     }
-    first
+    !has_by(action, next, costs, own)
 }
 
 // The number in the full task of an action, from kind 7 of the origin file, whose numbers stand
@@ -103,20 +144,15 @@ fn original(origin: &[u8], place: usize, action: ReducedAction) -> OriginalActio
     OriginalAction(number as u16)
 }
 
-// Writes step `i` of a plan file by its original number, and gives the state that it leads to.
-pub fn put_action(
-    plan: &mut [u8],
-    i: usize,
-    action: ReducedAction,
-    searched: Searched,
-    origin: &[u8],
-    nexts: &[usize; 512],
-) -> usize
-    requires { ⌜ CanPut (now plan) i (action .0) searched (now origin) ⌝ }
-    ensures { λ r. ⌜ StepPut (now (plan .entry)) i (action .0) searched (now (origin .entry)) (now (nexts .entry)) r (now (plan .exit)) ⌝ }
+// Writes a step as step `i` of a plan file, by its original number, and gives the state that it
+// leads to.
+pub fn put_step(plan: &mut [u8], i: usize, step: Step, searched: Searched, origin: &[u8]) -> usize
+    requires { ⌜ CanPut (now plan) i (step .action .0) searched (now origin) ⌝ }
+    ensures { λ r. ⌜ StepPut (now (plan .entry)) i step searched (now (origin .entry)) r (now (plan .exit)) ⌝ }
 {
     let named = searched.named;
+    let action = step.action;
     let number = original(&origin[0..named], searched.place, action);
     files::plan::put_step(plan, i, number);
-    next_at(nexts, action.0 as usize)
+    step.next
 }

@@ -10,10 +10,11 @@ ghost use Rattle.search.specs.Found.{CanSearchFiles, SearchesFiles};
 use crate::Entry;
 use crate::entries;
 use crate::first_plan;
+use crate::first_plan::Step;
 use crate::stages;
 use crate::stages::Found;
 use crate::stages::Searched;
-use plans::ReducedAction;
+use crate::states;
 use plans::Steps;
 
 // The entry of a state; that of none past the end of the table.
@@ -46,27 +47,26 @@ fn fill(table: &mut [Entry], entries: &[u64], count: usize)
     }
 }
 
-// The first action by which a state has its entry. From the last action down, so that the first
-// one stays.
-fn first_action(
+// The step by the first action by which a state has its entry.
+fn first_step(
     table: &[Entry],
-    nexts: &[usize; 512],
-    costs: &[u32; 512],
-    actions: usize,
+    searched: Searched,
     state: usize,
-) -> ReducedAction
-    requires { ⌜ CanLead (tableEntry (now table)) (now nexts) (now costs) actions ⌝ }
-    ensures { λ r. ⌜ FirstLed (tableEntry (now (table .entry))) (now (nexts .entry)) (now (costs .entry)) actions state r ⌝ }
+    values: &[u8; 64],
+    sizes: &[u8; 64],
+    costs: &[u32; 512],
+    conditions: &[u8; 32768],
+    effects: &[u8; 32768],
+) -> Step
+    requires { ⌜ CanLead (tableEntry (now table)) searched state (now values) (now sizes) (now costs) (now conditions) (now effects) ⌝ }
+    ensures { λ r. ⌜ FirstLed (tableEntry (now (table .entry))) searched state (now (sizes .entry)) (now (costs .entry)) (now (conditions .entry)) (now (effects .entry)) r ⌝ }
 {
     let own = entry_at(table, state);
-    let mut first = first_plan::no_action();
-    let mut a = actions;
-    while 0 < a {
-        a -= 1;
-        let entry = entry_at(table, first_plan::next_at(nexts, a));
-        first = first_plan::choose(first, a, entry, costs, own);
+    let mut step = first_plan::step_from(searched, 0, state, values, sizes, conditions, effects);
+    while first_plan::looks_on(searched, step, entry_at(table, step.next), costs, own) {
+        step = first_plan::step_after(searched, step, state, values, sizes, conditions, effects);
     }
-    first
+    step
 }
 
 // Writes so many steps into a plan file, read off the table from the start state on.
@@ -88,9 +88,18 @@ fn write_steps(
     let mut state = searched.start;
     let mut i: usize = 0;
     while i < count {
-        let nexts = first_plan::next_states(searched, state, sizes, conditions, effects);
-        let action = first_action(table, &nexts, costs, searched.actions, state);
-        state = first_plan::put_action(plan, i, action, searched, origin, &nexts);
+        let values = states::values_of(sizes, searched.variables, state);
+        let step = first_step(
+            table,
+            searched,
+            state,
+            &values,
+            sizes,
+            costs,
+            conditions,
+            effects,
+        );
+        state = first_plan::put_step(plan, i, step, searched, origin);
         i += 1;
     }
 }
