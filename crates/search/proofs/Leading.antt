@@ -1,31 +1,34 @@
--- Where each action leads from a state, as the code finds it, and the first action by which a state has its entry, from the last action down.
-use Prim.Native.Nat.{ℕ, suc, _+_, _*_, _-_, _≤_, _<_}
-use mathlib.Core.Path.{_≡_, refl, sym, ap, subst, _∙_}
-use mathlib.Core.Bool.{Bool, true, false, cond}
+-- Where an action leads from a state, as the code finds it, and the first action by which a state has its entry.
+use Prim.Native.Nat.{ℕ, _+_, _*_, _-_, _≤_, _<_}
+use mathlib.Core.Path.{_≡_, refl, sym, ap, _∙_}
+use mathlib.Core.Bool.{Bool, true, false, not, _&&_}
 use mathlib.Core.List.{List, []}
 use mathlib.Core.Option.{none, some}
 use native.Mathlib.Omega.{arith}
+use lib.Dec.{ltb}
 use lib.ListN.{getD}
+use borrow.Author.Tests.{ltb-true, ltb-false, lt-ltb, le-ltb, not-true}
 use Rattle.files.specs.Dense.{rowPairs, rowAction}
 use Rattle.files.specs.Task.{Variable, Action, Task, actionOf, actionCount}
-use Rattle.files.proofs.Logic.{clash, split, split-le}
+use Rattle.files.proofs.Logic.{clash, split, split-le, and-split, and-join}
 use Rattle.plans.specs.Plan.{Total}
 use Rattle.plans.specs.State.{State, allHold, applicable, apply}
 use Rattle.plans.specs.Tally.{listState}
-use Rattle.files.specs.declared.units.ReducedAction.{ReducedAction}
 use Rattle.search.specs.States.{stateNumber, stateAt}
 use Rattle.search.specs.Table.{Distance, same, stepTo, nextState, through, distances, entryOf}
 use Rattle.search.specs.FirstPlan.{firstAction}
 use Rattle.search.specs.declared.Entry.{Entry}
 use Rattle.search.specs.Entries.{isNone, entryTotal, sameEntry, afterStep, Low}
 use Rattle.search.specs.Rows.{rowVariables, rowStates, NumberAfter}
-use Rattle.search.specs.ReadOff.{Stepped, stateAfter, GoesTo, hasBy, CanChoose, Chosen, CanLead, Leads, FirstLed}
+use Rattle.search.specs.declared.first_plan.Step.{Step}
+use Rattle.search.specs.declared.stages.Searched.{Searched}
+use Rattle.search.specs.ReadOff.{Stepped, stateAfter, GoesTo, CanStepFrom, StepFrom, hasBy, CanCompare, HasBy, LooksOn, CanLead, Leads, FirstLed}
 use Rattle.search.proofs.Radix.{state-in}
 use Rattle.search.proofs.RowNumbers.{RowSizes, row-sizes, inside-row}
 use Rattle.search.proofs.DistanceLaws.{some-none, addStep-steps}
 use Rattle.search.proofs.Distances.{through-applicable, through-not}
 use Rattle.search.proofs.EntryLaws.{low-near, same-some, some-distance, step-distance, not-same, far-not-same}
-use Rattle.search.proofs.ReadOff.{tight, first-here, first-later}
+use Rattle.search.proofs.ReadOff.{tight, first-tight}
 
 -- the values of a state are in the domains
 pub values-inside : (variables : ℕ) (sizes values : List ℕ) (s : ℕ) → RowSizes variables sizes
@@ -64,6 +67,10 @@ module _ (variables s a : ℕ) (sizes conditions effects values : List ℕ) (sta
     unfolding stateAfter
     after-no e = sym (rw (applies-is, e) refl)
 
+  -- an action that is passed over
+  pub passed-over : b ≡ false → (t : Task) (actions : ℕ) (costs : List ℕ) → Stepped t variables actions sizes costs conditions effects → a < actions → applicable (actionOf t a) (stateAt (t .variables) s) ≡ false
+  passed-over e t actions costs stepped h = applies-is t actions costs stepped h ∙ e
+
   pub goes-on : b ≡ true → (next : ℕ) → NumberAfter variables (64 * a) sizes effects values next → GoesTo variables s a sizes conditions effects next
   goes-on e next found = record { below = found .below; is = λ t actions costs stepped h. after-yes t actions costs stepped h next e found }
 
@@ -84,31 +91,40 @@ step-other a e =
     let totals : entryTotal (afterStep a e) ≡ entryTotal e = cc in
     omega (arith, step-more a e, ap (λ (x : Total). x .steps) totals)))
 
-module _ (t : Task) (look : ℕ → Entry) (nexts costs : List ℕ) (actions s : ℕ) (k : Leads t look nexts costs actions s) where
+-- whether a state has its entry by way of an action, as the code finds it
+module _ (t : Task) (look : ℕ → Entry) (searched : Searched) (s : ℕ) (sizes costs conditions effects : List ℕ) (k : Leads t look searched s sizes costs conditions effects) where
   own-distance : getD (distances t) s none ≡ some (entryTotal (look s))
-  own-distance = some-distance (look s) (getD (distances t) s none) (k .own-is) (k .own-near)
+  own-distance = some-distance (look s) (getD (distances t) s none) (k .entries-are s (k .below)) (k .own-near)
 
-  module _ (a : ℕ) (h : a < actions) where
+  -- an action that is not applicable
+  not-tight : (a : ℕ) → applicable (actionOf t a) (stateAt (t .variables) s) ≡ false → tight t (distances t) s a ≡ false
+  not-tight a e =
+      sym
+      (not-same (through t (distances t) s a) (getD (distances t) s none)
+      (λ z. some-none (entryTotal (look s)) (sym own-distance ∙ sym z ∙ through-not t (distances t) s a e)))
+
+  module _ (a : ℕ) (h : a < searched .actions) (n : ℕ) (goes : GoesTo (searched .variables) s a sizes conditions effects n) where
     abbrev next : Entry
-    next = look (getD nexts a 0)
+    next = look n
 
-    -- it is not applicable
+    after-is : n ≡ stateAfter t s a
+    after-is = goes .is t (searched .actions) costs (k .stepped) h
+
     has-not : applicable (actionOf t a) (stateAt (t .variables) s) ≡ false → hasBy (actionOf t a) next (look s) ≡ tight t (distances t) s a
     unfolding hasBy stateAfter
     has-not e =
-        let same-state : getD nexts a 0 ≡ s = k .nexts-are a h ∙ rw e refl in
-        ap (λ (n : ℕ). hasBy (actionOf t a) (look n) (look s)) same-state
+        let same-state : n ≡ s = after-is ∙ rw e refl in
+        ap (λ (m : ℕ). hasBy (actionOf t a) (look m) (look s)) same-state
         ∙ rw (k .own-near) (step-other (actionOf t a) (look s))
-        ∙ not-same (through t (distances t) s a) (getD (distances t) s none)
-        (λ z. some-none (entryTotal (look s)) (sym own-distance ∙ sym z ∙ through-not t (distances t) s a e))
+        ∙ sym (not-tight a e)
 
     module _ (e : applicable (actionOf t a) (stateAt (t .variables) s) ≡ true) where
-      there-state : getD nexts a 0 ≡ nextState t a s
+      there-state : n ≡ nextState t a s
       unfolding stateAfter
-      there-state = k .nexts-are a h ∙ rw e refl
+      there-state = after-is ∙ rw e refl
 
       there : next ≡ entryOf (getD (distances t) (nextState t a s) none)
-      there = k .entries-are a h ∙ ap (λ (n : ℕ). entryOf (getD (distances t) n none)) there-state
+      there = k .entries-are n (goes .below) ∙ ap (λ (m : ℕ). entryOf (getD (distances t) m none)) there-state
 
       -- it leads to where the goal is not reached, or to where it is
       has-far : isNone next ≡ true → hasBy (actionOf t a) next (look s) ≡ tight t (distances t) s a
@@ -136,77 +152,116 @@ module _ (t : Task) (look : ℕ → Entry) (nexts costs : List ℕ) (actions s :
         (λ e. split (isNone next) (has-far e) (has-near e))
         has-not
 
--- the actions from a on were looked at
-pub record Led (look : ℕ → Entry) (nexts costs : List ℕ) (actions s a first : ℕ) : Type 0 where
-  pub below : first < actions
-  pub is : (t : Task) → Leads t look nexts costs actions s → (b : ℕ) → a ≤ b → b < actions → tight t (distances t) s b ≡ true
-      → first ≡ firstAction t (distances t) s a (actions - a)
+  cost-is : (a : ℕ) → a < searched .actions → actionOf t a .cost ≡ getD costs a 0
+  unfolding rowAction
+  cost-is a h = ap (λ (x : Action). x .cost) (k .stepped .actions-are a h)
 
-module _ (look : ℕ → Entry) (nexts costs : List ℕ) (actions s : ℕ) where
-  pub led-none : CanLead look nexts costs actions → (first : ℕ) → first ≡ 0 → Led look nexts costs actions s actions first
-  led-none asked first z = record { below = omega (arith, asked .more); is = λ t k b low high e. absurd (omega arith) }
+  -- the first of all, where none before it is
+  first-is : (a : ℕ) → a < searched .actions → tight t (distances t) s a ≡ true → ((b : ℕ) → b < a → tight t (distances t) s b ≡ false) → a ≡ firstAction t (distances t) s 0 (actionCount t)
+  first-is a h e before =
+      let f = first-tight t (distances t) s 0 (actionCount t) a (omega arith) (omega (arith, k .stepped .count)) e in
+      split-le a (firstAction t (distances t) s 0 (actionCount t))
+      (λ q. omega (arith, f .first a (omega arith) e))
+      (λ q. clash (f .passes) (before (firstAction t (distances t) s 0 (actionCount t)) q))
 
-  module _ (a first : ℕ) (led : Led look nexts costs actions s (suc a) first) (h : a < actions) (r : ℕ) (chosen : Chosen first a (look (getD nexts a 0)) costs (look s) r) where
-    abbrev some-action : Action
-    some-action = record { cost = getD costs a 0; conditions = []; effects = [] }
+-- the actions before this step's were looked at in vain
+pub record Led (look : ℕ → Entry) (searched : Searched) (s : ℕ) (values sizes costs conditions effects : List ℕ) (step : Step) : Type 0 where
+  pub below : step .action .0 < searched .actions
+  pub goes : GoesTo (searched .variables) s (step .action .0) sizes conditions effects (step .next)
+  pub before : (t : Task) → Leads t look searched s sizes costs conditions effects → (b : ℕ) → b < step .action .0 → tight t (distances t) s b ≡ false
 
-    chosen-below : (b : Bool) → r ≡ cond b a first → r < actions
-    chosen-below true e = omega (arith, e)
-    chosen-below false e = omega (arith, e, led .below)
+module _ (look : ℕ → Entry) (searched : Searched) (s : ℕ) (values sizes costs conditions effects : List ℕ) (asked : CanLead look searched s values sizes costs conditions effects) where
+  from : (a : ℕ) → a < searched .actions → CanStepFrom searched a s values sizes conditions effects
+  from a h = record { costs = costs; asked = asked .asked; below = asked .below; values-are = asked .values-are; more = h }
 
-    module _ (t : Task) (k : Leads t look nexts costs actions s) where
-      chosen-is : r ≡ cond (tight t (distances t) s a) a first
-      chosen-is = chosen (actionOf t a) (k .costs-are a h) ∙ ap (λ (b : Bool). cond b a first) (has-is t look nexts costs actions s k a h)
+  pub can-begin : CanStepFrom searched 0 s values sizes conditions effects
+  can-begin = from 0 (asked .more)
 
-      one-less : firstAction t (distances t) s a (actions - a) ≡ firstAction t (distances t) s a (suc (actions - suc a))
-      one-less = ap (firstAction t (distances t) s a) (omega arith)
-
-      led-here : tight t (distances t) s a ≡ true → r ≡ firstAction t (distances t) s a (actions - a)
-      led-here e = chosen-is ∙ rw e refl ∙ sym (one-less ∙ first-here t (distances t) s a (actions - suc a) e)
-
-      led-later : (b : ℕ) → a ≤ b → b < actions → tight t (distances t) s b ≡ true → tight t (distances t) s a ≡ false → r ≡ firstAction t (distances t) s a (actions - a)
-      led-later b low high e n =
-          let later : suc a ≤ b = split-le b a (λ q. let here : a ≡ b = omega arith in clash (ap (tight t (distances t) s) here ∙ e) n) (λ q. omega arith) in
-          let first-stays : r ≡ first = chosen-is ∙ rw n refl in
-          let next : suc a ≡ a + 1 = omega arith in
-          first-stays
-          ∙ led .is t k b later high e
-          ∙ ap (λ (m : ℕ). firstAction t (distances t) s m (actions - suc a)) next
-          ∙ sym (one-less ∙ first-later t (distances t) s a (actions - suc a) n)
-
-    pub led-next : Led look nexts costs actions s a r
-    led-next =
-        record {
-          below = chosen-below (hasBy some-action (look (getD nexts a 0)) (look s)) (chosen some-action refl);
-          is = λ t k b low high e. split (tight t (distances t) s a) (led-here t k) (led-later t k b low high e);
-        }
-
-  pub led-all : (r : ReducedAction) → Led look nexts costs actions s 0 (r .0) → FirstLed look nexts costs actions s r
-  led-all r led =
+  pub led-first : (step : Step) → StepFrom searched 0 s sizes conditions effects step → Led look searched s values sizes costs conditions effects step
+  led-first step f =
       record {
-        below = led .below;
-        is = λ t k.
-            led .is t k (k .one) (omega arith) (k .one-below) (k .one-leads)
-            ∙ ap (firstAction t (distances t) s 0) (omega (arith, k .count));
+        below = f .below;
+        goes = f .goes;
+        before = λ t k b h. not-tight t look searched s sizes costs conditions effects k b (f .skipped t costs (k .stepped) b (omega arith) h);
       }
 
--- what the choice asks
-pub can-choose : (look : ℕ → Entry) (nexts costs : List ℕ) (actions a : ℕ) → CanLead look nexts costs actions → a < actions → CanChoose a (look (getD nexts a 0)) costs
-can-choose look nexts costs actions a asked h = record { few = omega (arith, asked .few); low = asked .low a h; cost-most = asked .cost-most a h }
+  module _ (step : Step) (led : Led look searched s values sizes costs conditions effects step) where
+    pub led-compare : CanCompare (step .action .0) (look (step .next)) costs
+    led-compare =
+        record {
+          few = omega (arith, led .below, asked .asked .actions-few);
+          low = asked .low (step .next) (led .goes .below);
+          cost-most = asked .asked .cost-most (step .action .0) (led .below);
+        }
 
--- what the choice gives
-module _ (first a : ℕ) (next : Entry) (costs : List ℕ) (own : Entry) (b : Bool) (none-is : b ≡ isNone next) where
-  pub chosen-far : b ≡ true → Chosen first a next costs own first
+    pub led-fewer : (after : Step) → StepFrom searched (step .action .0 + 1) s sizes conditions effects after → searched .actions - after .action .0 < searched .actions - step .action .0
+    led-fewer after f = omega (arith, f .first, f .below)
+
+    module _ (b : Bool) (looks : LooksOn searched step (look (step .next)) costs (look s) b) where
+      -- what the test says of a task's own action
+      abbrev some-action : Action
+      some-action = record { cost = getD costs (step .action .0) 0; conditions = []; effects = [] }
+
+      own-test : (t : Task) → Leads t look searched s sizes costs conditions effects → b ≡ ltb (step .action .0 + 1) (searched .actions) && not (tight t (distances t) s (step .action .0))
+      own-test t k =
+          looks (actionOf t (step .action .0)) (cost-is t look searched s sizes costs conditions effects k (step .action .0) (led .below))
+          ∙ ap (λ (x : Bool). ltb (step .action .0 + 1) (searched .actions) && not x) (has-is t look searched s sizes costs conditions effects k (step .action .0) (led .below) (step .next) (led .goes))
+
+      module _ (e : b ≡ true) where
+        more : step .action .0 + 1 < searched .actions
+        more = ltb-true _ _ (and-split (ltb (step .action .0 + 1) (searched .actions)) _ (sym (looks some-action refl) ∙ e) .0)
+
+        pub led-more : CanStepFrom searched (step .action .0 + 1) s values sizes conditions effects
+        led-more = from (step .action .0 + 1) more
+
+        here-not : (t : Task) → Leads t look searched s sizes costs conditions effects → tight t (distances t) s (step .action .0) ≡ false
+        here-not t k = not-true _ (and-split (ltb (step .action .0 + 1) (searched .actions)) _ (sym (own-test t k) ∙ e) .1)
+
+        pub led-next : (after : Step) → StepFrom searched (step .action .0 + 1) s sizes conditions effects after → Led look searched s values sizes costs conditions effects after
+        led-next after f =
+            record {
+              below = f .below;
+              goes = f .goes;
+              before = λ t k c h.
+                  split-le (step .action .0 + 1) c
+                  (λ q. not-tight t look searched s sizes costs conditions effects k c (f .skipped t costs (k .stepped) c q h))
+                  (λ q.
+                  split-le (step .action .0) c
+                  (λ w. let here : step .action .0 ≡ c = omega arith in ap (tight t (distances t) s) (sym here) ∙ here-not t k)
+                  (λ w. led .before t k c w));
+            }
+
+      module _ (e : b ≡ false) where
+        -- it is the first, or the last and none is
+        stops : (t : Task) (k : Leads t look searched s sizes costs conditions effects) → step .action .0 ≡ firstAction t (distances t) s 0 (actionCount t)
+        stops t k =
+            split (tight t (distances t) s (step .action .0))
+            (λ y. first-is t look searched s sizes costs conditions effects k (step .action .0) (led .below) y (led .before t k))
+            (λ n.
+            let last : ltb (step .action .0 + 1) (searched .actions) ≡ false =
+            split (ltb (step .action .0 + 1) (searched .actions)) (λ m. clash (own-test t k ∙ and-join m (ap not n)) e) (λ m. m) in
+            let at-end : searched .actions ≤ step .action .0 + 1 = ltb-false _ _ last in
+            split-le (step .action .0) (k .one)
+            (λ w. let here : k .one ≡ step .action .0 = omega (arith, k .one-below) in clash (k .one-leads) (ap (tight t (distances t) s) here ∙ n))
+            (λ w. clash (k .one-leads) (led .before t k (k .one) w)))
+
+        pub led-stop : FirstLed look searched s sizes costs conditions effects step
+        led-stop = record { below = led .below; goes = led .goes; is = stops }
+
+-- whether the state has its entry by way of an action
+module _ (a : ℕ) (next : Entry) (costs : List ℕ) (own : Entry) (b : Bool) (none-is : b ≡ isNone next) where
+  pub has-none : b ≡ true → HasBy a next costs own false
   unfolding hasBy
-  chosen-far far x e = sym (rw (sym none-is ∙ far) refl)
+  has-none far x e = sym (rw (sym none-is ∙ far) refl)
 
-  module _ (near : b ≡ false) (y : Entry) (stepped : (x : Action) → x .cost ≡ getD costs a 0 → y ≡ afterStep x next) (c : Bool) (is : c ≡ sameEntry y own) where
-    has-same : (x : Action) → x .cost ≡ getD costs a 0 → hasBy x next own ≡ c
-    unfolding hasBy
-    has-same x e = rw (sym none-is ∙ near) (ap (λ (z : Entry). sameEntry z own) (sym (stepped x e)) ∙ sym is)
+  pub has-some : b ≡ false → (y : Entry) → ((x : Action) → x .cost ≡ getD costs a 0 → y ≡ afterStep x next) → (c : Bool) → c ≡ sameEntry y own → HasBy a next costs own c
+  unfolding hasBy
+  has-some near y stepped c is x e = sym (rw (sym none-is ∙ near) (ap (λ (z : Entry). sameEntry z own) (sym (stepped x e)) ∙ sym is))
 
-    pub chosen-yes : c ≡ true → Chosen first a next costs own a
-    chosen-yes e x q = sym (ap (λ (h : Bool). cond h a first) (has-same x q ∙ e))
+-- a later action is to be looked at
+module _ (searched : Searched) (step : Step) (next : Entry) (costs : List ℕ) (own : Entry) where
+  pub looks-end : searched .actions ≤ step .action .0 + 1 → LooksOn searched step next costs own false
+  looks-end h x e = sym (rw (le-ltb (step .action .0 + 1) (searched .actions) h) refl)
 
-    pub chosen-no : c ≡ false → Chosen first a next costs own first
-    chosen-no e x q = sym (ap (λ (h : Bool). cond h a first) (has-same x q ∙ e))
+  pub looks-further : step .action .0 + 1 < searched .actions → (c : Bool) → HasBy (step .action .0) next costs own c → LooksOn searched step next costs own (not c)
+  looks-further h c has x e = sym (rw (lt-ltb (step .action .0 + 1) (searched .actions) h) (ap not (sym (has x e))))

@@ -34,11 +34,11 @@ pub record FirstTight (t : Task) (row : List Distance) (n low high a : ℕ) : Ty
   pub first : (b : ℕ) → low ≤ b → tight t row n b ≡ true → a ≤ b
 
 module _ (t : Task) (row : List Distance) (n : ℕ) where
-  pub first-here : (low count : ℕ) → tight t row n low ≡ true → firstAction t row n low (suc count) ≡ low
+  first-here : (low count : ℕ) → tight t row n low ≡ true → firstAction t row n low (suc count) ≡ low
   unfolding firstAction
   first-here low count e = rw e
 
-  pub first-later : (low count : ℕ) → tight t row n low ≡ false → firstAction t row n low (suc count) ≡ firstAction t row n (low + 1) count
+  first-later : (low count : ℕ) → tight t row n low ≡ false → firstAction t row n low (suc count) ≡ firstAction t row n (low + 1) count
   unfolding firstAction
   first-later low count e = rw e
 

@@ -7,7 +7,6 @@ use mathlib.Core.Option.{none, some}
 use native.Mathlib.Omega.{arith}
 use lib.ListN.{length, getD, take}
 use Rattle.files.specs.Bytes.{placed, u16Bytes}
-use Rattle.files.specs.Dense.{rowAction}
 use Rattle.files.specs.OriginFile.{originOf}
 use Rattle.files.specs.Records.{numberBytes}
 use Rattle.files.specs.Task.{Action, Task, actionCount, actionOf}
@@ -18,16 +17,17 @@ use Rattle.files.proofs.Valid.{Valid, task-valid}
 use Rattle.files.proofs.Writing.{placed-u16-then}
 use Rattle.plans.specs.Plan.{Total, noSteps}
 use Rattle.plans.specs.State.{allHold}
-use Rattle.files.specs.declared.units.ReducedAction.{ReducedAction}
+use Rattle.plans.specs.Tally.{listState}
 use Rattle.reduction.specs.Preserved.{byOriginFile}
 use Rattle.search.specs.States.{stateCount, stateAt}
 use Rattle.search.specs.Table.{distances, nextState}
 use Rattle.search.specs.FirstPlan.{stepsFrom, startNumber, foundPlan}
 use Rattle.search.specs.declared.Entry.{Entry}
+use Rattle.search.specs.declared.first_plan.Step.{Step}
 use Rattle.search.specs.declared.stages.Searched.{Searched}
 use Rattle.search.specs.Entries.{isNone, entryTotal, Low}
-use Rattle.search.specs.Rows.{rowVariables, rowStates}
-use Rattle.search.specs.ReadOff.{Stepped, stateAfter, CanNext, NextStates, CanLead, Leads, FirstLed, CanPut, StepPut, CanStep, StepsToWrite, PlanIn, StepsWritten}
+use Rattle.search.specs.Rows.{rowVariables, rowStates, Sized}
+use Rattle.search.specs.ReadOff.{stateAfter, CanLead, Leads, FirstLed, CanPut, StepPut, CanStep, StepsToWrite, PlanIn, StepsWritten}
 use Rattle.search.proofs.Radix.{start-below}
 use Rattle.search.proofs.RowNumbers.{states-count}
 use Rattle.search.proofs.Distances.{steps-few, minutes-few}
@@ -114,63 +114,50 @@ module _ (t : Task) (look : ℕ → Entry) (steps : ℕ) (searched : Searched) (
         within-total (look s) (w .total) (total-is (look s) (getD (distances t) s none) (w .total) (k .entries-are s (w .inside)) (w .distance))
         (omega (arith, steps-few t valid s (w .total) (w .inside) (w .distance), k .few)) (minutes-few t valid s (w .total) (w .inside) (w .distance))
 
-    module _ (nexts : List ℕ) (known : NextStates searched s sizes conditions effects nexts) where
-      next-below : (a : ℕ) → a < searched .actions → getD nexts a 0 < stateCount (t .variables)
-      next-below a h = omega (arith, known a h .below, states-are)
+    leads : Leads t look searched s sizes costs conditions effects
+    leads =
+        record {
+          stepped = k .stepped;
+          entries-are = λ x h. k .entries-are x (omega (arith, states-are));
+          below = omega (arith, w .inside, states-are);
+          own-near = near-some (look s) (within-near 0 (look s) within);
+          own-low = within-low 0 (look s) within;
+          one = actionFrom t s;
+          one-below = omega (arith, onward .below, k .stepped .count);
+          one-leads = onward .passes;
+        }
 
-      nexts-are : (a : ℕ) → a < searched .actions → getD nexts a 0 ≡ stateAfter t s a
-      nexts-are a h = known a h .is t (searched .actions) costs (k .stepped) h
+    module _ (r : Step) (found : FirstLed look searched s sizes costs conditions effects r) where
+      from-is : r .action .0 ≡ actionFrom t s
+      from-is = found .is t leads
 
-      cost-is : (a : ℕ) → a < searched .actions → actionOf t a .cost ≡ getD costs a 0
-      unfolding rowAction
-      cost-is a h = ap (λ (x : Action). x .cost) (k .stepped .actions-are a h)
+      next-number : r .next ≡ nextState t (actionFrom t s) s
+      unfolding stateAfter
+      next-number = found .goes .is t (searched .actions) costs (k .stepped) (found .below) ∙ ap (stateAfter t s) from-is ∙ rw (onward .applies) refl
 
-      leads : Leads t look nexts costs (searched .actions) s
-      leads =
+      wrote : (next : ℕ) (after : List ℕ) → next ≡ r .next → after ≡ placed buffer (4 + 2 * i) (u16Bytes (getD (originOf origin .actions) (r .action .0) 0))
+          → Writing t origin plan steps next (suc i) after
+      wrote next after n p =
+          let row = distances t in
+          let there : next ≡ nextState t (actionFrom t s) s = n ∙ next-number in
+          let fewer = onward .fewer (w .total) (w .distance) in
+          let rest-of = w .limit - 1 in
+          let plan-from : stepsFrom t row s (w .limit) ≡ r .action .0 ∷ stepsFrom t row next rest-of =
+          ap (stepsFrom t row s) (one-more (w .limit) (omega (arith, fewer, w .enough)))
+          ∙ steps-more t row s rest-of not-goal
+          ∙ ap₂ (λ (m l : ℕ). m ∷ stepsFrom t row l rest-of) (sym from-is) (sym there) in
           record {
-            count = k .stepped .count;
-            costs-are = cost-is;
-            nexts-are = nexts-are;
-            entries-are = λ a h. k .entries-are (getD nexts a 0) (next-below a h);
-            own-is = k .entries-are s (w .inside);
-            own-near = near-some (look s) (within-near 0 (look s) within);
-            own-low = within-low 0 (look s) within;
-            one = actionFrom t s;
-            one-below = omega (arith, onward .below, k .stepped .count);
-            one-leads = onward .passes;
+            inside = omega (arith, there, onward .inside);
+            total = onward .next;
+            distance = ap (λ (m : ℕ). getD row m none) there ∙ onward .reached;
+            left = omega (arith, fewer, w .left);
+            limit = rest-of;
+            enough = omega (arith, fewer, w .enough);
+            rest =
+                placed-u16-then buffer after (4 + 2 * i) (4 + 2 * suc i) (getD (originOf origin .actions) (r .action .0) 0) (numberBytes (byOriginFile origin (stepsFrom t row next rest-of))) p (omega arith)
+                ∙ ap (placed buffer (4 + 2 * i)) (sym (written-next origin (stepsFrom t row s (w .limit)) (stepsFrom t row next rest-of) (r .action .0) plan-from))
+                ∙ w .rest;
           }
-
-      module _ (r : ReducedAction) (found : FirstLed look nexts costs (searched .actions) s r) where
-        from-is : r .0 ≡ actionFrom t s
-        from-is = found .is t leads
-
-        next-number : getD nexts (r .0) 0 ≡ nextState t (actionFrom t s) s
-        unfolding stateAfter
-        next-number = nexts-are (r .0) (found .below) ∙ ap (stateAfter t s) from-is ∙ rw (onward .applies) refl
-
-        wrote : (next : ℕ) (after : List ℕ) → next ≡ getD nexts (r .0) 0 → after ≡ placed buffer (4 + 2 * i) (u16Bytes (getD (originOf origin .actions) (r .0) 0))
-            → Writing t origin plan steps next (suc i) after
-        wrote next after n p =
-            let row = distances t in
-            let there : next ≡ nextState t (actionFrom t s) s = n ∙ next-number in
-            let fewer = onward .fewer (w .total) (w .distance) in
-            let rest-of = w .limit - 1 in
-            let plan-from : stepsFrom t row s (w .limit) ≡ r .0 ∷ stepsFrom t row next rest-of =
-            ap (stepsFrom t row s) (one-more (w .limit) (omega (arith, fewer, w .enough)))
-            ∙ steps-more t row s rest-of not-goal
-            ∙ ap₂ (λ (m l : ℕ). m ∷ stepsFrom t row l rest-of) (sym from-is) (sym there) in
-            record {
-              inside = omega (arith, there, onward .inside);
-              total = onward .next;
-              distance = ap (λ (m : ℕ). getD row m none) there ∙ onward .reached;
-              left = omega (arith, fewer, w .left);
-              limit = rest-of;
-              enough = omega (arith, fewer, w .enough);
-              rest =
-                  placed-u16-then buffer after (4 + 2 * i) (4 + 2 * suc i) (getD (originOf origin .actions) (r .0) 0) (numberBytes (byOriginFile origin (stepsFrom t row next rest-of))) p (omega arith)
-                  ∙ ap (placed buffer (4 + 2 * i)) (sym (written-next origin (stepsFrom t row s (w .limit)) (stepsFrom t row next rest-of) (r .0) plan-from))
-                  ∙ w .rest;
-            }
 
   -- none is left
   written : (origin plan : List ℕ) (s : ℕ) (buffer : List ℕ) → Writing t origin plan steps s steps buffer → buffer ≡ placed plan 4 (numberBytes (byOriginFile origin (foundPlan t)))
@@ -190,15 +177,8 @@ module _ (look : ℕ → Entry) (plan : List ℕ) (steps : ℕ) (searched : Sear
         writing = λ t k. begun t look steps searched sizes costs conditions effects k (take (searched .named) origin) plan;
       }
 
-  pub can-lead : (s : ℕ) (nexts : List ℕ) → CanStep look plan steps searched origin sizes costs conditions effects → NextStates searched s sizes conditions effects nexts
-      → CanLead look nexts costs (searched .actions)
-  can-lead s nexts asked known =
-      record {
-        few = asked .asked .actions-few;
-        more = asked .more;
-        low = λ a h. asked .low (getD nexts a 0) (known a h .below);
-        cost-most = asked .asked .cost-most;
-      }
+  pub can-values : CanStep look plan steps searched origin sizes costs conditions effects → Sized (searched .variables) sizes
+  can-values asked = record { few = asked .asked .variables-few; least = asked .asked .size-least }
 
   module _ (s i : ℕ) (buffer : List ℕ) where
     pub steps-length : Stepping look plan steps searched origin sizes costs conditions effects s i buffer → length buffer ≡ length plan
@@ -210,7 +190,6 @@ module _ (look : ℕ → Entry) (plan : List ℕ) (steps : ℕ) (searched : Sear
         record {
           few = omega (arith, asked .few);
           room = omega (arith, asked .room, w .room);
-          action-few = omega (arith, asked .asked .actions-few);
           named-fits = asked .named-fits;
           place-is = asked .place-is;
           place-few = asked .place-few;
@@ -218,19 +197,20 @@ module _ (look : ℕ → Entry) (plan : List ℕ) (steps : ℕ) (searched : Sear
         }
 
     module _ (asked : CanStep look plan steps searched origin sizes costs conditions effects) (w : Stepping look plan steps searched origin sizes costs conditions effects s i buffer) where
-      pub can-next : i < steps → CanNext searched s sizes conditions effects
-      can-next more = record { costs = costs; asked = asked .asked; below = w .below (omega arith) }
+      pub can-lead : i < steps → (values : List ℕ) → ((starts : List ℕ) → listState values ≡ stateAt (rowVariables (searched .variables) sizes starts) s)
+          → CanLead look searched s values sizes costs conditions effects
+      can-lead more values state =
+          record { asked = asked .asked; below = w .below (omega arith); values-are = state; more = asked .more; low = asked .low }
 
-      pub steps-next : i < steps → (nexts : List ℕ) → NextStates searched s sizes conditions effects nexts → (r : ReducedAction) → FirstLed look nexts costs (searched .actions) s r
-          → (next : ℕ) (after : List ℕ) → StepPut buffer i (r .0) searched origin nexts next after
+      pub steps-next : i < steps → (r : Step) → FirstLed look searched s sizes costs conditions effects r → (next : ℕ) (after : List ℕ) → StepPut buffer i r searched origin next after
           → Stepping look plan steps searched origin sizes costs conditions effects next (suc i) after
-      steps-next more nexts known r found next after put =
+      steps-next more r found next after put =
           record {
-            below = λ h. omega (arith, put .next-is, known (r .0) (found .below) .below);
+            below = λ h. omega (arith, put .next-is, found .goes .below);
             room = ap length (put .plan-is) ∙ placed-length buffer (4 + 2 * i) _ ∙ w .room;
             none-yet = λ z. absurd (omega (arith, z));
             writing = λ t k.
-                wrote t look steps searched sizes costs conditions effects k (take (searched .named) origin) plan s i buffer (w .writing t k) more nexts known r found next after (put .next-is) (put .plan-is);
+                wrote t look steps searched sizes costs conditions effects k (take (searched .named) origin) plan s i buffer (w .writing t k) more r found next after (put .next-is) (put .plan-is);
           }
 
   pub steps-end : (s : ℕ) (buffer : List ℕ) → Stepping look plan steps searched origin sizes costs conditions effects s steps buffer
