@@ -1,47 +1,47 @@
--- What the walks of `work_table` cite of the types beside the table's: how numbers of actions and of steps, what the stages come to and the arrays of a task are spelled in memory, and the MIR types of references.
+-- What the walks of `work_table` cite of the types beside the table's: how steps and their numbers, what the stages come to and the arrays of a task are spelled in memory, and the MIR types of references.
 use mathlib.Core.Path.{_≡_, ap, subst, _∙_}
 use Prim.Native.Nat.{ℕ, zero, suc, _+_}
 use native.Mathlib.Nat.{add-zero, add-suc}
 use mathlib.Core.List.{List, [], _∷_}
-use mir.Syntax.{Ty, Lifetime, imm, mut, w64, tyInt, tyRef}
+use mir.Syntax.{Ty, Lifetime, imm, mut, w8, w64, tyInt, tyRef}
 use mir.Val.{Val}
 use denote.RattleType.{RattleType}
 use denote.Laws.{Is, Tells}
 use denote.Memory.{pointee}
 use denote.Plain.{uint-vals, uint-tells}
-use denote.Builtin.{u8, u32, usize}
+use denote.Builtin.{u8, u32}
 use denote.Array.{Array, array-vals, array-tells}
 use denote.Steps.{only}
 use denote.Struct.Laws as LL
-use Rattle.files.specs.declared.units.ReducedAction.{ReducedAction}
 use Rattle.files.specs.declared.units.Steps.{Steps}
 use Rattle.search.specs.declared.Entry.{Entry}
 use Rattle.search.specs.declared.Planned.{Planned}
+use Rattle.search.specs.declared.first_plan.Step.{Step}
 use Rattle.search.specs.declared.stages.Found.{Found}
 use Rattle.search.specs.declared.stages.Searched.{Searched}
-use Rattle.files.proofs.units.ReducedAction as A₀
-use Rattle.files.proofs.units.ReducedAction.Laws as A′
 use Rattle.files.proofs.units.Steps as N₀
 use Rattle.files.proofs.units.Steps.Laws as N′
 use Rattle.reduction.proofs.Reduced as D₀
 use Rattle.search.proofs.Entry.Laws as T′
 use Rattle.search.proofs.Planned as P₀
 use Rattle.search.proofs.Planned.Laws as P′
+use Rattle.search.proofs.first_plan.Step as St₀
+use Rattle.search.proofs.first_plan.Step.Laws as St′
 use Rattle.search.proofs.stages.Found as F₀
 use Rattle.search.proofs.stages.Found.Laws as F′
 use Rattle.search.proofs.stages.Searched as S₀
 use Rattle.search.proofs.stages.Searched.Laws as S′
 use Rattle.search.proofs.EntrySlices.{R}
 
--- an action's number
-abbrev pub Act : RattleType
-Act = A₀.the-row
+-- an action, and the state that it leads to
+abbrev pub St : RattleType
+St = St₀.the-row
 
-abbrev pub action-vals : ReducedAction → List Val
-action-vals = LL.vals A₀.the-type A′.the-laws
+abbrev pub step-vals : Step → List Val
+step-vals = LL.vals St₀.the-type St′.the-laws
 
-pub action-tells : Tells Act (Is Act) action-vals
-action-tells = LL.tells A₀.the-type A′.the-laws
+pub step-tells : Tells St (Is St) step-vals
+step-tells = LL.tells St₀.the-type St′.the-laws
 
 -- a number of steps
 abbrev pub N : RattleType
@@ -83,9 +83,12 @@ planned-is r vs k = subst (Is P r) (P′.lowers .val-is r vs k) k
 pub entry-is : (e : Entry) (vs : List Val) → Is R e vs → Is R e (T′.lowered e ∷ [])
 entry-is e vs k = subst (Is R e) (T′.lowers .val-is e vs k) k
 
--- the sizes of variables, the costs of actions, their conditions or effects, and the state that each leads to
+-- the sizes of variables, their values, the costs of actions, and their conditions or effects
 abbrev pub Sizes : RattleType
 Sizes = Array u8 64
+
+abbrev pub Values : RattleType
+Values = Array u8 64
 
 abbrev pub Costs : RattleType
 Costs = Array u32 512
@@ -93,14 +96,11 @@ Costs = Array u32 512
 abbrev pub Rows : RattleType
 Rows = Array u8 32768
 
-abbrev pub Nexts : RattleType
-Nexts = Array usize 512
+abbrev pub values-val : List ℕ → Val
+values-val xs = only (array-vals (uint-vals w8) xs)
 
-abbrev pub nexts-val : List ℕ → Val
-nexts-val xs = only (array-vals (uint-vals w64) xs)
-
-pub nexts-tells : Tells Nexts (Is Nexts) (λ xs. nexts-val xs ∷ [])
-nexts-tells = array-tells usize (uint-vals w64) (uint-tells w64) 512
+pub values-tells : Tells Values (Is Values) (λ xs. values-val xs ∷ [])
+values-tells = array-tells u8 (uint-vals w8) (uint-tells w8) 64
 
 -- the types of locals
 abbrev pub word : Ty
