@@ -18,7 +18,7 @@ use Rattle.search.specs.States.{stateNumber, stateAt}
 use Rattle.search.specs.Table.{Distance, same, stepTo, nextState, through, distances, entryOf}
 use Rattle.search.specs.FirstPlan.{firstAction}
 use Rattle.search.specs.declared.Entry.{Entry}
-use Rattle.search.specs.Entries.{isNone, entryTotal, sameEntry, afterStep, Low}
+use Rattle.search.specs.Entries.{isNone, entryTotal, sameEntry, afterStep}
 use Rattle.search.specs.Rows.{rowVariables, rowStates, NumberAfter}
 use Rattle.search.specs.declared.first_plan.Step.{Step}
 use Rattle.search.specs.declared.stages.Searched.{Searched}

@@ -11,6 +11,7 @@ pub mod LeastPlans
 pub mod TableEntries
 pub mod FoundLaws
 pub mod StageLaws
+pub mod PlanFiles
 pub mod SearchLaws
 pub mod RowNumbers
 pub mod StateLoops

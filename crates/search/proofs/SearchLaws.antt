@@ -1,27 +1,24 @@
 -- The search of the reduced file's task, from what its parts came to: the entries in the table, and the plan file begun, written and ended.
 use Prim.Native.Nat.{ℕ, _+_, _*_, _≤_, _<_}
-use mathlib.Core.Path.{_≡_, refl, sym, ap, ap₂, subst, _∙_}
-use mathlib.Core.Bool.{Bool, true, false, cond}
-use mathlib.Core.List.{List, [], _++_}
+use mathlib.Core.Path.{_≡_, refl, sym, ap, ap₂, _∙_}
+use mathlib.Core.Bool.{true, false}
+use mathlib.Core.List.{List}
 use mathlib.Core.Option.{none, some, Option·map}
 use native.Mathlib.Omega.{arith}
 use lib.Dec.{leb}
-use lib.ListN.{length, getD, take, length-map}
-use borrow.Author.Tests.{leb-true, le-leb, lt-leb}
+use lib.ListN.{length, getD, take}
+use borrow.Author.Tests.{leb-true}
 use Rattle.files.specs.declared.Outcome.{Outcome}
-use Rattle.files.specs.Bytes.{placed, u16Bytes, u32Bytes}
+use Rattle.files.specs.Bytes.{placed}
 use Rattle.files.specs.OriginFile.{originOf, originActionsPlace}
-use Rattle.files.specs.Outcome.{done, refusal, isDone, guard, fits, overwrite}
+use Rattle.files.specs.Outcome.{done, refusal, isDone, fits, overwrite}
 use Rattle.files.specs.PlanFile.{planFile}
-use Rattle.files.specs.Records.{numberBytes, recordBytes}
-use Rattle.files.specs.Task.{Task, actionCount}
+use Rattle.files.specs.Records.{numberBytes}
+use Rattle.files.specs.Task.{Task}
 use Rattle.files.specs.TaskFile.{taskOf}
 use Rattle.files.proofs.Guards.{is-done, is-refused, done-number, passed, refusal-number}
-use Rattle.files.proofs.Lengths.{number-bytes-length, number-record-length, plan-file-length}
 use Rattle.files.proofs.Logic.{clash, split, split-le}
-use Rattle.files.proofs.Placed.{placed-overwrite}
 use Rattle.files.proofs.Valid.{Valid, task-valid}
-use Rattle.files.proofs.Writing.{placed-record, placed-signed}
 use Rattle.plans.specs.Plan.{Total, noSteps, totalOf}
 use Rattle.plans.specs.State.{allHold}
 use Rattle.reduction.specs.declared.Reduced.{Reduced}
@@ -32,11 +29,11 @@ use Rattle.search.specs.declared.stages.Searched.{Searched}
 use Rattle.search.specs.States.{stateCount, stateAt}
 use Rattle.search.specs.Table.{stepsOf, entryOf, distances, tableOf}
 use Rattle.search.specs.FirstPlan.{startNumber, firstPlan, foundPlan}
-use Rattle.search.specs.Entries.{isNone, entryTotal, Low, entriesIn, tableEntry, CanFill}
+use Rattle.search.specs.Entries.{isNone, entryTotal, entriesIn, tableEntry, CanFill}
 use Rattle.search.specs.Rows.{rowStates}
 use Rattle.search.specs.ReadOff.{CanStep, StepsToWrite, PlanIn, StepsWritten}
 use Rattle.search.specs.Planner.{statesFit, planFits, searchBuffers}
-use Rattle.search.specs.Found.{notFound, foundWhole, Searches, FilesWritten, CanSearchFiles, SearchesFiles, unsearched, TableFound, SearchedIn, SearchedFiles, planBy, foundBy, headed, signedOff, Begins, CanFinish, Finishes}
+use Rattle.search.specs.Found.{notFound, foundWhole, Searches, CanSearchFiles, SearchesFiles, TableFound, SearchedFiles, planBy, foundBy, Begins, Finishes}
 use Rattle.search.proofs.Radix.{start-below}
 use Rattle.search.proofs.RowNumbers.{states-count}
 use Rattle.search.proofs.Distances.{steps-few}
@@ -45,104 +42,7 @@ use Rattle.search.proofs.TableEntries.{table-entry, entry-low, start-no
 use Rattle.search.proofs.LeastPlans.{stepsRead}
 use Rattle.search.proofs.TableFilling.{filled-none}
 use Rattle.search.proofs.FoundLaws.{states-fit, search-early, search-late, search-done, no-plan, plan-short, plan-fits, read-plan, read-total, read-needed, read-length, plan-made, plan-is}
-
--- what the entry of the start state comes to, where the table is filled
-module _ (states : ℕ) (e : Entry) (room : ℕ) where
-  abbrev size : ℕ
-  size = 16 + 2 * stepsOf e
-
-  abbrev whole : Found
-  whole = record { outcome = done; states = states; plan = size; cost = e .minutes; steps = e .steps }
-
-  plan-none : isNone e ≡ true → planBy states e room ≡ notFound states (refusal 24 0)
-  unfolding planBy isDone
-  plan-none far = rw far refl
-
-  plan-room : isNone e ≡ false → room < size → planBy states e room ≡ notFound states (refusal 21 size)
-  unfolding planBy isDone fits guard
-  plan-room near short = rw (near, lt-leb size room short) refl
-
-  plan-whole : isNone e ≡ false → size ≤ room → planBy states e room ≡ whole
-  unfolding planBy isDone fits guard
-  plan-whole near long = rw (near, le-leb size room long) refl
-
--- the plan file of a refusal is not begun and not ended
-module _ (f : Found) (no : isDone (f .outcome) ≡ false) where
-  not-headed : (plan : List ℕ) → headed f plan ≡ plan
-  unfolding headed
-  not-headed plan = rw no refl
-
-  not-signed : (signer : ℕ) (plan : List ℕ) → signedOff signer f plan ≡ plan
-  unfolding signedOff
-  not-signed signer plan = rw no refl
-
-origin-length : (origin plan : List ℕ) → length (byOriginFile origin plan) ≡ length plan
-unfolding byOriginFile
-origin-length origin plan = length-map plan (λ n. getD (originOf origin .actions) n 0)
-
--- head, steps and sign-off together
-file-written : (t : Task) (origin plan head buffer all : List ℕ) (count signer : ℕ) (f : Found) → isDone (f .outcome) ≡ true → f .steps .0 ≡ count → length (foundPlan t) ≡ count → 16 + 2 * count ≤ length plan
-    → head ≡ headed f plan → buffer ≡ placed head 4 (numberBytes (byOriginFile origin (foundPlan t))) → all ≡ signedOff signer f buffer
-    → all ≡ overwrite plan (planFile (byOriginFile origin (foundPlan t)) signer)
-unfolding planFile headed signedOff
-file-written t origin plan head buffer all count signer f there n l r h p a =
-    let ns = byOriginFile origin (foundPlan t) in
-    let size = origin-length origin (foundPlan t) in
-    let begun : head ≡ placed plan 0 (u16Bytes (2 * count) ++ u16Bytes 8) = h ∙ rw (there, n) refl in
-    let ended : all ≡ placed buffer (4 + 2 * count) (recordBytes 5 (u32Bytes signer ++ u32Bytes (4 + 2 * count))) = a ∙ rw (there, n) refl in
-    placed-signed plan buffer all (4 + 2 * count) signer (recordBytes 8 (numberBytes ns))
-    (placed-record plan head buffer 0 8 (2 * count) (numberBytes ns) begun (omega (arith, number-bytes-length ns, size, l)) p)
-    (omega (arith, number-record-length 8 ns, size, l))
-    ended
-    ∙ placed-overwrite plan (planFile ns signer) (omega (arith, plan-file-length ns signer, size, l))
-
--- the file begun, by the entry of the start state
-module _ (searched : Searched) (e : Entry) (plan : List ℕ) where
-  pub begins-not : (searched .outcome .number ≡ 0 → ⊥) → (r : Found) → r ≡ notFound 0 (searched .outcome) → Begins searched e plan r plan
-  unfolding foundBy
-  begins-not d r q =
-      let n = is-refused (searched .outcome) d in
-      record { found = q ∙ sym (rw n refl); begun = sym (not-headed r (ap (λ (x : Found). isDone (x .outcome)) q ∙ n) plan) }
-
-  module _ (z : searched .outcome .number ≡ 0) where
-    by-plan : foundBy searched e (length plan) ≡ planBy (searched .states) e (length plan)
-    unfolding foundBy
-    by-plan = rw (is-done (searched .outcome) z) refl
-
-    refused-plan : (o : Outcome) → isDone o ≡ false → planBy (searched .states) e (length plan) ≡ notFound (searched .states) o → (r : Found) → r ≡ notFound (searched .states) o → Begins searched e plan r plan
-    refused-plan o n is r q =
-        record { found = q ∙ sym (by-plan ∙ is); begun = sym (not-headed r (ap (λ (x : Found). isDone (x .outcome)) q ∙ n) plan) }
-
-    pub begins-none : (b : Bool) → b ≡ isNone e → b ≡ true → (o : Outcome) → o ≡ refusal 24 0 → (r : Found) → r ≡ notFound (searched .states) o → Begins searched e plan r plan
-    begins-none b is far o q r w =
-        refused-plan (refusal 24 0) (is-refused (refusal 24 0) (refusal-number (refusal 24 0) 24 0 (omega arith) refl)) (plan-none (searched .states) e (length plan) (sym is ∙ far)) r (w ∙ ap (notFound (searched .states)) q)
-
-    module _ (b : Bool) (is : b ≡ isNone e) (near : b ≡ false) (needed : ℕ) (n : needed ≡ 16 + 2 * stepsOf e) where
-      pub begins-short : length plan < needed → (o : Outcome) → o ≡ refusal 21 needed → (r : Found) → r ≡ notFound (searched .states) o → Begins searched e plan r plan
-      begins-short h o q r w =
-          refused-plan (refusal 21 (16 + 2 * stepsOf e)) (is-refused _ (refusal-number _ 21 (16 + 2 * stepsOf e) (omega arith) refl))
-          (plan-room (searched .states) e (length plan) (sym is ∙ near) (omega arith)) r (w ∙ ap (notFound (searched .states)) (q ∙ ap (refusal 21) n))
-
-      pub begins-whole : needed ≤ length plan → (o : Outcome) → o ≡ done → (now : List ℕ) → now ≡ placed plan 0 (u16Bytes (2 * stepsOf e) ++ u16Bytes 8)
-          → Begins searched e plan (record { outcome = o; states = searched .states; plan = needed; cost = e .minutes; steps = e .steps }) now
-      unfolding headed
-      begins-whole h o q now w =
-          let answer : record { outcome = o; states = searched .states; plan = needed; cost = e .minutes; steps = e .steps } ≡ whole (searched .states) e (length plan) =
-          λ i. record { outcome = q i; states = searched .states; plan = n i; cost = e .minutes; steps = e .steps } in
-          record {
-            found = answer ∙ sym (by-plan ∙ plan-whole (searched .states) e (length plan) (sym is ∙ near) (omega arith));
-            begun = w ∙ sym (rw (ap isDone q ∙ is-done done refl) refl);
-          }
-
--- and ended
-module _ (signer : ℕ) (begun : Found) (plan : List ℕ) where
-  pub finishes-done : begun .outcome .number ≡ 0 → (now : List ℕ) → now ≡ placed plan (4 + 2 * begun .steps .0) (recordBytes 5 (u32Bytes signer ++ u32Bytes (4 + 2 * begun .steps .0)))
-      → Finishes signer begun plan begun now
-  unfolding signedOff
-  finishes-done z now w = record { found = refl; ended = w ∙ sym (rw (is-done (begun .outcome) z) refl) }
-
-  pub finishes-not : (begun .outcome .number ≡ 0 → ⊥) → Finishes signer begun plan begun plan
-  finishes-not d = record { found = refl; ended = sym (not-signed begun (is-refused (begun .outcome) d) signer plan) }
+use Rattle.search.proofs.PlanFiles.{whole, plan-none, plan-room, plan-whole, not-headed, not-signed, file-written}
 
 module _ (first : Reduced) (reduced origin : List ℕ) (table : List Entry) (searched : Searched) (es sizes costs conditions effects : List ℕ) (long : length es ≡ 8192)
     (k : SearchedFiles first reduced origin (length table) searched (entriesIn es (searched .states)) sizes costs conditions effects) where
@@ -403,18 +303,3 @@ module _ (first : Reduced) (reduced origin : List ℕ) (table : List Entry) (sea
 
       pub searches-files : SearchesFiles first reduced origin signer (searchBuffers table plan) r (searchBuffers now plan₃)
       searches-files = record { refused = not-searched; searches = searches }
-
--- a file that was begun has room for its end
-pub can-finish : (searched : Searched) (e : Entry) (plan plan₁ plan₂ : List ℕ) (begun : Found) → Begins searched e plan begun plan₁ → length plan₂ ≡ length plan → CanFinish begun plan₂
-unfolding foundBy
-can-finish searched e plan plan₁ plan₂ begun b same z =
-    split (isDone (searched .outcome))
-    (λ y.
-    let is : begun ≡ planBy (searched .states) e (length plan) = b .found ∙ rw y refl in
-    split (isNone e)
-    (λ far. absurd (omega (arith, ap (λ (x : Found). x .outcome .number) (is ∙ plan-none (searched .states) e (length plan) far))))
-    (λ near.
-    split-le (16 + 2 * stepsOf e) (length plan)
-    (λ h. omega (arith, ap (λ (x : Found). x .steps .0) (is ∙ plan-whole (searched .states) e (length plan) near h)))
-    (λ h. absurd (omega (arith, ap (λ (x : Found). x .outcome .number) (is ∙ plan-room (searched .states) e (length plan) near h))))))
-    (λ n. let q : begun ≡ notFound 0 (searched .outcome) = b .found ∙ rw n refl in clash (is-done (searched .outcome) (ap (λ (x : Found). x .outcome .number) (sym q) ∙ z)) n)

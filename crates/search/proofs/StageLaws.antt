@@ -1,18 +1,18 @@
 -- The planner's stages, from those of reduction and of the search.
-use Prim.Native.Nat.{ℕ, _-_, _^_, _≤_, _<_}
+use Prim.Native.Nat.{ℕ, _^_, _≤_, _<_}
 use mathlib.Core.Path.{_≡_, refl, sym, ap, ap₂, subst, _∙_}
 use mathlib.Core.Bool.{true, false}
 use mathlib.Core.List.{List, [], _∷_, map}
 use mathlib.Core.Option.{Option, none, some, Option·map}
 use native.Mathlib.Omega.{arith}
 use lib.Dec.{leb}
-use lib.ListN.{length, getD, take, drop, length-append, length-map, replicate, length-replicate}
+use lib.ListN.{length, getD, take, drop, length-append, length-map}
 use lib.Seq.{take-append-seam}
-use borrow.Author.Tests.{leb-true, le-leb}
+use borrow.Author.Tests.{le-leb}
 use Rattle.files.specs.Accepted.{validSigner, acceptedTask}
 use Rattle.files.specs.Bytes.{Octets}
 use Rattle.files.specs.OriginFile.{Origin, originOf}
-use Rattle.files.specs.Outcome.{done, isDone, fits, overwrite}
+use Rattle.files.specs.Outcome.{done, isDone, overwrite}
 use Rattle.files.specs.PlanFile.{planFile}
 use Rattle.files.specs.Stages.{Stage, outcomeOf, leftBy, answerBy}
 use Rattle.files.specs.Task.{Task, actionCount}
@@ -33,15 +33,11 @@ use Rattle.reduction.specs.Reduce.{Buffers, withFiles, reducedFile, originsFile
 use Rattle.reduction.specs.Preserved.{FilesPreserve, byOriginFile}
 use Rattle.reduction.proofs.FilesPreserved.{reduction-of-files}
 use Rattle.reduction.proofs.Preservation.{reduction-preserves, reduction-accepted}
-use Rattle.search.specs.declared.Entry.{Entry}
 use Rattle.search.specs.declared.Planned.{Planned}
 use Rattle.search.specs.declared.stages.Found.{Found}
-use Rattle.search.specs.States.{stateCount}
-use Rattle.search.specs.Table.{entry}
 use Rattle.search.specs.FirstPlan.{firstPlan, foundPlan}
 use Rattle.search.specs.Least.{PlanFirst}
-use Rattle.search.specs.Entries.{entriesIn}
-use Rattle.search.specs.Planner.{planLevel, searched, searchedStates, planFound, planMade, statesFit, planFits, SearchBuffers, searchBuffers, searchStages, lent, unplanned, planWhole, planStages, Plans}
+use Rattle.search.specs.Planner.{planLevel, searched, searchedStates, planFound, planMade, statesFit, planFits, SearchBuffers, searchStages, lent, unplanned, planWhole, planStages, Plans}
 use Rattle.search.specs.Found.{foundStates, foundWhole, notFound, Searches, FilesWritten, CanSearchFiles, SearchesFiles, bothTogether}
 use Rattle.search.proofs.FoundLaws.{plan-is}
 use Rattle.search.proofs.LeastPlans.{search-least}

@@ -1,7 +1,7 @@
 -- The steps of a plan written one by one: what holds between them, that a step keeps it, and that it ends in the plan.
-use Prim.Native.Nat.{ℕ, zero, suc, _+_, _*_, _-_, _≤_, _<_}
+use Prim.Native.Nat.{ℕ, suc, _+_, _*_, _-_, _≤_, _<_}
 use mathlib.Core.Path.{_≡_, refl, sym, ap, ap₂, _∙_}
-use mathlib.Core.Bool.{Bool, true, false}
+use mathlib.Core.Bool.{false}
 use mathlib.Core.List.{List, [], _∷_, _++_}
 use mathlib.Core.Option.{none, some}
 use native.Mathlib.Omega.{arith}
@@ -9,7 +9,7 @@ use lib.ListN.{length, getD, take}
 use Rattle.files.specs.Bytes.{placed, u16Bytes}
 use Rattle.files.specs.OriginFile.{originOf}
 use Rattle.files.specs.Records.{numberBytes}
-use Rattle.files.specs.Task.{Action, Task, actionCount, actionOf}
+use Rattle.files.specs.Task.{Task}
 use Rattle.files.proofs.Countdown.{one-more}
 use Rattle.files.proofs.Logic.{split}
 use Rattle.files.proofs.Placed.{placed-length}
@@ -21,11 +21,11 @@ use Rattle.plans.specs.Tally.{listState}
 use Rattle.reduction.specs.Preserved.{byOriginFile}
 use Rattle.search.specs.States.{stateCount, stateAt}
 use Rattle.search.specs.Table.{distances, nextState}
-use Rattle.search.specs.FirstPlan.{stepsFrom, startNumber, foundPlan}
+use Rattle.search.specs.FirstPlan.{stepsFrom, foundPlan}
 use Rattle.search.specs.declared.Entry.{Entry}
 use Rattle.search.specs.declared.first_plan.Step.{Step}
 use Rattle.search.specs.declared.stages.Searched.{Searched}
-use Rattle.search.specs.Entries.{isNone, entryTotal, Low}
+use Rattle.search.specs.Entries.{entryTotal}
 use Rattle.search.specs.Rows.{rowVariables, rowStates, Sized}
 use Rattle.search.specs.ReadOff.{stateAfter, CanLead, Leads, FirstLed, CanPut, StepPut, CanStep, StepsToWrite, PlanIn, StepsWritten}
 use Rattle.search.proofs.Radix.{start-below}

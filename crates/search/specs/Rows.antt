@@ -1,22 +1,21 @@
 -- Tasks as rows of arrays: the numbers of states, the steps to a settled state, and what each part of the search asks and gives.
 use Prim.Native.Nat.{ℕ, zero, suc, _+_, _*_, _≤_, _<_}
 use mathlib.Core.Path.{_≡_}
-use mathlib.Core.Bool.{Bool, true, false, not, cond, _&&_}
+use mathlib.Core.Bool.{Bool, true, not, cond, _&&_}
 use mathlib.Core.List.{List, []}
-use mathlib.Core.Option.{none}
 use lib.Dec.{eqb, leb, ltb}
 use lib.ListN.{length, getD}
 use Rattle.files.specs.Below.{tabulate, allBelow}
 use Rattle.files.specs.Accepted.{acceptedTask}
 use Rattle.files.specs.Dense.{Arrays, rowVariable, rowPairs, rowAction, held}
 use Rattle.files.specs.OriginFile.{originOf, originActionsPlace}
-use Rattle.files.specs.Task.{Variable, Action, Task, actionOf}
+use Rattle.files.specs.Task.{Variable, Action, Task}
 use Rattle.plans.specs.State.{State, applicable, apply}
 use Rattle.plans.specs.Tally.{listState, meetsCell}
 use Rattle.search.specs.States.{stateCount, stateNumber, stateAt}
-use Rattle.search.specs.Table.{entryOf, distances, tableOf}
-use Rattle.search.specs.FirstPlan.{firstAction, startNumber}
-use Rattle.search.specs.Entries.{isNone, lowered, afterStep, Low, Holds, entryIn, entriesIn}
+use Rattle.search.specs.Table.{tableOf}
+use Rattle.search.specs.FirstPlan.{startNumber}
+use Rattle.search.specs.Entries.{lowered, afterStep, Low, Holds, entryIn, entriesIn}
 use Rattle.search.specs.Settling.{Unchanged}
 use Rattle.search.specs.declared.Entry.{Entry}
 

@@ -4,7 +4,7 @@ ghost use mathlib.Core.Path.{_≡_};
 ghost use mathlib.Core.Bool.{true};
 ghost use Rattle.files.specs.Accepted.{acceptedTask};
 ghost use Rattle.files.specs.Dense.{held, arrays};
-ghost use Rattle.search.specs.Entries.{Holds, entriesIn};
+ghost use Rattle.search.specs.Entries.{entriesIn};
 ghost use Rattle.search.specs.Planner.{unplanned};
 ghost use Rattle.search.specs.Found.{unsearched, notFound, bothTogether, CanSearchFiles, CanSearchIn, SearchedIn, SearchedFiles, Begins, CanFinish, Finishes};
 use crate::Entry;

@@ -1,5 +1,5 @@
 -- The answers in the order of the refusals; where there is a plan and room for it, its head is written.
-use Rattle.search.proofs.SearchLaws.{begins-not, begins-none, begins-short, begins-whole}
+use Rattle.search.proofs.PlanFiles.{begins-not, begins-none, begins-short, begins-whole}
 use borrow.Author.Needs.{needs}
 use Rattle.search.proofs.stages.begin.Statement.{statement}
 use Rattle.search.proofs.stages.begin.Tie as tie

@@ -1,6 +1,6 @@
 -- The sign-off stands behind the steps.
 use native.Mathlib.Omega.{arith}
-use Rattle.search.proofs.SearchLaws.{finishes-done, finishes-not}
+use Rattle.search.proofs.PlanFiles.{finishes-done, finishes-not}
 use borrow.Author.Needs.{needs}
 use Rattle.search.proofs.stages.finish.Statement.{statement}
 use Rattle.search.proofs.stages.finish.Tie as tie

@@ -1,6 +1,6 @@
 -- Nothing is searched beside a refusal; else the arrays hold the task of the file.
 use Prim.Native.Nat.{ℕ, _+_, _-_}
-use mathlib.Core.Path.{_≡_, sym, ap, subst, _∙_}
+use mathlib.Core.Path.{_≡_, ap, _∙_}
 use mathlib.Core.List.{List}
 use native.Mathlib.Omega.{arith}
 use denote.Ref.{now}
@@ -8,7 +8,6 @@ use lib.ListN.{take}
 use Rattle.files.specs.declared.Outcome.{Outcome}
 use Rattle.files.specs.Accepted.{acceptedTask}
 use Rattle.files.specs.Bytes.{Octets}
-use Rattle.files.specs.Dense.{held, arrays}
 use Rattle.files.specs.Outcome.{done}
 use Rattle.files.specs.OriginFile.{originActionsPlace}
 use Rattle.files.specs.TaskFile.{checkTask, taskOf}

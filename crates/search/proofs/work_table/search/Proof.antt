@@ -64,7 +64,8 @@ use Rattle.search.proofs.stages.Found as F₀
 use Rattle.search.proofs.stages.Found.Laws as F′
 use Rattle.search.proofs.EntrySlices.{R}
 use Rattle.search.proofs.Spelled.{N, steps-vals, S, D, F, found-is, entry-is, Sizes, Costs, Rows}
-use Rattle.search.proofs.SearchLaws.{can-fill, can-steps, can-finish, searches-files}
+use Rattle.search.proofs.PlanFiles.{can-finish}
+use Rattle.search.proofs.SearchLaws.{can-fill, can-steps, searches-files}
 use Rattle.search.proofs.Hand.{big-lit, ref, lend-array, array-home, lend-array-mut, array-mut-home, lend-mut, mut-home, lend-shr, shr-home, lend-on, get-back, share-on, unshare}
 use Rattle.search.proofs.stages.search_files as c
 use Rattle.search.proofs.stages.search_files.Symbol as c-def
