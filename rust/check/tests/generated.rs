@@ -310,10 +310,7 @@ fn table_by_rounds(task: &Task) -> Vec<Entry> {
         let state = state_numbered(task, number);
         assert_eq!(state_number(task, &state), number);
         if holds(&task.goal, &state) {
-            *entry = Entry {
-                minutes: 0,
-                steps: 0,
-            };
+            *entry = Entry::new(0, 0);
         }
         for action in &task.actions {
             if let Some(after) = step(action, &state) {
@@ -325,10 +322,7 @@ fn table_by_rounds(task: &Task) -> Vec<Entry> {
         let before = table.clone();
         for &(from, to, cost) in &steps {
             if table[to] != Entry::NONE {
-                let longer = Entry {
-                    minutes: table[to].minutes + u64::from(cost),
-                    steps: table[to].steps + 1,
-                };
+                let longer = Entry::new(table[to].minutes + u64::from(cost), table[to].steps + 1);
                 table[from] = table[from].min(longer);
             }
         }

@@ -69,10 +69,7 @@ impl Deref for Prefilled {
 }
 
 const UNTOUCHED: u8 = 0xAA;
-const UNTOUCHED_ENTRY: Entry = Entry {
-    minutes: 0xAAAA,
-    steps: 0xAA,
-};
+const UNTOUCHED_ENTRY: Entry = Entry::new(0xAAAA, 0xAA);
 
 impl Prefilled {
     fn of(lengths: [usize; 6]) -> Prefilled {
@@ -290,7 +287,7 @@ fn task_e_is_planned() {
     assert_eq!(buffers.reduced[..80], REDUCED_E);
     assert_eq!(buffers.plan[..18], plan_file(&[1]));
     assert_eq!(buffers.plan[18], UNTOUCHED);
-    let entry = |minutes, steps| Entry { minutes, steps };
+    let entry = Entry::new;
     let table = [entry(0, 0), entry(0, 0), entry(2, 1), entry(2, 1)];
     assert_eq!(buffers.table[..4], table);
     assert_eq!(buffers.table[4], UNTOUCHED_ENTRY);
@@ -304,10 +301,7 @@ fn no_plan_without_actions_0_and_1() {
     let planned = buffers.plan(&task, 7);
     assert_eq!(planned, Answer::from(refused(24, 0)));
     // The table is filled: line alone is kept, with value 1 and the rest.
-    let goal = Entry {
-        minutes: 0,
-        steps: 0,
-    };
+    let goal = Entry::new(0, 0);
     assert_eq!(buffers.table[..2], [goal, Entry::NONE]);
     assert_eq!(buffers.table[2], UNTOUCHED_ENTRY);
 }

@@ -103,10 +103,12 @@ pub struct Entry {
 
 impl Entry {
     /// Of a state from which the goal cannot be reached.
-    pub const NONE: Entry = Entry {
-        minutes: u64::MAX,
-        steps: u16::MAX,
-    };
+    pub const NONE: Entry = Entry::new(u64::MAX, u16::MAX);
+
+    /// Of so many minutes and steps.
+    pub const fn new(minutes: u64, steps: u16) -> Entry {
+        Entry { minutes, steps }
+    }
 }
 
 // SAFETY, for all calls below: each pointer and length are those of a slice,

@@ -178,10 +178,7 @@ impl Buffers {
         let length = |place: usize| if place < count { lengths[place] } else { 0 };
         // No mark is such a byte, and no cost to the goal such a number.
         let byte = |place| 0x80 | (place % 127) as u8;
-        let entry = |place| Entry {
-            minutes: 1 << 60 | place as u64,
-            steps: 0xA000 | place as u16,
-        };
+        let entry = |place| Entry::new(1 << 60 | place as u64, 0xA000 | place as u16);
         Buffers {
             bytes: [0, 1, 2, 3, 5].map(|place| Lent::of(length(place), byte)),
             table: Lent::of(length(4), entry),

@@ -12,17 +12,14 @@ use shortest::{Entry, Outcome};
 
 pub const MOST_STATES: usize = 4_096;
 
-const GOAL: Entry = Entry {
-    minutes: 0,
-    steps: 0,
-};
+const GOAL: Entry = Entry::new(0, 0);
 
 /// One step more, in front; none in front of none.
 fn behind(entry: Entry, cost: u32) -> Option<Entry> {
-    Some(Entry {
-        minutes: entry.minutes.checked_add(u64::from(cost))?,
-        steps: entry.steps.checked_add(1)?,
-    })
+    Some(Entry::new(
+        entry.minutes.checked_add(u64::from(cost))?,
+        entry.steps.checked_add(1)?,
+    ))
 }
 
 #[allow(clippy::too_many_arguments)]
