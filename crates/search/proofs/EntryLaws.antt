@@ -17,7 +17,7 @@ use Rattle.search.specs.Table.{Distance, less, least, same, stepTo, entr
 use Rattle.search.specs.Entries.{noEntry, isNone, firstEntry, entryTotal, lessEntry, sameEntry, lowered, afterStep, Low, Holds, entryIn, Put}
 use Rattle.search.specs.Rows.{Offered}
 use Rattle.search.specs.declared.Entry.{Entry}
-use Rattle.search.proofs.DistanceLaws.{le-refl, le-trans, less-le, some-none, same-is, stepTo-none, stepTo-some, addStep-minutes}
+use Rattle.search.proofs.DistanceLaws.{le-refl, le-trans, less-le, some-none, same-is, stepTo-none, stepTo-some, addStep-steps, addStep-minutes}
 
 -- none
 pub is-none : (e far : Entry) → far ≡ noEntry → eqb (minutesOf e) (minutesOf far) ≡ isNone e
@@ -94,7 +94,7 @@ module _ (x y : Entry) where
   unfolding lessEntry less
   less-some = refl
 
-  pub same-some : sameEntry x y ≡ same (some (entryTotal x)) (some (entryTotal y))
+  same-some : sameEntry x y ≡ same (some (entryTotal x)) (some (entryTotal y))
   unfolding sameEntry lessEntry same less
   same-some = refl
 
@@ -133,9 +133,12 @@ pub distance-goal : distanceOf (firstEntry true) ≡ some noSteps
 unfolding entryOf noSteps isNone
 distance-goal = refl
 
-pub entry-of-some : (e : Entry) → entryOf (some (entryTotal e)) ≡ e
+entry-of-some : (e : Entry) → entryOf (some (entryTotal e)) ≡ e
 unfolding entryOf
 entry-of-some e = refl
+
+pub within-entry : (left : ℕ) (e : Entry) → Within left e → entryOf (distanceOf e) ≡ e
+within-entry left e h = ap entryOf (distance-some e (near-some e (within-near left e h))) ∙ entry-of-some e
 
 -- the distance that an entry is of
 pub total-is : (e : Entry) (d : Distance) (x : Total) → e ≡ entryOf d → d ≡ some x → entryTotal e ≡ x
@@ -157,11 +160,14 @@ less-distance : (x y : Entry) → Near x → lessEntry x y ≡ less (some (entry
 unfolding less
 less-distance x y h = split (isNone y) (λ e. rw e (less-far x y h e)) (λ e. rw e (less-some x y))
 
-pub lowered-distance : (x y : Entry) → Near x → distanceOf (lowered x y) ≡ least (distanceOf y) (some (entryTotal x))
+lowered-some : (x y : Entry) → Near x → distanceOf (lowered x y) ≡ least (distanceOf y) (some (entryTotal x))
 unfolding lowered least
-lowered-distance x y h =
+lowered-some x y h =
     rw (← less-distance x y h)
     (split (lessEntry x y) (λ e. rw e (distance-some x (near-some x h))) (λ e. rw e refl))
+
+pub lowered-distance : (x y : Entry) → Near x → distanceOf (lowered x y) ≡ least (distanceOf y) (distanceOf x)
+lowered-distance x y h = lowered-some x y h ∙ ap (least (distanceOf y)) (sym (distance-some x (near-some x h)))
 
 pub lowered-is : (x y : Entry) → (lowered x y ≡ y) ⊎ (lowered x y ≡ x)
 unfolding lowered
@@ -180,11 +186,11 @@ after-near : (a : Action) (e : Entry) → Near (afterStep a e) → Near e
 unfolding afterStep addStep
 after-near a e h = omega (arith, h)
 
-pub step-distance : (a : Action) (e : Entry) → some (entryTotal (afterStep a e)) ≡ stepTo a (some (entryTotal e))
+step-distance : (a : Action) (e : Entry) → some (entryTotal (afterStep a e)) ≡ stepTo a (some (entryTotal e))
 step-distance a e = ap some (after-total a e) ∙ sym (stepTo-some a (entryTotal e))
 
-pub after-distance : (a : Action) (e : Entry) → Near (afterStep a e) → some (entryTotal (afterStep a e)) ≡ stepTo a (distanceOf e)
-after-distance a e h = step-distance a e ∙ ap (stepTo a) (sym (distance-some e (near-some e (after-near a e h))))
+pub after-distance : (a : Action) (e : Entry) → Near (afterStep a e) → distanceOf (afterStep a e) ≡ stepTo a (distanceOf e)
+after-distance a e h = distance-some (afterStep a e) (near-some (afterStep a e) h) ∙ step-distance a e ∙ ap (stepTo a) (sym (distance-some e (near-some e (after-near a e h))))
 
 -- distances that differ are not the same
 pub not-same : (x y : Distance) → (x ≡ y → ⊥) → false ≡ same x y
@@ -193,6 +199,26 @@ not-same x y d = split-same (same x y) refl
     split-same : (b : Bool) → same x y ≡ b → false ≡ b
     split-same true e = absurd (d (same-is x y e))
     split-same false e = refl
+
+-- a step more in front of an entry: as for its distance, and never the same
+pub same-step : (a : Action) (x y : Entry) (d e : Distance) → x ≡ entryOf d → y ≡ entryOf e → isNone x ≡ false → isNone y ≡ false → sameEntry (afterStep a x) y ≡ same (stepTo a d) e
+same-step a x y d e p q far near =
+    same-some (afterStep a x) y
+    ∙ ap (λ (z : Distance). same z (some (entryTotal y))) (step-distance a x ∙ ap (stepTo a) (sym (some-distance x d p far)))
+    ∙ ap (same (stepTo a d)) (sym (some-distance y e q near))
+
+step-more : (a : Action) (e : Entry) → entryTotal (afterStep a e) .steps ≡ entryTotal e .steps + 1
+unfolding afterStep
+step-more a e = addStep-steps a (entryTotal e)
+
+pub step-other : (a : Action) (e : Entry) → sameEntry (afterStep a e) e ≡ false
+step-other a e =
+    same-some (afterStep a e) e
+    ∙ sym (not-same _ _
+    (λ z.
+    let same-total : some (entryTotal (afterStep a e)) ≡ some (entryTotal e) = z in
+    let totals : entryTotal (afterStep a e) ≡ entryTotal e = cc in
+    omega (arith, step-more a e, ap (λ (x : Total). x .steps) totals)))
 
 -- by way of none there is no entry
 pub far-not-same : (a : Action) (x y : Entry) (d e : Distance) → x ≡ entryOf d → isNone x ≡ true → e ≡ some (entryTotal y) → Near y

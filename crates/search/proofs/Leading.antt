@@ -25,9 +25,9 @@ use Rattle.search.specs.declared.stages.Searched.{Searched}
 use Rattle.search.specs.ReadOff.{Stepped, stateAfter, GoesTo, CanStepFrom, StepFrom, hasBy, CanCompare, HasBy, LooksOn, CanLead, Leads, FirstLed}
 use Rattle.search.proofs.Radix.{state-in}
 use Rattle.search.proofs.RowNumbers.{RowSizes, row-sizes, inside-row}
-use Rattle.search.proofs.DistanceLaws.{some-none, addStep-steps}
+use Rattle.search.proofs.DistanceLaws.{some-none}
 use Rattle.search.proofs.Distances.{through-applicable, through-not}
-use Rattle.search.proofs.EntryLaws.{low-near, same-some, some-distance, step-distance, not-same, far-not-same}
+use Rattle.search.proofs.EntryLaws.{low-near, some-distance, not-same, same-step, step-other, far-not-same}
 use Rattle.search.proofs.ReadOff.{tight, first-tight}
 
 -- the values of a state are in the domains
@@ -77,20 +77,6 @@ module _ (variables s a : ℕ) (sizes conditions effects values : List ℕ) (sta
   pub goes-nowhere : b ≡ false → s < rowStates variables sizes → GoesTo variables s a sizes conditions effects s
   goes-nowhere e below = record { below = below; is = λ t actions costs stepped h. after-no t actions costs stepped h e }
 
--- by way of an action, as the code finds it: an entry with a step more is never the same
-step-more : (a : Action) (e : Entry) → entryTotal (afterStep a e) .steps ≡ entryTotal e .steps + 1
-unfolding afterStep
-step-more a e = addStep-steps a (entryTotal e)
-
-step-other : (a : Action) (e : Entry) → sameEntry (afterStep a e) e ≡ false
-step-other a e =
-    same-some (afterStep a e) e
-    ∙ sym (not-same _ _
-    (λ z.
-    let same-total : some (entryTotal (afterStep a e)) ≡ some (entryTotal e) = z in
-    let totals : entryTotal (afterStep a e) ≡ entryTotal e = cc in
-    omega (arith, step-more a e, ap (λ (x : Total). x .steps) totals)))
-
 -- whether a state has its entry by way of an action, as the code finds it
 module _ (t : Task) (look : ℕ → Entry) (searched : Searched) (s : ℕ) (sizes costs conditions effects : List ℕ) (k : Leads t look searched s sizes costs conditions effects) where
   own-distance : getD (distances t) s none ≡ some (entryTotal (look s))
@@ -137,14 +123,9 @@ module _ (t : Task) (look : ℕ → Entry) (searched : Searched) (s : ℕ) (size
       has-near : isNone next ≡ false → hasBy (actionOf t a) next (look s) ≡ tight t (distances t) s a
       unfolding hasBy
       has-near near =
-          let way : through t (distances t) s a ≡ some (entryTotal (afterStep (actionOf t a) next)) =
-          through-applicable t (distances t) s a e
-          ∙ ap (stepTo (actionOf t a)) (some-distance next (getD (distances t) (nextState t a s) none) there near)
-          ∙ sym (step-distance (actionOf t a) next) in
           rw near
-          (same-some (afterStep (actionOf t a) next) (look s)
-          ∙ ap (λ (d : Distance). same d (some (entryTotal (look s)))) (sym way)
-          ∙ ap (same (through t (distances t) s a)) (sym own-distance))
+          (same-step (actionOf t a) next (look s) (getD (distances t) (nextState t a s) none) (getD (distances t) s none) there (k .entries-are s (k .below)) near (k .own-near)
+          ∙ ap (λ (d : Distance). same d (getD (distances t) s none)) (sym (through-applicable t (distances t) s a e)))
 
     has-is : hasBy (actionOf t a) next (look s) ≡ tight t (distances t) s a
     has-is =

@@ -13,11 +13,11 @@ use Rattle.files.proofs.Logic.{clash, split, split-le, and-split, and-join}
 use Rattle.plans.specs.State.{applicable}
 use Rattle.search.specs.States.{stateCount, stateAt}
 use Rattle.search.specs.Table.{nextState}
-use Rattle.search.specs.Entries.{entryTotal, lowered, afterStep}
+use Rattle.search.specs.Entries.{lowered, afterStep}
 use Rattle.search.specs.Rows.{leadsTo, offered}
 use Rattle.search.specs.declared.Entry.{Entry}
 use Rattle.search.proofs.DistanceLaws.{Le, le-refl, le-trans, least-left, least-right}
-use Rattle.search.proofs.EntryLaws.{Near, near-some, distanceOf, distance-some, lowered-distance, lowered-is, after-distance}
+use Rattle.search.proofs.EntryLaws.{Near, distanceOf, lowered-distance, lowered-is, after-distance}
 use Rattle.search.proofs.Settling.{Leads, Relaxed}
 
 -- the same offers by actions that are the same
@@ -32,7 +32,7 @@ offered-same variables f g x e s y (suc count) h =
 pub record Offers (variables : List Variable) (action : ℕ → Action) (x : ℕ) (e : Entry) (s : ℕ) (y z : Entry) (count : ℕ) : Type 0 where
   pub came : (z ≡ y) ⊎ ((a : ℕ) × (a < count) × (leadsTo variables (action a) s x ≡ true) × (z ≡ afterStep (action a) e))
   pub lower : Le (distanceOf z) (distanceOf y)
-  pub every : (a : ℕ) → a < count → leadsTo variables (action a) s x ≡ true → Le (distanceOf z) (some (entryTotal (afterStep (action a) e)))
+  pub every : (a : ℕ) → a < count → leadsTo variables (action a) s x ≡ true → Le (distanceOf z) (distanceOf (afterStep (action a) e))
 
 module _ (variables : List Variable) (action : ℕ → Action) (x : ℕ) (e : Entry) (s : ℕ) (y : Entry) where
   -- no step by the next action, or one that is offered
@@ -59,15 +59,15 @@ module _ (variables : List Variable) (action : ℕ → Action) (x : ℕ) (e : En
             (λ q. ⊎-elim (λ o. inl (q ∙ o)) (λ o. inr (o .0, omega (arith, o .1), o .2, q ∙ o .3)) (w .came))
             (λ q. inr (count, omega arith, n, q))
             (lowered-is new z);
-        lower = rw is (le-trans _ _ _ (least-left (distanceOf z) (some (entryTotal new))) (w .lower));
+        lower = rw is (le-trans _ _ _ (least-left (distanceOf z) (distanceOf new)) (w .lower));
         every =
             λ a h l.
             split-le count a
             (λ k.
             let here : a ≡ count = omega arith in
-            subst (λ (b : ℕ). Le (distanceOf (lowered new z)) (some (entryTotal (afterStep (action b) e)))) (sym here)
-            (rw is (least-right (distanceOf z) (some (entryTotal new)))))
-            (λ k. rw is (le-trans _ _ _ (least-left (distanceOf z) (some (entryTotal new))) (w .every a k l)));
+            subst (λ (b : ℕ). Le (distanceOf (lowered new z)) (distanceOf (afterStep (action b) e))) (sym here)
+            (rw is (least-right (distanceOf z) (distanceOf new))))
+            (λ k. rw is (le-trans _ _ _ (least-left (distanceOf z) (distanceOf new)) (w .every a k l)));
       }
 
   pub offers : (count : ℕ) → ((a : ℕ) → a < count → Near (afterStep (action a) e)) → Offers variables action x e s y (offered variables action x e s y count) count
@@ -106,7 +106,7 @@ module _ (t : Task) where
               q .0,
               q .1,
               leads-says (q .0) s x (q .2),
-              ap distanceOf (h s l ∙ q .3) ∙ distance-some (afterStep (actionOf t (q .0)) (f x)) (near-some (afterStep (actionOf t (q .0)) (f x)) (c (q .0) (q .1))) ∙ after-distance (actionOf t (q .0)) (f x) (c (q .0) (q .1)),
+              ap distanceOf (h s l ∙ q .3) ∙ after-distance (actionOf t (q .0)) (f x) (c (q .0) (q .1)),
             ))
             (w s .came);
         lower = λ s l. rw (h s l) (w s .lower);

@@ -29,7 +29,7 @@ use Rattle.search.specs.declared.stages.Searched.{Searched}
 use Rattle.search.specs.States.{stateCount, stateAt}
 use Rattle.search.specs.Table.{stepsOf, entryOf, distances, tableOf}
 use Rattle.search.specs.FirstPlan.{startNumber, firstPlan, foundPlan}
-use Rattle.search.specs.Entries.{isNone, entryTotal, entriesIn, tableEntry, CanFill}
+use Rattle.search.specs.Entries.{mostNumbers, isNone, entryTotal, entriesIn, tableEntry, CanFill}
 use Rattle.search.specs.Rows.{rowStates}
 use Rattle.search.specs.ReadOff.{CanStep, StepsToWrite, PlanIn, StepsWritten}
 use Rattle.search.specs.Planner.{statesFit, planFits, searchBuffers}
@@ -44,7 +44,7 @@ use Rattle.search.proofs.TableFilling.{filled-none}
 use Rattle.search.proofs.FoundLaws.{states-fit, search-early, search-late, search-done, no-plan, plan-short, plan-fits, read-plan, read-total, read-needed, read-length, plan-made, plan-is}
 use Rattle.search.proofs.PlanFiles.{whole, plan-none, plan-room, plan-whole, not-headed, not-signed, file-written}
 
-module _ (first : Reduced) (reduced origin : List ℕ) (table : List Entry) (searched : Searched) (es sizes costs conditions effects : List ℕ) (long : length es ≡ 8192)
+module _ (first : Reduced) (reduced origin : List ℕ) (table : List Entry) (searched : Searched) (es sizes costs conditions effects : List ℕ) (long : length es ≡ mostNumbers)
     (k : SearchedFiles first reduced origin (length table) searched (entriesIn es (searched .states)) sizes costs conditions effects) where
   abbrev t : Task
   t = taskOf (take (first .reduced) reduced)

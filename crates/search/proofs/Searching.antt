@@ -28,7 +28,7 @@ use Rattle.search.specs.declared.Entry.{Entry}
 use Rattle.search.proofs.DistanceLaws.{Le, le-none}
 use Rattle.search.proofs.Distances.{settled-is, distances-length}
 use Rattle.search.proofs.Settling.{Going, settle, settled, starts}
-use Rattle.search.proofs.EntryLaws.{none-is, Near, near-some, Within, within-low, within-near, within-fewer, within-goal, within-step, less-some, distanceOf, distance-none, distance-some, distance-goal, entry-of-some}
+use Rattle.search.proofs.EntryLaws.{none-is, Near, near-some, Within, within-low, within-near, within-fewer, within-goal, within-step, less-some, distanceOf, distance-none, distance-some, distance-goal, within-entry}
 use Rattle.search.proofs.Offering.{offered-same, offers, offered-relaxed}
 use Rattle.search.proofs.HeldStates.{held-variables, held-states, held-actions, held-valid}
 
@@ -72,7 +72,7 @@ small-entry : (left : ℕ) (e : Entry) → Small left e → entryOf (distanceOf 
 small-entry left e p =
     ⊎-elim
     (λ q. ap entryOf (distance-none e (none-is e q)) ∙ sym q)
-    (λ q. ap entryOf (distance-some e (near-some e (within-near left e q))) ∙ entry-of-some e)
+    (within-entry left e)
     p
 
 abbrev pub distanceIn : List ℕ → ℕ → Distance

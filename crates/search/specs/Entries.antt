@@ -58,6 +58,10 @@ pub record StepOn (e : Entry) (cost : ℕ) : Type 0 where
 abbrev pub Holds : List ℕ → ℕ → Type 0
 Holds entries count = 2 * count ≤ length entries
 
+-- so many numbers hold the entries of every table
+abbrev pub mostNumbers : ℕ
+mostNumbers = 8192
+
 -- the entry of a state, and the entries of the first `count` states
 unfoldable pub entryIn : List ℕ → ℕ → Entry
 entryIn entries s = entry (getD entries (2 * s) 0) (getD entries (2 * s + 1) 0 % 65536)

@@ -11,6 +11,9 @@ use crate::Entry;
 use plans::Minutes;
 use plans::Steps;
 
+// So many numbers hold the entries of every table.
+pub const MOST_NUMBERS: usize = 8192;
+
 // The entry of a state from which the goal cannot be reached.
 pub fn none() -> Entry
     ensures { λ r. ⌜ r ≡ noEntry ⌝ }

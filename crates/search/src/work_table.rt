@@ -116,7 +116,7 @@ pub fn search(
     requires { ⌜ CanSearchFiles first (now reduced) (now origin) ⌝ }
     ensures { λ r. ⌜ SearchesFiles first (now (reduced .entry)) (now (origin .entry)) signer (searchBuffers (now (table .entry)) (now (plan .entry))) r (searchBuffers (now (table .exit)) (now (plan .exit))) ⌝ }
 {
-    let mut entries = [0u64; 8192];
+    let mut entries = [0u64; entries::MOST_NUMBERS];
     let mut sizes = [0u8; 64];
     let mut costs = [0u32; 512];
     let mut conditions = [0u8; 32768];

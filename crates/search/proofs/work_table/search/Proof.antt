@@ -48,7 +48,7 @@ use Rattle.reduction.specs.declared.Reduced.{Reduced}
 use Rattle.search.specs.declared.Entry.{Entry}
 use Rattle.search.specs.declared.stages.Found.{Found}
 use Rattle.search.specs.declared.stages.Searched.{Searched}
-use Rattle.search.specs.Entries.{entriesIn, tableEntry, CanFill}
+use Rattle.search.specs.Entries.{mostNumbers, entriesIn, tableEntry, CanFill}
 use Rattle.search.specs.ReadOff.{StepsToWrite, StepsWritten}
 use Rattle.search.specs.Planner.{searchBuffers}
 use Rattle.search.specs.Found.{CanSearchFiles, SearchesFiles, SearchedFiles, Begins, CanFinish, Finishes}
@@ -145,9 +145,9 @@ module _ (w : Width) (n : ℕ) where
   array-val xs = only (array-vals (uint-vals w) xs)
 
 abbrev A64 : RattleType
-A64 = Array u64 8192
+A64 = Array u64 mostNumbers
 
-room64 : Room u64 8192
+room64 : Room u64 mostNumbers
 room64 = (lit< tt, lit< tt)
 
 -- one of each for four of the arrays, and for all five
@@ -226,21 +226,21 @@ module _ {M : Type 1} (𝓤 : URA M) (H : Heap 𝓤) (A : Atoms 𝓤) (W : Given
   lfts-files νs = (κ₀, (κ₁, (νs .0 ∷ [], (νs .1 ∷ [], (νs .2 ∷ [], (νs .3 ∷ [], (νs .4 ∷ [], tt)))))))
 
   abbrev files-args : Five GName → Five ℕ → Reduced × (RefT (List ℕ) × (RefT (List ℕ) × (ℕ × (RefT (List ℕ) × (RefT (List ℕ) × (RefT (List ℕ) × (RefT (List ℕ) × (RefT (List ℕ) × Unit {0}))))))))
-  files-args δs ls = (first, (ref br or γr xr, (ref bo oo γo xo, (length ys, (ref (ls .0) 0 (δs .0) (zeros w64 8192), (ref (ls .1) 0 (δs .1) (zeros w8 64), (ref (ls .2) 0 (δs .2) (zeros w32 512), (ref (ls .3) 0 (δs .3) (zeros w8 32768), (ref (ls .4) 0 (δs .4) (zeros w8 32768), tt)))))))))
+  files-args δs ls = (first, (ref br or γr xr, (ref bo oo γo xo, (length ys, (ref (ls .0) 0 (δs .0) (zeros w64 mostNumbers), (ref (ls .1) 0 (δs .1) (zeros w8 64), (ref (ls .2) 0 (δs .2) (zeros w32 512), (ref (ls .3) 0 (δs .3) (zeros w8 32768), (ref (ls .4) 0 (δs .4) (zeros w8 32768), tt)))))))))
 
   abbrev to-files : Five ℕ → Five GName → Five ℕ → Files 𝓤 H A at-mem run .Ghost
-  to-files νs δs ls = ((lfts-files νs, (q₀, (q₁, (fullShare, (fullShare, (fullShare, (fullShare, (fullShare, tt))))))), tt, files-args δs ls, (dv ∷ [], (rv ∷ [], (ov ∷ [], (vint w64 (length ys) ∷ [], (sliceVal (ls .0, 0) 8192 ∷ [], (vptr (ls .1) 0 ∷ [], (vptr (ls .2) 0 ∷ [], (vptr (ls .3) 0 ∷ [], (vptr (ls .4) 0 ∷ [], tt)))))))))), tt)
+  to-files νs δs ls = ((lfts-files νs, (q₀, (q₁, (fullShare, (fullShare, (fullShare, (fullShare, (fullShare, tt))))))), tt, files-args δs ls, (dv ∷ [], (rv ∷ [], (ov ∷ [], (vint w64 (length ys) ∷ [], (sliceVal (ls .0, 0) mostNumbers ∷ [], (vptr (ls .1) 0 ∷ [], (vptr (ls .2) 0 ∷ [], (vptr (ls .3) 0 ∷ [], (vptr (ls .4) 0 ∷ [], tt)))))))))), tt)
 
   abbrev Tokens : Five ℕ → Item 𝓤
   Tokens νs = ‵ (flft κ₀ q₀) ⊛ ‵ (flft κ₁ q₁) ⊛ ‵ (flft (νs .0 ∷ []) fullShare) ⊛ ‵ (flft (νs .1 ∷ []) fullShare) ⊛ ‵ (flft (νs .2 ∷ []) fullShare) ⊛ ‵ (flft (νs .3 ∷ []) fullShare) ⊛ ‵ (flft (νs .4 ∷ []) fullShare) ⊛ ‵ ftrue
 
   abbrev Filing : Five ℕ → Five GName → Five ℕ → List (Item 𝓤)
   Filing νs δs ls = ‵ (flft κ₀ q₀) ∷ ‵ (flft κ₁ q₁) ∷ ‵ (flft (νs .0 ∷ []) fullShare) ∷ ‵ (flft (νs .1 ∷ []) fullShare) ∷ ‵ (flft (νs .2 ∷ []) fullShare) ∷ ‵ (flft (νs .3 ∷ []) fullShare) ∷ ‵ (flft (νs .4 ∷ []) fullShare)
-      ∷ ‵ (ShrSlice (named 0) κ₀ u8 .own (ref br or γr xr) (rv ∷ [])) ∷ ‵ (ShrSlice (named 1) κ₁ u8 .own (ref bo oo γo xo) (ov ∷ [])) ∷ ‵ (MutSlice (named 2) (νs .0 ∷ []) u64 .own (ref (ls .0) 0 (δs .0) (zeros w64 8192)) (sliceVal (ls .0, 0) 8192 ∷ []))
+      ∷ ‵ (ShrSlice (named 0) κ₀ u8 .own (ref br or γr xr) (rv ∷ [])) ∷ ‵ (ShrSlice (named 1) κ₁ u8 .own (ref bo oo γo xo) (ov ∷ [])) ∷ ‵ (MutSlice (named 2) (νs .0 ∷ []) u64 .own (ref (ls .0) 0 (δs .0) (zeros w64 mostNumbers)) (sliceVal (ls .0, 0) mostNumbers ∷ []))
       ∷ ‵ (MutRef (named 3) (νs .1 ∷ []) Sizes .own (ref (ls .1) 0 (δs .1) (zeros w8 64)) (vptr (ls .1) 0 ∷ [])) ∷ ‵ (MutRef (named 4) (νs .2 ∷ []) Costs .own (ref (ls .2) 0 (δs .2) (zeros w32 512)) (vptr (ls .2) 0 ∷ []))
       ∷ ‵ (MutRef (named 5) (νs .3 ∷ []) Rows .own (ref (ls .3) 0 (δs .3) (zeros w8 32768)) (vptr (ls .3) 0 ∷ [])) ∷ ‵ (MutRef (named 6) (νs .4 ∷ []) Rows .own (ref (ls .4) 0 (δs .4) (zeros w8 32768)) (vptr (ls .4) 0 ∷ [])) ∷ []
 
-  goes-files : (νs : Five ℕ) (δs : Five GName) (ls : Five ℕ) → length (zeros w64 8192) ≡ 8192 → ent 𝓤 (⋆ 𝓤 H A (Filing νs δs ls)) (Files 𝓤 H A at-mem run .pre (to-files νs δs ls))
+  goes-files : (νs : Five ℕ) (δs : Five GName) (ls : Five ℕ) → length (zeros w64 mostNumbers) ≡ mostNumbers → ent 𝓤 (⋆ 𝓤 H A (Filing νs δs ls)) (Files 𝓤 H A at-mem run .pre (to-files νs δs ls))
   goes-files νs δs ls e =
       qed W (Filing νs δs ls) ∵ says ! (record { source = can; room = le-of-eq (sym e) }) $ nothing ! $ move ! (7 ∷ 0 ∷ []) $ join ! $ move ! (6 ∷ 0 ∷ []) $ join ! $ move ! (5 ∷ 0 ∷ []) $ join ! $ move ! (4 ∷ 0 ∷ []) $ join ! $ move ! (3 ∷ 0 ∷ []) $ join ! $ move ! (2 ∷ 0 ∷ []) $ join ! $ move ! (1 ∷ 0 ∷ []) $ join ! $ frame ! $
       nothing ! $ move ! (7 ∷ 0 ∷ []) $ fjoin ! $ move ! (6 ∷ 0 ∷ []) $ fjoin ! $ move ! (5 ∷ 0 ∷ []) $ fjoin ! $ move ! (4 ∷ 0 ∷ []) $ fjoin ! $ move ! (3 ∷ 0 ∷ []) $ fjoin ! $ owned ! usize (Is usize) (uint-makes 𝓤 H A W w64) (length ys) _ (refl, gt .0) $ fjoin ! $ move ! (2 ∷ 0 ∷ []) $ fjoin ! $ move ! (1 ∷ 0 ∷ []) $ fjoin ! $ owned ! D (Is D) (LL.makes D₀.the-type D′.the-plain 𝓤 H A) first (dv ∷ []) first-is $ fjoin ! $ done !
@@ -260,10 +260,10 @@ module _ {M : Type 1} (𝓤 : URA M) (H : Heap 𝓤) (A : Atoms 𝓤) (W : Given
   fill-args searched zs δ ε l₇ = (ref bt ot δ ys, (ref l₇ 0 ε (entries-of zs), (searched .states, tt)))
 
   abbrev to-fill : Searched → Last → ℕ → ℕ → GName → GName → ℕ → Fill 𝓤 H A at-mem run .Ghost
-  to-fill searched zs ν μ δ ε l₇ = (((ν ∷ [], (μ ∷ [], tt)), (fullShare, (fullShare, tt)), tt, fill-args searched zs δ ε l₇, (tv ∷ [], (sliceVal (l₇, 0) 8192 ∷ [], (vint w64 (searched .states) ∷ [], tt)))), tt)
+  to-fill searched zs ν μ δ ε l₇ = (((ν ∷ [], (μ ∷ [], tt)), (fullShare, (fullShare, tt)), tt, fill-args searched zs δ ε l₇, (tv ∷ [], (sliceVal (l₇, 0) mostNumbers ∷ [], (vint w64 (searched .states) ∷ [], tt)))), tt)
 
   abbrev Filling : Last → ℕ → ℕ → GName → GName → ℕ → List (Item 𝓤)
-  Filling zs ν μ δ ε l₇ = ‵ (flft (ν ∷ []) fullShare) ∷ ‵ (flft (μ ∷ []) fullShare) ∷ ‵ (MutSlice (named 0) (ν ∷ []) R .own (ref bt ot δ ys) (tv ∷ [])) ∷ ‵ (ShrSlice (named 1) (μ ∷ []) u64 .own (ref l₇ 0 ε (entries-of zs)) (sliceVal (l₇, 0) 8192 ∷ [])) ∷ []
+  Filling zs ν μ δ ε l₇ = ‵ (flft (ν ∷ []) fullShare) ∷ ‵ (flft (μ ∷ []) fullShare) ∷ ‵ (MutSlice (named 0) (ν ∷ []) R .own (ref bt ot δ ys) (tv ∷ [])) ∷ ‵ (ShrSlice (named 1) (μ ∷ []) u64 .own (ref l₇ 0 ε (entries-of zs)) (sliceVal (l₇, 0) mostNumbers ∷ [])) ∷ []
 
   goes-fill : (searched : Searched) (zs : Last) (ν μ : ℕ) (δ ε : GName) (l₇ : ℕ) → CanFill ys (entries-of zs) (searched .states) → searched .states < 2 ^ 64 → ent 𝓤 (⋆ 𝓤 H A (Filling zs ν μ δ ε l₇)) (Fill 𝓤 H A at-mem run .pre (to-fill searched zs ν μ δ ε l₇))
   goes-fill searched zs ν μ δ ε l₇ fits small =
@@ -358,7 +358,7 @@ module _ {M : Type 1} (𝓤 : URA M) (H : Heap 𝓤) (A : Atoms 𝓤) (W : Given
       move ! (85 ∷ []) $ fsplit ! $ move ! (1 ∷ []) $ fsplit ! $ move ! (1 ∷ []) $ fsplit ! $ move ! (1 ∷ []) $ fsplit ! $ move ! (1 ∷ []) $ fsplit ! $ move ! (1 ∷ []) $ fsplit ! $ move ! (1 ∷ []) $ drop ! $ move ! (5 ∷ []) $ drop ! $ move ! (4 ∷ []) $ drop ! $ move ! (88 ∷ []) $ split ! $ move ! (1 ∷ []) $ split ! $ move ! (1 ∷ []) $ split ! $ move ! (1 ∷ []) $ split ! $ move ! (1 ∷ []) $ drop ! $
       move ! (6 ∷ []) $ use1 W (‵ (ShrSlice (named 1) κ₁ u8 .own (ref bo oo γo xo) (ov ∷ [])) ⊛ ‵ (ShrSlice (named 1) κ₁ u8 .own (ref bo oo γo xo) (ov ∷ []))) (shr-slice-copy 𝓤 H A W (named 1) κ₁ u8 .twice (ref bo oo γo xo) (ov ∷ [])) $ split ! $
       -- the arrays
-      owned ! u64 (Is u64) (uint-makes 𝓤 H A W w64) 0 (vint w64 0 ∷ []) (refl, lit< tt) $ use1 W (‵ (A64 .own (zeros w64 8192) (zeros-val w64 8192 ∷ []))) (array-repeat 𝓤 H A W u64 (uint-copy 𝓤 H A W w64) 8192 0 (vint w64 0)) $ peeks ! A64 (Is A64) (shows 𝓤 H A A64) (zeros w64 8192) (zeros-val w64 8192 ∷ []) (λ is7. assigns ! (rep ! 8192 (lit ! tt)) (from ! (stop !)) (init ! 78 refl (array-typed u64 (uint-lawful 𝓤 H A W w64 .typed) 8192 (zeros w64 8192) (zeros-val w64 8192 ∷ []) is7 .0)) $
+      owned ! u64 (Is u64) (uint-makes 𝓤 H A W w64) 0 (vint w64 0 ∷ []) (refl, lit< tt) $ use1 W (‵ (A64 .own (zeros w64 mostNumbers) (zeros-val w64 mostNumbers ∷ []))) (array-repeat 𝓤 H A W u64 (uint-copy 𝓤 H A W w64) mostNumbers 0 (vint w64 0)) $ peeks ! A64 (Is A64) (shows 𝓤 H A A64) (zeros w64 mostNumbers) (zeros-val w64 mostNumbers ∷ []) (λ is7. assigns ! (rep ! mostNumbers (lit ! tt)) (from ! (stop !)) (init ! 78 refl (array-typed u64 (uint-lawful 𝓤 H A W w64 .typed) mostNumbers (zeros w64 mostNumbers) (zeros-val w64 mostNumbers ∷ []) is7 .0)) $
       owned ! u8 (Is u8) (uint-makes 𝓤 H A W w8) 0 (vint w8 0 ∷ []) (refl, lit< tt) $ use1 W (‵ (Sizes .own (zeros w8 64) (zeros-val w8 64 ∷ []))) (array-repeat 𝓤 H A W u8 (uint-copy 𝓤 H A W w8) 64 0 (vint w8 0)) $ peeks ! Sizes (Is Sizes) (shows 𝓤 H A Sizes) (zeros w8 64) (zeros-val w8 64 ∷ []) (λ is8. assigns ! (rep ! 64 (lit ! tt)) (from ! (stop !)) (init ! 77 refl (array-typed u8 (uint-lawful 𝓤 H A W w8 .typed) 64 (zeros w8 64) (zeros-val w8 64 ∷ []) is8 .0)) $
       owned ! u32 (Is u32) (uint-makes 𝓤 H A W w32) 0 (vint w32 0 ∷ []) (refl, lit< tt) $ use1 W (‵ (Costs .own (zeros w32 512) (zeros-val w32 512 ∷ []))) (array-repeat 𝓤 H A W u32 (uint-copy 𝓤 H A W w32) 512 0 (vint w32 0)) $ peeks ! Costs (Is Costs) (shows 𝓤 H A Costs) (zeros w32 512) (zeros-val w32 512 ∷ []) (λ is9. assigns ! (rep ! 512 (lit ! tt)) (from ! (stop !)) (init ! 76 refl (array-typed u32 (uint-lawful 𝓤 H A W w32 .typed) 512 (zeros w32 512) (zeros-val w32 512 ∷ []) is9 .0)) $
       owned ! u8 (Is u8) (uint-makes 𝓤 H A W w8) 0 (vint w8 0 ∷ []) (refl, lit< tt) $ use1 W (‵ (Rows .own (zeros w8 32768) (zeros-val w8 32768 ∷ []))) (array-repeat 𝓤 H A W u8 (uint-copy 𝓤 H A W w8) 32768 0 (vint w8 0)) $ peeks ! Rows (Is Rows) (shows 𝓤 H A Rows) (zeros w8 32768) (zeros-val w8 32768 ∷ []) (λ is10. assigns ! (rep ! 32768 (lit ! tt)) (from ! (stop !)) (init ! 75 refl (array-typed u8 (uint-lawful 𝓤 H A W w8 .typed) 32768 (zeros w8 32768) (zeros-val w8 32768 ∷ []) is10 .0)) $
@@ -367,7 +367,7 @@ module _ {M : Type 1} (𝓤 : URA M) (H : Heap 𝓤) (A : Atoms 𝓤) (W : Given
       assigns ! (addr ! (from ! (stop !))) (from ! (stop !)) (init ! 64 refl (tt, tt)) $ assigns ! (agg ! (and-then ! (load ! (from ! (stop !)) (look ! 64 refl)) (and-then ! (big-lit ! (record { fits = lit< tt })) (no-more !)))) (from ! (stop !)) (init ! 62 refl (tt, (tt, (record { fits = lit< tt }, tt)))) $
       assigns ! (addr ! (from ! (stop !))) (from ! (stop !)) (init ! 60 refl (tt, tt)) $ assigns ! (addr ! (from ! (stop !))) (from ! (stop !)) (init ! 58 refl (tt, tt)) $ assigns ! (addr ! (from ! (stop !))) (from ! (stop !)) (init ! 56 refl (tt, tt)) $ assigns ! (addr ! (from ! (stop !))) (from ! (stop !)) (init ! 54 refl (tt, tt)) $
       -- the search, on the arrays
-      move ! (82 ∷ 4 ∷ []) $ lend-array-mut ! tt u64 tt (named 2) 8192 (zeros w64 8192) (zeros-val w64 8192) l₇ room64 (λ ν₇ δ₇ full.
+      move ! (82 ∷ 4 ∷ []) $ lend-array-mut ! tt u64 tt (named 2) mostNumbers (zeros w64 mostNumbers) (zeros-val w64 mostNumbers) l₇ room64 (λ ν₇ δ₇ full.
       move ! (82 ∷ 6 ∷ []) $ lend-mut ! tt Sizes tt (named 3) (zeros w8 64) (zeros-val w8 64) l₈ (λ ν₈ δ₈.
       move ! (82 ∷ 8 ∷ []) $ lend-mut ! tt Costs tt (named 4) (zeros w32 512) (zeros-val w32 512) l₉ (λ ν₉ δ₉.
       move ! (82 ∷ 10 ∷ []) $ lend-mut ! tt Rows tt (named 5) (zeros w8 32768) (zeros-val w8 32768) l₁₀ (λ ν₁₀ δ₁₀.
@@ -381,7 +381,7 @@ module _ {M : Type 1} (𝓤 : URA M) (H : Heap 𝓤) (A : Atoms 𝓤) (W : Given
       land ! (from ! (stop !)) (init ! 74 refl (LL.lawful S₀.the-type S′.the-laws 𝓤 H A W .typed searched (w ∷ []) k .0)) $ rewrite ! 74 (λ (u : Val). ‵ (fat fullShare S′.mir l₁₂ 0 u)) (ap only (S′.lowers .val-is searched (w ∷ []) k)) refl $
       split ! $ move ! (1 ∷ []) $ split ! $ move ! (1 ∷ []) $ split ! $ move ! (1 ∷ []) $ split ! $ move ! (1 ∷ []) $ split ! $ move ! (1 ∷ []) $ split ! $ move ! (1 ∷ []) $ split ! $ move ! (1 ∷ []) $ drop ! $
       -- the arrays come back
-      move ! (4 ∷ 16 ∷ 11 ∷ []) $ array-mut-home ! tt u64 (uint-vals w64) (uint-tells w64) 8192 (entries-of zs) l₇ (λ u₇ held.
+      move ! (4 ∷ 16 ∷ 11 ∷ []) $ array-mut-home ! tt u64 (uint-vals w64) (uint-tells w64) mostNumbers (entries-of zs) l₇ (λ u₇ held.
       move ! (5 ∷ 15 ∷ 11 ∷ []) $ mut-home ! tt Sizes tt (array-val w8 64) (array-tells u8 (uint-vals w8) (uint-tells w8) 64) (sizes-of zs) l₈ (λ _.
       move ! (6 ∷ 14 ∷ 11 ∷ []) $ mut-home ! tt Costs tt (array-val w32 512) (array-tells u32 (uint-vals w32) (uint-tells w32) 512) (costs-of zs) l₉ (λ _.
       move ! (7 ∷ 13 ∷ 11 ∷ []) $ mut-home ! tt Rows tt (array-val w8 32768) (array-tells u8 (uint-vals w8) (uint-tells w8) 32768) (conditions-of zs) l₁₀ (λ _.
@@ -389,7 +389,7 @@ module _ {M : Type 1} (𝓤 : URA M) (H : Heap 𝓤) (A : Atoms 𝓤) (W : Given
       -- the table is filled
       assigns ! (addr ! (from ! (fld ! refl (hop ! (look-in ! 84 (sub ! 0 refl (whole !))) (stop !))))) (from ! (stop !)) (init ! 53 refl (tt, tt)) $ assigns ! (agg ! (and-then ! (load ! (from ! (stop !)) (look ! 53 refl)) (and-then ! (load ! (from ! (fld ! refl (stop !))) (look-in ! 84 (sub ! 1 refl (whole !)))) (no-more !)))) (from ! (stop !)) (init ! 51 refl (tt, (tt, (record { fits = gt .0 }, tt)))) $
       assigns ! (addr ! (from ! (stop !))) (from ! (stop !)) (init ! 49 refl (tt, tt)) $ assigns ! (agg ! (and-then ! (load ! (from ! (stop !)) (look ! 49 refl)) (and-then ! (big-lit ! (record { fits = lit< tt })) (no-more !)))) (from ! (stop !)) (init ! 47 refl (tt, (tt, (record { fits = lit< tt }, tt)))) $
-      move ! (16 ∷ 14 ∷ []) $ lend-on ! tt R (named 2) (named 0) ys (length ys) bt ot refl gt (λ ν δ. move ! (11 ∷ 12 ∷ []) $ lend-array ! tt u64 tt (named 1) 8192 (entries-of zs) u₇ l₇ room64 (λ μ ε _.
+      move ! (16 ∷ 14 ∷ []) $ lend-on ! tt R (named 2) (named 0) ys (length ys) bt ot refl gt (λ ν δ. move ! (11 ∷ 12 ∷ []) $ lend-array ! tt u64 tt (named 1) mostNumbers (entries-of zs) u₇ l₇ room64 (λ μ ε _.
       move ! (3 ∷ 0 ∷ 4 ∷ 1 ∷ []) $ cut (Filling zs ν μ δ ε l₇) (raw (Fill 𝓤 H A at-mem run .pre (to-fill searched zs ν μ δ ε l₇)) ∷ []) _ (goes-fill searched zs ν μ δ ε l₇ (can-fill first xr xo ys searched (entries-of zs) (sizes-of zs) (costs-of zs) (conditions-of zs) (effects-of zs) held filed) (states-fit searched (w ∷ []) k)) $
       calls-at ! fm (Fill 𝓤 H A at-mem run) k-fill (to-fill searched zs ν μ δ ε l₇) (and-then ! (load ! (from ! (stop !)) (look ! 50 refl)) (and-then ! (load ! (from ! (stop !)) (look ! 46 refl)) (and-then ! (load ! (from ! (fld ! refl (stop !))) (look-in ! 74 (sub ! 1 refl (whole !)))) (no-more !)))) (λ w₁.
       use1 W (later (some (λ (r₁ : Unit {0}). ((‵ (flft (ν ∷ []) fullShare) ⊛ ‵ (flft (μ ∷ []) fullShare) ⊛ ‵ ftrue) ⊛ ‵ (Nothing .own r₁ (w₁ ∷ []))) ⊛ raw (ensured 𝓤 H A g.ended (g.clauses 𝓤 H A at-mem run) (ν ∷ [], (μ ∷ [], tt)) (fill-args searched zs δ ε l₇) tt r₁)))) (id⊢ 𝓤 _) $ await ! tt $ pick ! (λ r₁. split ! $ move ! (1 ∷ []) $
@@ -397,7 +397,7 @@ module _ {M : Type 1} (𝓤 : URA M) (H : Heap 𝓤) (A : Atoms 𝓤) (W : Given
       fsplit ! $ fsplit ! $ move ! (1 ∷ []) $ feqL ! (λ len-table. move ! (1 ∷ []) $ fsplit ! $ drop ! $ fsplit ! $ drop ! $ drop ! $ rewrite ! 0 (λ (table : List Entry). ‵ (finally R δ table)) is refl $
       move ! (1 ∷ []) $ split ! $ move ! (1 ∷ []) $ feqL ! (λ u. land ! (from ! (stop !)) (init ! 55 refl (nothing-lawful 𝓤 H A W .typed tt (w₁ ∷ []) u .0)) $
       split ! $ move ! (1 ∷ []) $ split ! $ move ! (1 ∷ []) $ drop ! $
-      move ! (1 ∷ 4 ∷ 2 ∷ []) $ get-back ! tt R (named 2) ys (filled searched zs) (length ys) bt ot refl (subst (λ (table : List Entry). length table ≡ length ys) is len-table) gt $ move ! (2 ∷ 3 ∷ []) $ array-home ! tt u64 (uint-vals w64) (uint-tells w64) 8192 (entries-of zs) l₇ held $
+      move ! (1 ∷ 4 ∷ 2 ∷ []) $ get-back ! tt R (named 2) ys (filled searched zs) (length ys) bt ot refl (subst (λ (table : List Entry). length table ≡ length ys) is len-table) gt $ move ! (2 ∷ 3 ∷ []) $ array-home ! tt u64 (uint-vals w64) (uint-tells w64) mostNumbers (entries-of zs) l₇ held $
       -- the entry of the start state
       assigns ! (addr ! (from ! (fld ! refl (hop ! (look-in ! 81 (sub ! 0 refl (whole !))) (stop !))))) (from ! (stop !)) (init ! 44 refl (tt, tt)) $ assigns ! (agg ! (and-then ! (load ! (from ! (stop !)) (look ! 44 refl)) (and-then ! (load ! (from ! (fld ! refl (stop !))) (look-in ! 81 (sub ! 1 refl (whole !)))) (no-more !)))) (from ! (stop !)) (init ! 42 refl (tt, (tt, (record { fits = gp .0 }, tt)))) $
       assigns ! (addr ! (from ! (fld ! refl (hop ! (look-in ! 83 (sub ! 0 refl (whole !))) (stop !))))) (from ! (stop !)) (init ! 38 refl (tt, tt)) $ assigns ! (agg ! (and-then ! (load ! (from ! (stop !)) (look ! 38 refl)) (and-then ! (load ! (from ! (fld ! refl (stop !))) (look-in ! 83 (sub ! 1 refl (whole !)))) (no-more !)))) (from ! (stop !)) (init ! 36 refl (tt, (tt, (record { fits = gt .0 }, tt)))) $
