@@ -11,11 +11,10 @@ use borrow.Author.Tests.{ltb-true, ltb-false, lt-ltb, le-ltb, not-true}
 use Rattle.files.specs.Dense.{rowPairs, rowAction}
 use Rattle.files.specs.Task.{Variable, Action, Task, actionOf, actionCount}
 use Rattle.files.proofs.Logic.{clash, split, split-le, and-split, and-join}
-use Rattle.plans.specs.Plan.{Total}
 use Rattle.plans.specs.State.{State, allHold, applicable, apply}
 use Rattle.plans.specs.Tally.{listState}
 use Rattle.search.specs.States.{stateNumber, stateAt}
-use Rattle.search.specs.Table.{Distance, same, stepTo, nextState, through, distances, entryOf}
+use Rattle.search.specs.Table.{Distance, same, nextState, through, distances, entryOf}
 use Rattle.search.specs.FirstPlan.{firstAction}
 use Rattle.search.specs.declared.Entry.{Entry}
 use Rattle.search.specs.Entries.{isNone, entryTotal, sameEntry, afterStep}
