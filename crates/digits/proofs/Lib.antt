@@ -1,0 +1,1 @@
+-- Laws about the crate's definitions: digits by threes, and what digits state.

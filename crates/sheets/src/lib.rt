@@ -1,0 +1,56 @@
+// The sheet for the heading: an accepted plan as text.
+mod lines;
+
+ghost use mathlib.Core.Path.{_≡_};
+ghost use Rattle.sheets.specs.Sheet.{LaysSheet, noSheet};
+use files::outcomes;
+use plans::Minutes;
+use plans::Steps;
+
+// What the call answers: the bytes of the page, and the plan's cost and steps; 0 beside a refusal.
+pub struct Laid {
+    pub outcome: files::Outcome,
+    pub page: usize,
+    pub cost: Minutes,
+    pub steps: Steps,
+}
+
+// Lays out the plan of a plan file that the plan checker accepts for a task file: a line a step, and
+// the signer of the plan file below.
+pub fn sheet(task: &[u8], plan: &[u8], page: &mut [u8]) -> Laid
+    ensures { λ r. ⌜ LaysSheet (now (task .entry)) (now (plan .entry)) (now (page .entry)) r (now (page .exit)) ⌝ }
+{
+    let checked = plans::check_plan(task, plan);
+    let outcome = checked.outcome;
+    if outcome.number != 0 {
+        return refused(outcome);
+    }
+    let cost = checked.cost;
+    let steps = checked.steps;
+    let needed = lines::LINE * (steps.0 as usize + 1);
+    if page.len() < needed {
+        return refused(outcomes::refuse(outcomes::SHORT_BUFFER, needed));
+    }
+    let mut costs = [0u32; 512];
+    files::decode::read_costs(task, &mut costs);
+    lines::put_steps(page, plan, &costs);
+    lines::put_signed(page, needed - lines::LINE, files::records::signer(plan) as u64);
+    Laid {
+        outcome: outcome,
+        page: needed,
+        cost: cost,
+        steps: steps,
+    }
+}
+
+// A refusal has no page, no cost and no steps.
+fn refused(outcome: files::Outcome) -> Laid
+    ensures { λ r. ⌜ r ≡ noSheet outcome ⌝ }
+{
+    Laid {
+        outcome: outcome,
+        page: 0,
+        cost: Minutes(0),
+        steps: Steps(0),
+    }
+}

@@ -1,0 +1,59 @@
+// The lines of a sheet.
+ghost use mathlib.Core.Path.{_≡_};
+ghost use lib.ListN.{getD};
+ghost use Rattle.files.specs.Bytes.{placed};
+ghost use Rattle.files.specs.PlanFile.{planOf};
+ghost use Rattle.sheets.specs.Contracts.{LineFits, StepsFit, SignerFits};
+ghost use Rattle.sheets.specs.Sheet.{stepLine, stepLines, signedLine};
+use digits::columns;
+
+// How many bytes a line has.
+pub const LINE: usize = 33;
+
+const LINE_FEED: u8 = 10;
+
+// Writes the line of a step: its number, its action, its minutes and the running total.
+fn put_step(page: &mut [u8], at: usize, step: u64, action: u64, minutes: u64, total: u64)
+    requires { ⌜ LineFits (now page) at step action minutes total ⌝ }
+    ensures { λ r. ⌜ now (page .exit) ≡ placed (now (page .entry)) at (stepLine step action minutes total) ⌝ }
+{
+    columns::put_column(page, at, 4, step);
+    columns::put_blanks(page, at + 4, 2);
+    columns::put_column(page, at + 6, 5, action);
+    columns::put_column(page, at + 11, 9, minutes);
+    columns::put_column(page, at + 20, 12, total);
+    page[at + 32] = LINE_FEED;
+}
+
+// Writes a line for each step of a plan file, from the page's start on.
+pub fn put_steps(page: &mut [u8], plan: &[u8], costs: &[u32])
+    requires { ⌜ StepsFit (now page) (planOf (now plan)) (now costs) ⌝ }
+    ensures { λ r. ⌜ now (page .exit) ≡ placed (now (page .entry)) 0 (stepLines (λ a. getD (now (costs .entry)) a 0) 0 0 (planOf (now (plan .entry)))) ⌝ }
+{
+    let steps = files::plan::steps(plan);
+    let count = steps.0 as usize;
+    let mut total: u64 = 0;
+    let mut i: usize = 0;
+    while i < count {
+        let action = files::plan::step(plan, i);
+        let minutes = costs[action.0 as usize] as u64;
+        total += minutes;
+        put_step(page, LINE * i, (i + 1) as u64, action.0 as u64, minutes, total);
+        i += 1;
+    }
+}
+
+// Writes the last line: the signer.
+pub fn put_signed(page: &mut [u8], at: usize, signer: u64)
+    requires { ⌜ SignerFits (now page) at signer ⌝ }
+    ensures { λ r. ⌜ now (page .exit) ≡ placed (now (page .entry)) at (signedLine signer) ⌝ }
+{
+    page[at] = b'S';
+    page[at + 1] = b'I';
+    page[at + 2] = b'G';
+    page[at + 3] = b'N';
+    page[at + 4] = b'E';
+    page[at + 5] = b'D';
+    columns::put_column(page, at + 6, 26, signer);
+    page[at + 32] = LINE_FEED;
+}
