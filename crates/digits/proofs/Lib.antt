@@ -1,1 +1,2 @@
--- Laws about the crate's definitions: digits by threes, and what digits state.
+-- Laws about the crate's definitions: decimal digits, and digits by threes.
+pub mod DecimalLaws
