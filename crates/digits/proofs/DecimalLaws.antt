@@ -85,11 +85,11 @@ some-digits c n =
     (λ l. rw (digits-more c n l) (omega (arith, length-snoc (digits c (n / 10)) (48 + n % 10))))
 
 -- the byte of a digit
-abbrev IsDigit : ℕ → Type 0
+abbrev pub IsDigit : ℕ → Type 0
 IsDigit d = (48 ≤ d) × (d ≤ 57)
 
 -- every entry of a list is a digit
-abbrev AreDigits : List ℕ → Type 0
+abbrev pub AreDigits : List ℕ → Type 0
 AreDigits xs = (i : ℕ) → i < length xs → IsDigit (getD xs i 0)
 
 snoc-digits : (xs : List ℕ) (x : ℕ) → AreDigits xs → IsDigit x → AreDigits (xs ++ (x ∷ []))
@@ -100,13 +100,17 @@ snoc-digits xs x before now i h =
     let e : i ≡ length xs = omega (arith, h, length-snoc xs x) in
     subst IsDigit (sym (ap (λ (j : ℕ). getD (xs ++ (x ∷ [])) j 0) e ∙ getD-append-seam xs x [] 0)) now)
 
-pub digits-are : (c n : ℕ) → AreDigits (digits c n)
+digits-are : (c n : ℕ) → AreDigits (digits c n)
 unfolding digits
 digits-are zero n = λ i h. absurd (omega arith)
 digits-are (suc c) n =
     split-below n 10
     (λ l. subst AreDigits (sym (digits-last c n l)) (snoc-digits [] (48 + n) (λ i h. absurd (omega arith)) (omega arith, omega arith)))
     (λ l. subst AreDigits (sym (digits-more c n l)) (snoc-digits (digits c (n / 10)) (48 + n % 10) (digits-are c (n / 10)) (omega arith, omega arith)))
+
+pub decimal-are : (n : ℕ) → AreDigits (decimal n)
+unfolding decimal
+decimal-are n = digits-are 20 n
 
 -- the first digit is 0 in 0 alone
 digits-leading : (c n : ℕ) → 0 < n → n < 10 ^ suc c → 48 < getD (digits (suc c) n) 0 0
@@ -143,7 +147,7 @@ unfolding decimal numberOf
 decimal-reads n h =
     record {
       reads = digits-read 19 n (below-digits n h);
-      digits = digits-are 20 n;
+      digits = decimal-are n;
       some = some-digits 19 n;
       leading = λ p. digits-leading 19 n p (below-digits n h);
       few = decimal-few n;

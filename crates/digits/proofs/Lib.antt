@@ -1,2 +1,3 @@
 -- Laws about the crate's definitions: decimal digits, and digits by threes.
+pub mod Computes
 pub mod DecimalLaws
