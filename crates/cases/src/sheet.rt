@@ -38,12 +38,12 @@ fn print_answer(laid: sheets::Laid) {
 
 // How many bytes from `from` on are 9s, up to the first that is not.
 fn untouched(page: &[u8], from: usize) -> usize {
-    let mut count: usize = 0;
-    while count < page.len() {
-        if files::bytes::byte_at(page, from + count) != 9 {
-            return count;
+    let mut at = from;
+    while at < page.len() {
+        if files::bytes::byte_at(page, at) != 9 {
+            return at - from;
         }
-        count += 1;
+        at += 1;
     }
-    count
+    at - from
 }
