@@ -6,7 +6,8 @@ use Rattle.files.specs.TaskFile.{taskOf}
 use Rattle.marking.specs.Mark.{MarkBuffers, markFileStages, markWhole, noMarks}
 use Rattle.reduction.specs.Reduce.{Buffers, reduceFileStages, reduceWhole, noFiles}
 use Rattle.search.specs.Planner.{Lent, planStages, planWhole, unplanned}
-use Rattle.capi.specs.Numbers.{markedNumbers, reducedNumbers, plannedNumbers}
+use Rattle.sheets.specs.Sheet.{sheetStages, sheetWhole, noSheet}
+use Rattle.capi.specs.Numbers.{markedNumbers, reducedNumbers, plannedNumbers, laidNumbers}
 
 abbrev pub MarksNumbers : List ℕ → ℕ → MarkBuffers → List ℕ → MarkBuffers → Type 0
 MarksNumbers task level b out now =
@@ -19,3 +20,7 @@ ReducesNumbers task level signer b out now =
 abbrev pub PlansNumbers : List ℕ → ℕ → Lent → List ℕ → Lent → Type 0
 PlansNumbers task signer b out now =
     ByStages (planStages task signer b) (plannedNumbers (planWhole task signer)) (λ o. plannedNumbers (unplanned o)) b out now
+
+abbrev pub LaysNumbers : List ℕ → List ℕ → List ℕ → List ℕ → List ℕ → Type 0
+LaysNumbers task plan page out now =
+    ByStages (sheetStages task plan page) (laidNumbers (sheetWhole task plan)) (λ o. laidNumbers (noSheet o)) page out now

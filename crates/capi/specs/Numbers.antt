@@ -7,6 +7,7 @@ use Rattle.plans.specs.declared.Checked.{Checked}
 use Rattle.marking.specs.declared.Marked.{Marked}
 use Rattle.reduction.specs.declared.Reduced.{Reduced}
 use Rattle.search.specs.declared.Planned.{Planned}
+use Rattle.sheets.specs.declared.Laid.{Laid}
 use Rattle.capi.specs.declared.numbers.Numbers.{Numbers}
 
 -- a number put at its place
@@ -37,6 +38,9 @@ plannedNumbers p =
     (at 7 (p .«fact_marks»)
     (at 8 (p .reduced)
     (at 9 (p .origin) (at 10 (p .table) (at 11 (p .plan) (outcomeNumbers (p .outcome))))))))))
+
+unfoldable pub laidNumbers : Laid → List ℕ
+laidNumbers l = at 4 (l .cost .0) (at 5 (l .steps .0) (at 12 (l .page) (outcomeNumbers (l .outcome))))
 
 -- the numbers that the code has by name, each at its place
 unfoldable pub listed : Numbers → List ℕ

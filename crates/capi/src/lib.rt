@@ -10,7 +10,7 @@ ghost use Rattle.marking.specs.Mark.{markBuffers};
 ghost use Rattle.reduction.specs.Reduce.{buffers};
 ghost use Rattle.search.specs.Planner.{lentOf};
 ghost use Rattle.capi.specs.Numbers.{outcomeNumbers, checkedNumbers};
-ghost use Rattle.capi.specs.Calls.{MarksNumbers, ReducesNumbers, PlansNumbers};
+ghost use Rattle.capi.specs.Calls.{MarksNumbers, ReducesNumbers, PlansNumbers, LaysNumbers};
 
 // Whether a file is a task file.
 #[no_mangle]
@@ -87,4 +87,18 @@ pub extern "C" fn shortest_plan(
 {
     let answer = search::plan(task, signer, actions, facts, reduced, origin, table, plan);
     numbers::write_planned(answer, out);
+}
+
+// Lays out the plan of a plan file that is a plan of a task file's task as text: a line a step, and
+// the signer of the plan file below.
+#[no_mangle]
+pub extern "C" fn shortest_sheet(
+    task: &[u8],
+    plan: &[u8],
+    page: &mut [u8],
+    out: &mut [u64; 18],
+)
+    ensures { λ r. ⌜ LaysNumbers (now (task .entry)) (now (plan .entry)) (now (page .entry)) (now (out .exit)) (now (page .exit)) ⌝ }
+{
+    numbers::write_laid(sheets::sheet(task, plan, page), out);
 }

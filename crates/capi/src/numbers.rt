@@ -1,10 +1,10 @@
 // Each kind of answer as the eighteen numbers that a C caller gets.
 ghost use mathlib.Core.Path.{_≡_};
-ghost use Rattle.capi.specs.Numbers.{listed, outcomeNumbers, checkedNumbers, markedNumbers, reducedNumbers, plannedNumbers};
+ghost use Rattle.capi.specs.Numbers.{listed, outcomeNumbers, checkedNumbers, markedNumbers, reducedNumbers, plannedNumbers, laidNumbers};
 
 // The numbers of an answer by name, in the order of their places: the outcome's three, rounds, cost,
-// steps; the elements written: action marks, fact marks, reduced file, origin file, table, plan file.
-// The six behind, from place 12 on, are for calls to come.
+// steps; the elements written: action marks, fact marks, reduced file, origin file, table, plan file,
+// page. The five behind, from place 13 on, are for calls to come.
 struct Numbers {
     outcome: files::Outcome,
     rounds: usize,
@@ -134,5 +134,17 @@ pub fn write_planned(planned: search::Planned, out: &mut [u64; 18])
     numbers.origin = planned.origin;
     numbers.table = planned.table;
     numbers.plan = planned.plan;
+    write(numbers, out);
+}
+
+pub fn write_laid(laid: sheets::Laid, out: &mut [u64; 18])
+    ensures { λ r. ⌜ now (out .exit) ≡ laidNumbers laid ⌝ }
+{
+    let outcome = laid.outcome;
+    let mut numbers = NONE;
+    numbers.outcome = outcome;
+    numbers.cost = laid.cost.0;
+    numbers.steps = laid.steps.0;
+    numbers.page = laid.page;
     write(numbers, out);
 }

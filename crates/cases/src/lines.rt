@@ -1,4 +1,4 @@
-// Lines of the input, and numbers and texts of the output.
+// Lines of the input, numbers and texts of the output, and parts of buffers.
 ghost use Prim.Native.Nat.{_≤_, _<_};
 
 // Where the line that begins at `from` ends: at a line feed, or at `to`.
@@ -79,4 +79,12 @@ fn hex_digit(value: usize) -> u8 {
     } else {
         (55 + low) as u8
     }
+}
+
+// The first `count` elements of a buffer, or all where it has fewer.
+pub fn part(buffer: &mut [u8], count: usize) -> &mut [u8] {
+    if buffer.len() < count {
+        return buffer;
+    }
+    &mut buffer[..count]
 }

@@ -6,6 +6,7 @@ mod lines;
 mod planner;
 mod reduced;
 mod run;
+mod sheet;
 
 ghost use Prim.Native.Nat.{_≤_};
 ghost use lib.ListN.{length};

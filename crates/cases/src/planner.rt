@@ -10,20 +10,12 @@ pub fn plan_file(file: &[u8]) {
     let mut plan = [9u8; 1000];
     plan_into(
         file,
-        part(&mut actions, files::bytes::u16_at(file, 4)),
-        part(&mut facts, files::bytes::u16_at(file, 6)),
-        part(&mut reduced, files::bytes::u16_at(file, 8)),
-        part(&mut origin, files::bytes::u16_at(file, 10)),
-        part(&mut plan, files::bytes::u16_at(file, 12)),
+        lines::part(&mut actions, files::bytes::u16_at(file, 4)),
+        lines::part(&mut facts, files::bytes::u16_at(file, 6)),
+        lines::part(&mut reduced, files::bytes::u16_at(file, 8)),
+        lines::part(&mut origin, files::bytes::u16_at(file, 10)),
+        lines::part(&mut plan, files::bytes::u16_at(file, 12)),
     );
-}
-
-// The first `count` elements of a buffer, or all where it has fewer.
-fn part(buffer: &mut [u8], count: usize) -> &mut [u8] {
-    if buffer.len() < count {
-        return buffer;
-    }
-    &mut buffer[..count]
 }
 
 // Plans a task, and prints the answer and the five buffers.

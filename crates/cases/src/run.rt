@@ -3,6 +3,7 @@ use crate::hex;
 use crate::lines;
 use crate::planner;
 use crate::reduced;
+use crate::sheet;
 
 // t: a task file is checked. o: an origin file is checked. p: a plan file is checked against a
 // task of so many actions as the first byte says. a: a task file is read and written again.
@@ -17,6 +18,8 @@ use crate::reduced;
 // P: the planner; the first four bytes are the signer, then two bytes each for the lengths of the
 // buffers for action marks, fact marks, the reduced file, the origin file and the plan file, which
 // hold 9s.
+// S: the sheet; the first four bytes are the length of the page buffer, which holds 9s, and the next
+// four say how many of the others are the task file.
 pub fn run_line(text: &[u8], from: usize, to: usize, file: &mut [u8], written: &mut [u8; 70000]) {
     let letter = files::bytes::byte_at(text, from) as u8;
     if letter == b'#' {
@@ -63,6 +66,9 @@ fn run_call(letter: u8, file: &[u8], written: &mut [u8; 70000]) {
     }
     if letter == b'P' {
         planner::plan_file(file);
+    }
+    if letter == b'S' {
+        sheet::lay_file(file);
     }
 }
 

@@ -5,6 +5,7 @@ use Rattle.marking.proofs.Answers.{mark-answers}
 use Rattle.reduction.proofs.Answers.{reduce-answers}
 use Rattle.reduction.proofs.StretchRight.{stretch-answers}
 use Rattle.search.proofs.Answers.{plan-answers}
+use Rattle.sheets.proofs.Answers.{sheet-answers}
 use Rattle.demands.specs.Demands.{Demand1}
 
 pub demand-1 : Demand1
@@ -17,4 +18,5 @@ demand-1 =
       reduce = reduce-answers;
       conditions = stretch-answers;
       plan = plan-answers;
+      sheet = sheet-answers;
     }

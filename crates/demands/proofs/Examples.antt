@@ -8,9 +8,10 @@ use Rattle.plans.proofs.Computes as plans
 use Rattle.marking.proofs.Computes as marking
 use Rattle.reduction.proofs.Computes as reduction
 use Rattle.search.proofs.Computes as search
+use Rattle.digits.proofs.Computes as digits
 use Rattle.demands.proofs.Computes.{computes}
 use Rattle.demands.specs.Examples.{cases}
 
 pub examples : allOf asExpected cases ≡ true
-unfolding asExpected files.computes plans.computes marking.computes reduction.computes search.computes computes
+unfolding asExpected files.computes plans.computes marking.computes reduction.computes search.computes digits.computes computes
 examples = refl

@@ -25,6 +25,7 @@ use Rattle.search.specs.Answers.{PlanAnswers}
 use Rattle.search.specs.Least.{SearchIsLeast}
 use Rattle.search.specs.Planner.{Lent, planAnswer, planAfter}
 use Rattle.search.specs.PlannerRight.{PlannerPromise, AmpleSuffices, NeverShort}
+use Rattle.sheets.specs.Answers.{SheetAnswers}
 
 -- Demand 1: arbitrary files, numbers and buffers; an outcome of the list, and exact buffers.
 
@@ -36,6 +37,7 @@ pub record Demand1 : Type 0 where
   pub reduce : (task : List ℕ) (level signer : ℕ) (b : Buffers) → ReduceAnswers task level signer b
   pub conditions : (full reduced : List ℕ) (side action : ℕ) → Octets full → Octets reduced → StretchAnswers full reduced side action
   pub plan : (task : List ℕ) (signer : ℕ) (b : Lent) → PlanAnswers task signer b
+  pub sheet : (task plan page : List ℕ) → SheetAnswers task plan page
 
 -- Demand 2: the plan checker, the marks and the reduced file, and the files.
 

@@ -14,7 +14,8 @@ use Rattle.reduction.specs.Reduce.{buffers, reduceAfter}
 use Rattle.search.specs.Planner.{Lent, lentOf, planAnswer, planAfter}
 use Rattle.search.specs.Table.{entry}
 use Rattle.search.specs.declared.Planned.{Planned}
-use Rattle.demands.specs.Listing.{ascii, listing}
+use Rattle.digits.specs.Decimal.{ascii}
+use Rattle.demands.specs.Listing.{listing}
 
 -- a header record alone
 abbrev pub headerOf : ℕ → List ℕ

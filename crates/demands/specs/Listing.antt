@@ -1,11 +1,8 @@
 -- What `shortest` prints of a task file.
-use Prim.Native.Nat.{ℕ, zero, suc, _+_, _/_, _%_}
-use Prim.Native.Char.{code}
-use Prim.Native.String as text
+use Prim.Native.Nat.{ℕ}
 use Prim.Native.String.{String}
 use mathlib.Core.Bool.{cond}
 use mathlib.Core.List.{List, [], _∷_, _++_}
-use lib.Dec.{ltb}
 use lib.ListN.{replicate}
 use Rattle.files.specs.Outcome.{isDone}
 use Rattle.files.specs.Records.{signerOf}
@@ -14,21 +11,7 @@ use Rattle.files.specs.TaskFile.{taskOf}
 use Rattle.search.specs.Planner.{Lent, lentOf, searched, planMade, planAnswer}
 use Rattle.search.specs.Table.{entry}
 use Rattle.search.specs.declared.Planned.{Planned}
-
--- the bytes of an ASCII text
-unfoldable pub ascii : String → List ℕ
-ascii text.[] = []
-ascii (text._∷_ c s) = code c ∷ ascii s
-
--- a number below 2^64 in decimal, at most `count` digits
-unfoldable pub digits : ℕ → ℕ → List ℕ
-digits zero n = []
-digits (suc count) n =
-    let front = digits count (n / 10) in
-    cond (ltb n 10) [] front ++ ((48 + n % 10) ∷ [])
-
-unfoldable pub decimal : ℕ → List ℕ
-decimal n = digits 20 n
+use Rattle.digits.specs.Decimal.{ascii, decimal}
 
 -- a line of two words with a number behind each
 unfoldable pub line : String → ℕ → String → ℕ → List ℕ

@@ -7,8 +7,9 @@ use lib.ListN.{set}
 use borrow.Author.Tests.{lt-ltb, le-ltb}
 use Rattle.files.specs.Bytes.{u16At, u32At, placed}
 use Rattle.files.specs.Contracts.{ActionRead}
-use Rattle.files.specs.TaskFile.{pairsFrom, variablesFrom, conditionsIn, effectsIn, effectsPlace}
-use Rattle.files.specs.Rows.{cleared, stored, filled, storedSizes, storedStarts}
+use Rattle.files.specs.Records.{recordEnd}
+use Rattle.files.specs.TaskFile.{pairsFrom, variablesFrom, actionFrom, actionsFrom, conditionsIn, effectsIn, effectsPlace}
+use Rattle.files.specs.Rows.{cleared, stored, filled, storedSizes, storedStarts, storedCosts}
 use Rattle.files.proofs.Countdown.{one-more, none-left}
 
 pub cleared-next : (row whole : List ℕ) (at k : ℕ) → cleared row at k ≡ whole → 0 < k → cleared (set row at 255) (at + 1) (k - 1) ≡ whole
@@ -63,6 +64,19 @@ sizes-none b whole i s at k w h = sym (ap (λ (n : ℕ). placed b i (storedSizes
 pub starts-none : (b whole : List ℕ) (i : ℕ) (s : List ℕ) (at k : ℕ) → placed b i (storedStarts (variablesFrom s at k)) ≡ whole → k ≤ 0 → b ≡ whole
 unfolding placed storedStarts variablesFrom
 starts-none b whole i s at k w h = sym (ap (λ (n : ℕ). placed b i (storedStarts (variablesFrom s at n))) (none-left k h)) ∙ w
+
+-- a cell for each action
+pub costs-next : (b whole : List ℕ) (a : ℕ) (s : List ℕ) (at next k x : ℕ) → placed b a (storedCosts (actionsFrom s at k)) ≡ whole → 0 < k → x ≡ u32At s (at + 4) → next ≡ recordEnd s at
+    → placed (set b a x) (a + 1) (storedCosts (actionsFrom s next (k - 1))) ≡ whole
+unfolding placed storedCosts actionsFrom actionFrom
+costs-next b whole a s at next k x w h e n =
+    ap₂ (λ (y p : ℕ). placed (set b a y) (a + 1) (storedCosts (actionsFrom s p (k - 1)))) e n
+    ∙ sym (ap (λ (m : ℕ). placed b a (storedCosts (actionsFrom s at m))) (one-more k h))
+    ∙ w
+
+pub costs-none : (b whole : List ℕ) (a : ℕ) (s : List ℕ) (at k : ℕ) → placed b a (storedCosts (actionsFrom s at k)) ≡ whole → k ≤ 0 → b ≡ whole
+unfolding placed storedCosts actionsFrom
+costs-none b whole a s at k w h = sym (ap (λ (n : ℕ). placed b a (storedCosts (actionsFrom s at n))) (none-left k h)) ∙ w
 
 -- an action's entry and rows
 pub action-read : (s : List ℕ) (at a : ℕ) (costs conditions effects : List ℕ) (base cost : ℕ) (blank conditions′ : List ℕ) (count : ℕ) (blank′ effects′ : List ℕ) (from count′ : ℕ)

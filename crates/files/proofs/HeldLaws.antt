@@ -8,7 +8,7 @@ use lib.ListN.{length, getD, length-map, List·getD-map}
 use Rattle.files.specs.Below.{tabulate}
 use Rattle.files.specs.declared.Outcome.{Outcome}
 use Rattle.files.specs.Bytes.{Octets, placed}
-use Rattle.files.specs.Contracts.{TaskRead}
+use Rattle.files.specs.Contracts.{CostsOf, TaskRead}
 use Rattle.files.specs.Task.{Pair, Variable, Action, Task, variable, action, variableCount, actionCount, variableOf, actionOf, sizeOf}
 use Rattle.files.specs.Records.{bodyLength}
 use Rattle.files.specs.TaskFile.{variablesIn, actionsIn, goalPlace, actionsPlace, checkTask, pairsFrom, variablesFrom, actionsFrom, taskOf}
@@ -112,6 +112,13 @@ module _ (f : List ℕ) (octets : Octets f) (passes : checkTask f .number ≡ 0)
 
   pub actions-in-few : actionsIn f ≤ 512
   actions-in-few = omega (arith, valid .actions-few, action-count f)
+
+  pub held-costs : (at actions : ℕ) (costs₀ costs : List ℕ) → at ≡ actionsPlace f → actions ≡ actionsIn f → 512 ≤ length costs₀
+      → costs ≡ placed costs₀ 0 (storedCosts (actionsFrom f at actions)) → CostsOf (taskOf f) costs
+  unfolding taskOf storedCosts
+  held-costs at actions costs₀ costs et ea long e a h =
+      ap (λ (l : List ℕ). getD l a 0) (e ∙ ap (λ (l : List Action). placed costs₀ 0 (storedCosts l)) (ap₂ (actionsFrom f) et ea))
+      ∙ entry-placed (λ x. x .cost) (taskOf f .actions) (action 0 [] []) costs₀ a refl (omega (arith, valid .actions-few)) h
 
   pub held-file : (variables actions goalAt at length′ : ℕ) (sizes₀ sizes starts₀ starts goal₀ blank goal costs₀ costs conditions₀ conditions effects₀ effects : List ℕ)
       → variables ≡ variablesIn f → actions ≡ actionsIn f → goalAt ≡ goalPlace f → at ≡ actionsPlace f → length′ ≡ bodyLength f goalAt

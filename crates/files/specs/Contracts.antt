@@ -13,7 +13,7 @@ use Rattle.files.specs.Dense.{Arrays, held, arrays, OriginSizes}
 use Rattle.files.specs.Records.{bodyRule, offsetLimit, recordEnd}
 use Rattle.files.specs.Rows.{cleared, filled, filledRows, storedSizes, storedStarts, storedCosts, conditionLists, effectLists}
 use Rattle.files.specs.Runs.{runFrom}
-use Rattle.files.specs.Task.{Variable, Action}
+use Rattle.files.specs.Task.{Variable, Action, Task, actionCount, actionOf}
 use Rattle.files.specs.TaskFile.{checkTask, taskOf, variablesIn, actionsIn, conditionsIn, effectsIn, effectsPlace, pairsFrom}
 
 -- a number is the one given, and below a bound
@@ -115,6 +115,10 @@ pub record TaskRead (file : List ℕ) (before after : Arrays) (r : Outcome) : Ty
   pub outcome : r ≡ checkTask file
   pub task : r .number ≡ 0 → held after ≡ taskOf file
   pub untouched : (r .number ≡ 0 → ⊥) → after ≡ before
+
+-- an array with the cost of each action
+abbrev pub CostsOf : Task → List ℕ → Type 0
+CostsOf t costs = (a : ℕ) → a < actionCount t → getD costs a 0 ≡ actionOf t a .cost
 
 -- what is written is well given, and the buffer is long enough for its end
 pub record Writable (given : Type 0) (end : ℕ) (buffer : List ℕ) : Type 0 where

@@ -3,9 +3,11 @@
 ghost use mathlib.Core.Path.{_≡_};
 ghost use Prim.Native.Nat.{_+_, _*_, _^_, _≤_};
 ghost use lib.ListN.{length};
-ghost use Rattle.files.specs.Contracts.{Readable, VariableRoom, VariablesRead, ActionRoom, ActionRead, ActionsRoom, ActionsRead, fileArrays, TaskRead};
-ghost use Rattle.files.specs.Rows.{cleared, stored, filled};
-ghost use Rattle.files.specs.TaskFile.{pairsFrom, variablesFrom, actionsFrom};
+ghost use Rattle.files.specs.Bytes.{placed};
+ghost use Rattle.files.specs.Contracts.{Readable, VariableRoom, VariablesRead, ActionRoom, ActionRead, ActionsRoom, ActionsRead, fileArrays, TaskRead, CostsOf};
+ghost use Rattle.files.specs.Records.{offsetLimit};
+ghost use Rattle.files.specs.Rows.{cleared, stored, filled, storedCosts};
+ghost use Rattle.files.specs.TaskFile.{pairsFrom, variablesFrom, actionsFrom, checkTask, taskOf};
 use crate::Outcome;
 use crate::bytes;
 use crate::limits;
@@ -149,4 +151,30 @@ pub fn read_task(
     );
     read_actions(costs, conditions, effects, file, at, actions);
     checked
+}
+
+// The costs of `count` actions from `at` on.
+fn costs_from(costs: &mut [u32], s: &[u8], at: usize, count: usize)
+    requires { ⌜ Readable count (now costs) (at + 65540 * count) offsetLimit ⌝ }
+    ensures { λ r. ⌜ now (costs .exit) ≡ placed (now (costs .entry)) 0 (storedCosts (actionsFrom (now (s .entry)) at count)) ⌝ }
+{
+    let mut a: usize = 0;
+    let mut place = at;
+    let mut left = count;
+    while 0 < left {
+        costs[a] = bytes::u32_at(s, place + 4) as u32;
+        place = reader::record_after(s, place);
+        a += 1;
+        left -= 1;
+    }
+}
+
+// The costs of the actions of an accepted task file.
+pub fn read_costs(file: &[u8], costs: &mut [u32; 512])
+    requires { ⌜ checkTask (now file) .number ≡ 0 ⌝ }
+    ensures { λ r. ⌜ CostsOf (taskOf (now (file .entry))) (now (costs .exit)) ⌝ }
+{
+    let at = task::actions_place(file);
+    let actions = task::actions_in(file);
+    costs_from(costs, file, at, actions);
 }

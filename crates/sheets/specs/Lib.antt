@@ -3,3 +3,4 @@ pub mod Sheet
 pub mod Contracts
 pub mod Answers
 pub mod Right
+pub mod Examples

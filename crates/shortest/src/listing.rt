@@ -37,5 +37,7 @@ pub fn print_total(cost: plans::Minutes, steps: plans::Steps) {
 
 fn print_labelled(label: &[u8], number: u64) {
     io::write_all(1, label);
-    io::print_decimal(1, number);
+    let mut text = [0u8; 20];
+    let count = digits::decimal(number, &mut text);
+    io::write_all(1, &text[..count]);
 }

@@ -2,8 +2,8 @@
 use mathlib.Core.Path.{sym}
 use lib.Seq.{length-take-le}
 use borrow.Author.Needs.{needs}
-use Rattle.cases.proofs.planner.part.Statement.{statement}
-use Rattle.cases.proofs.planner.part.Tie as tie
+use Rattle.cases.proofs.lines.part.Statement.{statement}
+use Rattle.cases.proofs.lines.part.Tie as tie
 
 returns : tie.Need-returns
 returns c = search needs
