@@ -92,12 +92,7 @@ pub extern "C" fn shortest_plan(
 // Lays out the plan of a plan file that is a plan of a task file's task as text: a line a step, and
 // the signer of the plan file below.
 #[no_mangle]
-pub extern "C" fn shortest_sheet(
-    task: &[u8],
-    plan: &[u8],
-    page: &mut [u8],
-    out: &mut [u64; 18],
-)
+pub extern "C" fn shortest_sheet(task: &[u8], plan: &[u8], page: &mut [u8], out: &mut [u64; 18])
     ensures { λ r. ⌜ LaysNumbers (now (task .entry)) (now (plan .entry)) (now (page .entry)) (now (out .exit)) (now (page .exit)) ⌝ }
 {
     numbers::write_laid(sheets::sheet(task, plan, page), out);

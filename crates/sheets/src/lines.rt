@@ -38,7 +38,14 @@ pub fn put_steps(page: &mut [u8], plan: &[u8], costs: &[u32])
         let action = files::plan::step(plan, i);
         let minutes = costs[action.0 as usize] as u64;
         total += minutes;
-        put_step(page, LINE * i, (i + 1) as u64, action.0 as u64, minutes, total);
+        put_step(
+            page,
+            LINE * i,
+            (i + 1) as u64,
+            action.0 as u64,
+            minutes,
+            total,
+        );
         i += 1;
     }
 }
