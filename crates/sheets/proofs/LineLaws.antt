@@ -16,20 +16,14 @@ use Rattle.files.proofs.Placed.{placed-then}
 use Rattle.digits.specs.Decimal.{ascii, decimal, column}
 use Rattle.digits.proofs.DecimalLaws.{decimal-few, decimal-are, column-length}
 use Rattle.sheets.specs.Sheet.{stepLine, signedLine}
+use Rattle.sheets.specs.Contracts.{NumbersFit}
 use Rattle.sheets.specs.Right.{isCharacter, IsLine}
-
--- each number fits its columns
-pub record Fits (step action minutes total : ℕ) : Type 0 where
-  pub stepFits : step < 10 ^ 4
-  pub actionFits : action < 10 ^ 5
-  pub minutesFit : minutes < 10 ^ 9
-  pub totalFits : total < 10 ^ 12
 
 -- a column for a number of at most as many digits
 pub column-fits : (width n : ℕ) → 0 < width → n < 10 ^ width → length (column width n) ≡ width
 column-fits width n p h = column-length width n (decimal-few n width p h)
 
-signer-wide : (signer : ℕ) → signer < 2 ^ 32 → length (decimal signer) ≤ 26
+pub signer-wide : (signer : ℕ) → signer < 2 ^ 32 → length (decimal signer) ≤ 26
 signer-wide signer h =
     let few : length (decimal signer) ≤ 10 = decimal-few signer 10 (omega arith) (omega (arith, h)) in
     omega (arith, few)
@@ -92,7 +86,7 @@ signed-letters (suc (suc (suc (suc zero)))) h = refl
 signed-letters (suc (suc (suc (suc (suc zero))))) h = refl
 signed-letters (suc (suc (suc (suc (suc (suc i)))))) h = absurd (omega arith)
 
-module _ (step action minutes total : ℕ) (f : Fits step action minutes total) where
+module _ (step action minutes total : ℕ) (f : NumbersFit step action minutes total) where
   abbrev front₂ : List ℕ
   front₂ = column 4 step ++ blanks
 
@@ -149,7 +143,7 @@ stores-placed b at (x ∷ xs) = stores-placed (set b at x) (suc at) xs ∙ ap (�
 next-part : (b c d : List ℕ) (at next : ℕ) (xs ys : List ℕ) → c ≡ placed b at xs → next ≡ at + length xs → d ≡ sets c next ys → d ≡ placed b at (xs ++ ys)
 next-part b c d at next xs ys e f g = g ∙ stores-placed c next ys ∙ placed-then b c at next xs ys e f
 
-module _ (step action minutes total : ℕ) (f : Fits step action minutes total) (b b₁ b₂ b₃ b₄ b₅ : List ℕ) (at : ℕ) where
+module _ (step action minutes total : ℕ) (f : NumbersFit step action minutes total) (b b₁ b₂ b₃ b₄ b₅ : List ℕ) (at : ℕ) where
   pub step-written : b₁ ≡ sets b at (column 4 step) → b₂ ≡ sets b₁ (at + 4) (replicate 2 32) → b₃ ≡ sets b₂ (at + 6) (column 5 action)
       → b₄ ≡ sets b₃ (at + 11) (column 9 minutes) → b₅ ≡ sets b₄ (at + 20) (column 12 total)
       → set b₅ (at + 32) 10 ≡ placed b at (stepLine step action minutes total)
@@ -169,16 +163,20 @@ module _ (step action minutes total : ℕ) (f : Fits step action minutes total) 
       let p₅ = next-part b b₄ b₅ at (at + 20) (column 4 step ++ blanks ++ column 5 action ++ column 9 minutes) (column 12 total) p₄ (omega (arith, l₁, a₂, l₃, a₃, l₄, a₄)) e₅ in
       next-part b b₅ (set b₅ (at + 32) 10) at (at + 32) (front step action minutes total f) (10 ∷ []) p₅ (omega (arith, front-length step action minutes total f)) refl
 
-module _ (signer : ℕ) (h : signer < 2 ^ 32) (b c : List ℕ) (at : ℕ) where
-  pub signed-written : c ≡ sets (set (set (set (set (set (set b at 83) (at + 1) 73) (at + 2) 71) (at + 3) 78) (at + 4) 69) (at + 5) 68) (at + 6) (column 26 signer)
-      → set c (at + 32) 10 ≡ placed b at (signedLine signer)
-  unfolding signedLine ascii placed
-  signed-written e =
-      let two : at + 1 + 1 ≡ at + 2 = omega arith in
-      let three : at + 2 + 1 ≡ at + 3 = omega arith in
-      let four : at + 3 + 1 ≡ at + 4 = omega arith in
-      let five : at + 4 + 1 ≡ at + 5 = omega arith in
-      let six : placed b at letters ≡ set (set (set (set (set (set b at 83) (at + 1) 73) (at + 2) 71) (at + 3) 78) (at + 4) 69) (at + 5) 68 = rw (two, three, four, five) refl in
-      let p = next-part b _ c at (at + 6) letters (column 26 signer) (sym six) refl e in
-      next-part b c (set c (at + 32) 10) at (at + 32) (letters ++ column 26 signer) (10 ∷ []) p
+pub word-written : (b : List ℕ) (at : ℕ)
+    → set (set (set (set (set (set b at 83) (at + 1) 73) (at + 2) 71) (at + 3) 78) (at + 4) 69) (at + 5) 68 ≡ placed b at (ascii "SIGNED")
+unfolding ascii placed
+word-written b at =
+    let two : at + 1 + 1 ≡ at + 2 = omega arith in
+    let three : at + 2 + 1 ≡ at + 3 = omega arith in
+    let four : at + 3 + 1 ≡ at + 4 = omega arith in
+    let five : at + 4 + 1 ≡ at + 5 = omega arith in
+    rw (two, three, four, five) refl
+
+module _ (signer : ℕ) (h : signer < 2 ^ 32) (b b₁ b₂ : List ℕ) (at : ℕ) where
+  pub signed-written : b₁ ≡ placed b at (ascii "SIGNED") → b₂ ≡ sets b₁ (at + 6) (column 26 signer) → set b₂ (at + 32) 10 ≡ placed b at (signedLine signer)
+  unfolding signedLine ascii
+  signed-written e₁ e₂ =
+      let p = next-part b b₁ b₂ at (at + 6) letters (column 26 signer) e₁ refl e₂ in
+      next-part b b₂ (set b₂ (at + 32) 10) at (at + 32) (letters ++ column 26 signer) (10 ∷ []) p
       (omega (arith, length-append letters (column 26 signer), column-length 26 signer (signer-wide signer h))) refl

@@ -16,8 +16,9 @@ use Rattle.files.proofs.Logic.{and-split, split-le}
 use Rattle.files.proofs.Valid.{all-at, task-valid}
 use Rattle.plans.specs.Plan.{totalOf, addStep, noSteps, stepOf}
 use Rattle.sheets.specs.Sheet.{stepLine, stepLines, signedLine, sheetOf}
+use Rattle.sheets.specs.Contracts.{NumbersFit}
 use Rattle.sheets.specs.Right.{lineOf, IsLine, minutesUpTo, SheetRight, SheetsRight}
-use Rattle.sheets.proofs.LineLaws.{Fits, step-is-line, signed-is-line}
+use Rattle.sheets.proofs.LineLaws.{step-is-line, signed-is-line}
 use Rattle.sheets.proofs.StepLaws.{Shown, lines-length, line-at, upTo}
 
 -- the minutes of an action
@@ -84,7 +85,7 @@ module _ (t : Task) (plan : List ℕ) (signer : ℕ) (ok : acceptedTask t ≡ tr
   abbrev shown : Shown (costIn t) 0 0 plan
   shown = accepted-shown t plan ok held
 
-  shown-fits : (k : ℕ) → k < length plan → Fits (k + 1) (stepOf plan k) (costIn t (stepOf plan k)) (minutesUpTo t plan (k + 1))
+  shown-fits : (k : ℕ) → k < length plan → NumbersFit (k + 1) (stepOf plan k) (costIn t (stepOf plan k)) (minutesUpTo t plan (k + 1))
   shown-fits k h =
       let most = total-most t ok (take (k + 1) plan) in
       let few : length (take (k + 1) plan) ≤ k + 1 = omega (arith, length-take (k + 1) plan) in

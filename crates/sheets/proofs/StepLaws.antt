@@ -7,11 +7,12 @@ use native.Mathlib.Omega.{arith}
 use lib.ListN.{length, getD, take, drop, length-append, drop-of-length-le}
 use lib.Seq.{take-at, drop-at, drop-append-add, drop-cons}
 use Rattle.files.specs.Bytes.{placed}
-use Rattle.files.proofs.Placed.{placed-then}
+use Rattle.files.proofs.Placed.{placed-length, placed-then}
 use Rattle.plans.specs.Plan.{stepOf}
 use Rattle.sheets.specs.Sheet.{stepLine, stepLines}
+use Rattle.sheets.specs.Contracts.{NumbersFit}
 use Rattle.sheets.specs.Right.{lineOf}
-use Rattle.sheets.proofs.LineLaws.{Fits, step-is-line}
+use Rattle.sheets.proofs.LineLaws.{step-is-line}
 
 -- steps behind `taken` steps and a total: few, of known actions, and each cheap
 pub record Shown (minutes : ℕ → ℕ) (taken total : ℕ) (plan : List ℕ) : Type 0 where
@@ -22,7 +23,7 @@ pub record Shown (minutes : ℕ → ℕ) (taken total : ℕ) (plan : List ℕ) :
 
 module _ (minutes : ℕ → ℕ) where
   module _ (taken total a : ℕ) (plan : List ℕ) (s : Shown minutes taken total (a ∷ plan)) where
-    pub first-fits : Fits (taken + 1) a (minutes a) (total + minutes a)
+    pub first-fits : NumbersFit (taken + 1) a (minutes a) (total + minutes a)
     first-fits =
         record {
           stepFits = omega (arith, s .few);
@@ -93,34 +94,32 @@ module _ (minutes : ℕ → ℕ) where
       writing-ends h = sym (ap (λ (l : List ℕ). placed page (33 * i) (stepLines minutes i total l)) (drop-of-length-le plan h)) ∙ w .rest
 
       -- the step that is due
-      module _ (h : i < length plan) (few : length plan ≤ 4096) (known : stepOf plan i < 512) (cheap : minutes (stepOf plan i) ≤ 1000000) where
-        pub due-fits : Fits (i + 1) (stepOf plan i) (minutes (stepOf plan i)) (total + minutes (stepOf plan i))
+      module _ (h : i < length plan) (few : length plan ≤ 4096) (a : ℕ) (is : a ≡ stepOf plan i) (known : stepOf plan i < 512) (cheap : minutes (stepOf plan i) ≤ 1000000) where
+        pub due-fits : NumbersFit (i + 1) a (minutes a) (total + minutes a)
         due-fits =
+            let most : minutes a ≤ 1000000 = subst (λ (n : ℕ). minutes n ≤ 1000000) (sym is) cheap in
             record {
               stepFits = omega (arith, h, few);
-              actionFits = omega (arith, known);
-              minutesFit = omega (arith, cheap);
-              totalFits = omega (arith, h, few, w .sum, cheap);
+              actionFits = omega (arith, is, known);
+              minutesFit = omega (arith, most);
+              totalFits = omega (arith, h, few, w .sum, most);
             }
 
-        pub writing-next : (next : List ℕ)
-            → next ≡ placed page (33 * i) (stepLine (i + 1) (stepOf plan i) (minutes (stepOf plan i)) (total + minutes (stepOf plan i)))
-            → length next ≡ length page
-            → Writing page₀ plan next (i + 1) (total + minutes (stepOf plan i))
+        pub writing-next : (next : List ℕ) → next ≡ placed page (33 * i) (stepLine (i + 1) a (minutes a) (total + minutes a)) → Writing page₀ plan next (i + 1) (total + minutes a)
         unfolding stepLines
-        writing-next next e l =
-            let a = stepOf plan i in
+        writing-next next e =
             let line = stepLine (i + 1) a (minutes a) (total + minutes a) in
             let long = step-is-line (i + 1) a (minutes a) (total + minutes a) due-fits .long in
-            let left : drop i plan ≡ a ∷ drop (i + 1) plan = drop-cons plan i 0 h ∙ ap (λ (n : ℕ). a ∷ drop n plan) (sym (add-one i)) in
+            let left : drop i plan ≡ a ∷ drop (i + 1) plan = drop-cons plan i 0 h ∙ ap₂ (λ (x n : ℕ). x ∷ drop n plan) (sym is) (sym (add-one i)) in
+            let most : minutes a ≤ 1000000 = subst (λ (n : ℕ). minutes n ≤ 1000000) (sym is) cheap in
             record {
               rest =
                   placed-then page next (33 * i) (33 * (i + 1)) line (stepLines minutes (i + 1) (total + minutes a) (drop (i + 1) plan)) e (omega (arith, long))
                   ∙ sym (ap (λ (p : List ℕ). placed page (33 * i) (stepLines minutes i total p)) left)
                   ∙ w .rest;
-              sum = omega (arith, w .sum, cheap);
+              sum = omega (arith, w .sum, most);
               within = omega (arith, h);
-              long = l ∙ w .long;
+              long = ap length e ∙ placed-length page (33 * i) line ∙ w .long;
             }
 
 -- the same lines by minutes that are alike for every step

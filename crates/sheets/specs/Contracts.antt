@@ -4,12 +4,16 @@ use mathlib.Core.List.{List}
 use lib.ListN.{length, getD}
 use Rattle.plans.specs.Plan.{stepOf}
 
--- each number fits its columns, and the line fits the page
-pub record LineFits (page : List ℕ) (at step action minutes total : ℕ) : Type 0 where
+-- each number of a step's line fits its columns
+pub record NumbersFit (step action minutes total : ℕ) : Type 0 where
   pub stepFits : step < 10 ^ 4
   pub actionFits : action < 10 ^ 5
   pub minutesFit : minutes < 10 ^ 9
   pub totalFits : total < 10 ^ 12
+
+-- and the line fits the page
+pub record LineFits (page : List ℕ) (at step action minutes total : ℕ) : Type 0 where
+  pub numbers : NumbersFit step action minutes total
   pub room : at + 33 ≤ length page
 
 -- steps that an array of costs knows, few and cheap, and a page with room for their lines

@@ -1,8 +1,10 @@
 // The lines of a sheet.
 ghost use mathlib.Core.Path.{_≡_};
-ghost use lib.ListN.{getD};
+ghost use Prim.Native.Nat.{_+_, _≤_};
+ghost use lib.ListN.{length, getD};
 ghost use Rattle.files.specs.Bytes.{placed};
 ghost use Rattle.files.specs.PlanFile.{planOf};
+ghost use Rattle.digits.specs.Decimal.{ascii};
 ghost use Rattle.sheets.specs.Contracts.{LineFits, StepsFit, SignerFits};
 ghost use Rattle.sheets.specs.Sheet.{stepLine, stepLines, signedLine};
 use digits::columns;
@@ -50,10 +52,10 @@ pub fn put_steps(page: &mut [u8], plan: &[u8], costs: &[u32])
     }
 }
 
-// Writes the last line: the signer.
-pub fn put_signed(page: &mut [u8], at: usize, signer: u64)
-    requires { ⌜ SignerFits (now page) at signer ⌝ }
-    ensures { λ r. ⌜ now (page .exit) ≡ placed (now (page .entry)) at (signedLine signer) ⌝ }
+// Writes the word SIGNED.
+fn put_word(page: &mut [u8], at: usize)
+    requires { ⌜ at + 6 ≤ length (now page) ⌝ }
+    ensures { λ r. ⌜ now (page .exit) ≡ placed (now (page .entry)) at (ascii "SIGNED") ⌝ }
 {
     page[at] = b'S';
     page[at + 1] = b'I';
@@ -61,6 +63,14 @@ pub fn put_signed(page: &mut [u8], at: usize, signer: u64)
     page[at + 3] = b'N';
     page[at + 4] = b'E';
     page[at + 5] = b'D';
+}
+
+// Writes the last line: the word, then the signer.
+pub fn put_signed(page: &mut [u8], at: usize, signer: u64)
+    requires { ⌜ SignerFits (now page) at signer ⌝ }
+    ensures { λ r. ⌜ now (page .exit) ≡ placed (now (page .entry)) at (signedLine signer) ⌝ }
+{
+    put_word(page, at);
     columns::put_column(page, at + 6, 26, signer);
     page[at + 32] = LINE_FEED;
 }

@@ -1,0 +1,116 @@
+-- The loop's invariant: the lines left, placed behind those that stand, make all the lines.
+use Prim.Native.Nat.{ℕ, _-_, _<_}
+use native.Mathlib.Omega.{arith}
+use lib.ListN.{length, getD}
+use denote.Ref.{now}
+use borrow.Author.Needs.{needs}
+use Rattle.files.specs.PlanFile.{planOf}
+use Rattle.sheets.proofs.StepLaws.{Writing, writing-begins, writing-next, writing-ends, due-fits}
+use Rattle.sheets.proofs.lines.put_steps.Statement.{statement}
+use Rattle.sheets.proofs.lines.put_steps.Tie as tie
+
+abbrev Inv-loop : tie.InvT-loop
+Inv-loop page₀ plan costs count total₀ i₀ page total i = Writing (λ (a : ℕ). getD costs a 0) page₀ (planOf plan) page i total
+
+abbrev μ-loop : tie.MeasureT-loop
+μ-loop page₀ plan costs count total₀ i₀ page total i = count - i
+
+steps-requires : tie.Need-steps-requires Inv-loop μ-loop
+steps-requires c κs = search needs
+
+cast-count : tie.Need-cast-count Inv-loop μ-loop
+cast-count c = search needs
+
+loop-holds : tie.Need-loop-holds Inv-loop μ-loop
+loop-holds c = writing-begins _ _ _
+
+step-requires : tie.Need-step-requires Inv-loop μ-loop
+step-requires c κs = omega (arith, c .before .before .before .steps .ensures .is)
+
+cast-minutes : tie.Need-cast-minutes Inv-loop μ-loop
+cast-minutes c = search needs
+
+mul-minutes : tie.Need-mul-minutes Inv-loop μ-loop
+mul-minutes c = search needs
+
+shared-slice-read-minutes : tie.Need-shared-slice-read-minutes Inv-loop μ-loop
+shared-slice-read-minutes c = 
+    let start = c .before .before .before .before .before .before .before .before .before .before in
+    let l = c .before .before .before .before .loop in
+    let below : l .i < length (planOf (now (start .args .plan))) = omega (arith, c .before .before .before .before .before .before .steps .ensures .is, c .before .before .before .loop-test .taken) in
+    omega (arith, start .pre .known (l .i) below, c .before .before .step .ensures)
+
+cast-minutes-2 : tie.Need-cast-minutes-2 Inv-loop μ-loop
+cast-minutes-2 c = omega (arith, c .shared-slice-known3 .given (c .before .before .step .result .0))
+
+add-total : tie.Need-add-total Inv-loop μ-loop
+add-total c = omega (arith, c .shared-slice-known3 .given (c .before .before .step .result .0), c .before .before .before .before .loop .inv .sum, c .before .before .before .before .loop .inv .within, c .before .before .before .before .before .before .before .before .before .before .pre .few)
+
+mul-put-step : tie.Need-mul-put-step Inv-loop μ-loop
+mul-put-step c = search needs
+
+add-put-step : tie.Need-add-put-step Inv-loop μ-loop
+add-put-step c = search needs
+
+cast-put-step : tie.Need-cast-put-step Inv-loop μ-loop
+cast-put-step c = search needs
+
+put-step-requires : tie.Need-put-step-requires Inv-loop μ-loop
+put-step-requires c κs = 
+    let start = c .before .before .before .before .before .before .before .before .before .before .before .before in
+    let l = c .before .before .before .before .before .before .loop in
+    let plan = planOf (now (start .args .plan)) in
+    let below : l .i < length plan = omega (arith, c .before .before .before .before .before .before .before .before .steps .ensures .is, c .before .before .before .before .before .loop-test .taken) in
+    let known = start .pre .small (l .i) below in
+    let cheap = start .pre .cheap (l .i) below in
+    record {
+      numbers = due-fits (λ (a : ℕ). getD (now (start .args .costs)) a 0) _ plan _ (l .i) (l .total) (l .inv) below (start .pre .few) (c .before .before .before .before .step .result .0) (c .before .before .before .before .step .ensures) known cheap;
+      room = omega (arith, l .inv .long, start .pre .room, below);
+    }
+
+add-i : tie.Need-add-i Inv-loop μ-loop
+add-i c = search needs
+
+loop-less : tie.Need-loop-less Inv-loop μ-loop
+loop-less c = search needs
+
+loop-again : tie.Need-loop-again Inv-loop μ-loop
+loop-again c = 
+    let start = c .before .before .before .before .before .before .before .before .before .before .before .before .before .before .before in
+    let l = c .before .before .before .before .before .before .before .before .before .loop in
+    let plan = planOf (now (start .args .plan)) in
+    let below : l .i < length plan = omega (arith, c .before .before .before .before .before .before .before .before .before .before .before .steps .ensures .is, c .before .before .before .before .before .before .before .before .loop-test .taken) in
+    let known = start .pre .small (l .i) below in
+    let cheap = start .pre .cheap (l .i) below in
+    writing-next (λ (a : ℕ). getD (now (start .args .costs)) a 0) _ plan _ (l .i) (l .total) (l .inv) below (start .pre .few) (c .before .before .before .before .before .before .before .step .result .0) (c .before .before .before .before .before .before .before .step .ensures) known cheap _ (c .before .before .put-step .ensures)
+
+same-length : tie.Need-same-length Inv-loop μ-loop
+same-length c = c .before .loop .inv .long
+
+returns : tie.Need-returns Inv-loop μ-loop
+returns c = writing-ends _ _ _ _ _ _ (c .before .loop .inv) (omega (arith, c .before .before .before .steps .ensures .is, c .loop-test .left))
+
+pub put-steps-spec : {M : Type 1} → statement M
+put-steps-spec =
+    tie.close
+    (tie.spec
+    Inv-loop
+    μ-loop
+    steps-requires
+    cast-count
+    loop-holds
+    step-requires
+    cast-minutes
+    mul-minutes
+    shared-slice-read-minutes
+    cast-minutes-2
+    add-total
+    mul-put-step
+    add-put-step
+    cast-put-step
+    put-step-requires
+    add-i
+    loop-less
+    loop-again
+    same-length
+    returns)
