@@ -155,7 +155,8 @@ fn measure(name: &str, file: &[u8]) {
     print("whole row", plan);
 }
 
-/// One step of no conditions, the most times, at the highest cost.
+/// The longest page: one action of the highest cost, as often as a plan has
+/// steps.
 fn measure_sheet() {
     let task = task_file(&Task {
         variables: vec![],
