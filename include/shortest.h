@@ -23,7 +23,7 @@
  *    9  bytes of the origin file written
  *   10  entries of the table written
  *   11  bytes of the plan file written
- *   12  reserved: bytes of a page written
+ *   12  bytes of the page written
  *   13  reserved: bytes of a task file written
  *   14  reserved: turns
  *   15  reserved: elements of a list written
@@ -46,7 +46,7 @@
 extern "C" {
 #endif
 
-/* The places of `out`, and how many they are. No call has a number behind SHORTEST_PLAN yet. */
+/* The places of `out`, and how many they are. No call has a number behind SHORTEST_PAGE yet. */
 enum {
     SHORTEST_NUMBER,
     SHORTEST_FILE,
@@ -76,7 +76,8 @@ enum {
     SHORTEST_MOST_REDUCED = 65536,
     SHORTEST_MOST_ORIGIN = 5520,
     SHORTEST_MOST_ENTRIES = 4096,
-    SHORTEST_MOST_PLAN = 8206
+    SHORTEST_MOST_PLAN = 8206,
+    SHORTEST_MOST_PAGE = 135201
 };
 
 /* An entry of the table: the least cost to the goal from a state, then the fewest steps at that
@@ -122,6 +123,15 @@ void shortest_plan(const uint8_t *task, size_t task_length, uint32_t signer,
                    uint8_t *origin, size_t origin_length,
                    struct shortest_entry *table, size_t table_length,
                    uint8_t *plan, size_t plan_length, uint64_t out[SHORTEST_NUMBERS]);
+
+/* Lays out the plan of a plan file as text, where shortest_check_plan accepts it, with its cost and
+   steps, and refuses as that call does where it does not. Each step is a line of 32 characters and
+   a line feed: its number from 1 in 4 columns, two blanks, the number of its action in 5, its
+   minutes in 9, and the sum of the minutes so far in 12, all flush right. The last line is SIGNED
+   and the signer of the plan file, flush right in 26 columns. The page needs 33 elements a line. */
+void shortest_sheet(const uint8_t *task, size_t task_length,
+                    const uint8_t *plan, size_t plan_length,
+                    uint8_t *page, size_t page_length, uint64_t out[SHORTEST_NUMBERS]);
 
 #ifdef __cplusplus
 }

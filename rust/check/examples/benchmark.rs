@@ -5,16 +5,17 @@ use std::hint::black_box;
 use std::time::{Duration, Instant};
 
 use shortest::lent::{self as library, Answer};
-use shortest_check::buffers::{Buffers, Mark, Plan, Reduce};
+use shortest_check::buffers::{Buffers, Mark, Plan, Reduce, Sheet};
 use shortest_check::reference;
-use shortest_check::reference::files::{Action, Fact, Task, Variable};
-use shortest_check::reference::generate::{self, task_file, Random};
+use shortest_check::reference::files::{self, Action, Fact, Task, Variable};
+use shortest_check::reference::generate::{self, plan_file, task_file, Random};
 
 fn main() {
     println!("library and reference in microseconds, library : reference");
     for (name, task) in tasks() {
         measure(name, &task_file(&task));
     }
+    measure_sheet();
 }
 
 fn tasks() -> [(&'static str, Task); 7] {
@@ -97,6 +98,7 @@ struct Calls {
     mark: Mark,
     reduce: Reduce,
     plan: Plan,
+    sheet: Sheet,
 }
 
 impl Calls {
@@ -105,12 +107,14 @@ impl Calls {
         mark: library::mark,
         reduce: library::reduce,
         plan: library::plan,
+        sheet: library::sheet,
     };
     const REFERENCE: Calls = Calls {
         check: |file| Answer::from(reference::check_task(file)),
         mark: reference::mark,
         reduce: reference::reduce,
         plan: reference::plan,
+        sheet: reference::sheet,
     };
 }
 
@@ -126,32 +130,22 @@ fn measure(name: &str, file: &[u8]) {
         planned.table,
         planned.steps
     );
-    let pair = |run: &mut dyn FnMut(&Calls)| {
-        let mut best = [Duration::MAX; 2];
-        for _ in 0..20 {
-            for (calls, best) in [Calls::LIBRARY, Calls::REFERENCE].iter().zip(&mut best) {
-                *best = (*best).min(time(|| run(calls)));
-            }
-        }
-        best
-    };
-
-    let check = pair(&mut |calls| {
+    let check = pair(|calls| {
         black_box((calls.check)(black_box(file)));
     });
     print("check", check);
     for level in 1..=4 {
-        let mark = pair(&mut |calls| {
+        let mark = pair(|calls| {
             let (actions, facts) = (&mut lent.action_marks, &mut lent.fact_marks);
             black_box((calls.mark)(black_box(file), level, actions, facts));
         });
         print(&format!("mark, level {level}"), mark);
     }
-    let reduce = pair(&mut |calls| {
+    let reduce = pair(|calls| {
         black_box(lent.reduce(calls.reduce, black_box(file), 4, 1));
     });
     print("reduce", reduce);
-    let plan = pair(&mut |calls| {
+    let plan = pair(|calls| {
         black_box(lent.plan(calls.plan, black_box(file), 1));
     });
     if planned.outcome.is_done() {
@@ -159,6 +153,45 @@ fn measure(name: &str, file: &[u8]) {
         print("search", search);
     }
     print("whole row", plan);
+}
+
+/// The longest page: one action of the highest cost, as often as a plan has
+/// steps.
+fn measure_sheet() {
+    let task = task_file(&Task {
+        variables: vec![],
+        goal: vec![],
+        actions: vec![Action {
+            cost: files::MOST_COST,
+            ..Action::default()
+        }],
+        signer: 1,
+    });
+    let plan = plan_file(&files::Plan {
+        steps: vec![0; files::MOST_STEPS],
+        signer: u32::MAX,
+    });
+    let page = &mut vec![0; library::MOST_PAGE];
+    let laid_out = library::sheet(&task, &plan, page);
+    println!(
+        "\nsheet of {} steps: {} bytes",
+        laid_out.steps, laid_out.page
+    );
+    let sheet = pair(|calls| {
+        black_box((calls.sheet)(black_box(&task), black_box(&plan), page));
+    });
+    print("sheet", sheet);
+}
+
+/// The best time of either side.
+fn pair(mut run: impl FnMut(&Calls)) -> [Duration; 2] {
+    let mut best = [Duration::MAX; 2];
+    for _ in 0..20 {
+        for (calls, best) in [Calls::LIBRARY, Calls::REFERENCE].iter().zip(&mut best) {
+            *best = (*best).min(time(|| run(calls)));
+        }
+    }
+    best
 }
 
 /// The mean time of as many calls as take some milliseconds.

@@ -1,7 +1,7 @@
 //! The library against the reference.
 
 use shortest::lent::{self as library, Answer};
-use shortest_check::differential::{cases, Comparison};
+use shortest_check::differential::{cases, pages, Comparison};
 use shortest_check::reference;
 use shortest_check::reference::generate::{self, Random};
 
@@ -26,6 +26,7 @@ fn mixed_cases_with_every_outcome() {
         ("mark", &[8, 21]),
         ("reduce", &[8, 21]),
         ("plan", &[21, 24, 25]),
+        ("sheet", &[21, 22, 23]),
     ] {
         let expected = [&[0], &input[..], others].concat();
         assert_eq!(comparison.numbers(call), expected, "{call}");
@@ -37,6 +38,7 @@ fn every_length_at_small_sizes() {
     for_seeds(40, |comparison, random| {
         let task = generate::small_with_plan(random);
         cases::every_length(comparison, random, &task);
+        pages::every_length(comparison, random, &task);
     });
 }
 
@@ -86,9 +88,9 @@ fn files_at_the_limit() {
         let plan = vec![0; 65_536];
         for file in [&file[..], &[&file[..], &[0]].concat(), &vec![0; 70_000]] {
             cases::task_file_as_it_is(comparison, random, file);
-            comparison.check_plan(file, &plan);
-            comparison.check_plan(&plan, file);
-            comparison.check_plan(&accepted, file);
+            pages::as_it_is(comparison, random, file, &plan);
+            pages::as_it_is(comparison, random, &plan, file);
+            pages::as_it_is(comparison, random, &accepted, file);
         }
     });
 }
@@ -109,6 +111,10 @@ fn empty_slices() {
         assert_eq!(
             library::check_plan(file, &[]),
             reference::check_plan(file, &[])
+        );
+        assert_eq!(
+            library::sheet(file, &[], &mut []),
+            reference::sheet(file, &[], &mut [])
         );
         assert_eq!(
             library::mark(file, 4, &mut [], &mut []),

@@ -1,7 +1,7 @@
 //! The calls that own their results hand back what the reference gives.
 
 use shortest::lent::Answer;
-use shortest::{Checked, Marked, Outcome, Planned, Reduced};
+use shortest::{Checked, Marked, Outcome, Planned, Reduced, Sheet};
 use shortest_check::buffers::Buffers;
 use shortest_check::reference;
 use shortest_check::reference::files::read_plan;
@@ -36,6 +36,14 @@ fn planned(lent: &Buffers, answer: &Answer) -> Planned {
     }
 }
 
+fn sheet(page: &[u8], answer: &Answer) -> Sheet {
+    Sheet {
+        page: String::from_utf8(page[..answer.page].to_vec()).unwrap(),
+        cost: answer.cost,
+        steps: answer.steps,
+    }
+}
+
 /// All calls on a file, with every level and two signers.
 fn compare(file: &[u8], plan: &[u8]) -> Outcome {
     let done = |outcome: Outcome| Answer::from(outcome).done().map(drop);
@@ -46,6 +54,10 @@ fn compare(file: &[u8], plan: &[u8]) -> Outcome {
     let expected = reference::check_plan(file, plan).done();
     let expected = expected.map(|Answer { cost, steps, .. }| Checked { cost, steps });
     assert_eq!(shortest::check_plan(file, plan), expected);
+    let page = &mut vec![0; 135_220];
+    let expected = reference::sheet(file, plan, page).done();
+    let expected = expected.map(|answer| sheet(page, &answer));
+    assert_eq!(shortest::sheet(file, plan), expected);
 
     let lent = &mut Buffers::long();
     for level in 0..=5 {
@@ -98,9 +110,9 @@ fn origins() {
 #[test]
 fn the_longest_plan() {
     let file = task_file(&generate::counter_of(&[2; 12], 1));
-    assert!(compare(&file, &[]).is_done());
     let planned = shortest::plan(&file, 1).unwrap();
     assert_eq!((planned.steps.len(), planned.cost), (4_095, 4_095));
+    assert!(compare(&file, &planned.file).is_done());
     let checked = shortest::check_plan(&file, &planned.file);
     let (cost, steps) = (4_095, 4_095);
     assert_eq!(checked, Ok(Checked { cost, steps }));

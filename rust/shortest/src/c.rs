@@ -57,4 +57,13 @@ extern "C" {
         plan_length: usize,
         out: *mut u64,
     );
+    pub fn shortest_sheet(
+        task: *const u8,
+        task_length: usize,
+        plan: *const u8,
+        plan_length: usize,
+        page: *mut u8,
+        page_length: usize,
+        out: *mut u64,
+    );
 }

@@ -11,6 +11,7 @@ pub const MOST_REDUCED: usize = 65_536;
 pub const MOST_ORIGIN: usize = 5_520;
 pub const MOST_ENTRIES: usize = 4_096;
 pub const MOST_PLAN: usize = 8_206;
+pub const MOST_PAGE: usize = 135_201;
 
 /// How many numbers a call writes.
 pub const NUMBERS: usize = 18;
@@ -30,8 +31,8 @@ pub struct Answer {
     pub origin: usize,
     pub table: usize,
     pub plan: usize,
-    /// Reserved, 0 at every call.
     pub page: usize,
+    /// Reserved, 0 at every call.
     pub task: usize,
     pub turns: usize,
     pub list: usize,
@@ -210,6 +211,21 @@ pub fn plan(
             table.len(),
             plan.as_mut_ptr(),
             plan.len(),
+            out,
+        );
+    })
+}
+
+/// Lays out the plan of a plan file, with the task of a task file, as text.
+pub fn sheet(task: &[u8], plan: &[u8], page: &mut [u8]) -> Answer {
+    answer(|out| unsafe {
+        c::shortest_sheet(
+            task.as_ptr(),
+            task.len(),
+            plan.as_ptr(),
+            plan.len(),
+            page.as_mut_ptr(),
+            page.len(),
             out,
         );
     })

@@ -24,7 +24,7 @@ mod results;
 
 pub use lent::Entry;
 pub use outcome::Outcome;
-pub use results::{Checked, Marked, Planned, Reduced};
+pub use results::{Checked, Marked, Planned, Reduced, Sheet};
 
 /// Whether a file is a task file.
 pub fn check_task(file: &[u8]) -> Result<(), Outcome> {
@@ -85,4 +85,11 @@ pub fn plan(task: &[u8], signer: u32) -> Result<Planned, Outcome> {
     let Marked { actions, facts, .. } = marked;
     let answer = lent::plan(task, signer, actions, facts, file, origin, table, plan).done()?;
     Ok(planned.cut(&answer))
+}
+
+/// Lays out the plan of a plan file, with the task of a task file, as text.
+pub fn sheet(task: &[u8], plan: &[u8]) -> Result<Sheet, Outcome> {
+    let mut page = vec![0; lent::MOST_PAGE];
+    let answer = lent::sheet(task, plan, &mut page).done()?;
+    Ok(Sheet::cut(page, &answer))
 }

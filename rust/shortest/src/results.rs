@@ -104,6 +104,25 @@ impl Planned {
     }
 }
 
+/// A plan laid out as text.
+#[derive(Clone, Debug, PartialEq, Eq)]
+pub struct Sheet {
+    /// A line for each step, and one for the signer of the plan.
+    pub page: String,
+    pub cost: u64,
+    pub steps: usize,
+}
+
+impl Sheet {
+    pub(crate) fn cut(page: Vec<u8>, answer: &Answer) -> Sheet {
+        Sheet {
+            page: String::from_utf8(first(page, answer.page)).unwrap(),
+            cost: answer.cost,
+            steps: answer.steps,
+        }
+    }
+}
+
 fn first<T>(mut list: Vec<T>, count: usize) -> Vec<T> {
     list.truncate(count);
     list.shrink_to_fit();

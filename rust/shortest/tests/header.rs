@@ -19,6 +19,7 @@ fn the_longest_results() {
     assert_eq!(given("SHORTEST_MOST_ORIGIN"), lent::MOST_ORIGIN);
     assert_eq!(given("SHORTEST_MOST_ENTRIES"), lent::MOST_ENTRIES);
     assert_eq!(given("SHORTEST_MOST_PLAN"), lent::MOST_PLAN);
+    assert_eq!(given("SHORTEST_MOST_PAGE"), lent::MOST_PAGE);
 }
 
 /// The names of the enum of places, in order.

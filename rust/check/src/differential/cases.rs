@@ -1,6 +1,6 @@
 //! What the calls are compared on.
 
-use super::{Comparison, Lengths};
+use super::{pages, Comparison, Lengths};
 use crate::reference::files::{Task, MOST_COST};
 use crate::reference::generate::{self, origin_file, plan_file, task_file, Random};
 use crate::reference::marking::marking;
@@ -26,17 +26,17 @@ pub fn needed(task: &Task, level: u32) -> Lengths {
         task_file(&reduced).len(),
         origin_file(&origin).len(),
         state_count(&reduced).unwrap_or(0),
-        plan_length(task),
+        planned(task, 1).len(),
     ]
 }
 
-/// 0 where there is no plan.
-fn plan_length(task: &Task) -> usize {
+/// The file of the plan that the search finds, empty where there is none.
+pub(super) fn planned(task: &Task, signer: u32) -> Vec<u8> {
     let [mut actions, mut facts, mut reduced, mut origin, _, mut plan_file] =
         LONG.map(|length| vec![0; length]);
     let planned = plan(
         &task_file(task),
-        1,
+        signer,
         &mut actions,
         &mut facts,
         &mut reduced,
@@ -44,7 +44,8 @@ fn plan_length(task: &Task) -> usize {
         &mut [Entry::NONE; MOST_STATES],
         &mut plan_file,
     );
-    planned.plan
+    plan_file.truncate(planned.plan);
+    plan_file
 }
 
 /// One buffer after the other in every length up to one past the needed one,
@@ -57,12 +58,16 @@ pub fn every_length(comparison: &mut Comparison, random: &mut Random, task: &Tas
 
 /// The same around the needed lengths.
 pub fn lengths_around(comparison: &mut Comparison, random: &mut Random, task: &Task) {
-    one_length_other(comparison, random, task, |needed| {
-        let below = needed.saturating_sub(1);
-        let mut lengths = vec![0, needed / 2, below, needed, needed + 1];
-        lengths.dedup();
-        lengths
-    });
+    one_length_other(comparison, random, task, around);
+    pages::lengths_around(comparison, random, task);
+}
+
+/// 0, the half of the length, and those around it.
+pub(super) fn around(needed: usize) -> Vec<usize> {
+    let below = needed.saturating_sub(1);
+    let mut lengths = vec![0, needed / 2, below, needed, needed + 1];
+    lengths.dedup();
+    lengths
 }
 
 fn one_length_other(
@@ -144,16 +149,16 @@ pub fn damaged(comparison: &mut Comparison, random: &mut Random, task: &Task) {
     let plan = plan_file(&generate::plan(random, task));
     let origin = origin_file(&generate::origin(random));
     comparison.check_origin(&origin);
-    comparison.check_plan(&whole, &plan);
-    comparison.check_plan(&whole, &origin);
-    comparison.check_plan(&plan, &whole);
+    pages::as_it_is(comparison, random, &whole, &plan);
+    pages::as_it_is(comparison, random, &whole, &origin);
+    pages::as_it_is(comparison, random, &plan, &whole);
 
     let file = damaged_file(random, &whole);
     task_file_as_it_is(comparison, random, &file);
-    comparison.check_plan(&file, &plan);
+    pages::as_it_is(comparison, random, &file, &plan);
     let plan = damaged_file(random, &plan);
-    comparison.check_plan(&whole, &plan);
-    comparison.check_plan(&file, &plan);
+    pages::as_it_is(comparison, random, &whole, &plan);
+    pages::as_it_is(comparison, random, &file, &plan);
     let origin = damaged_file(random, &origin);
     comparison.check_origin(&origin);
 }
@@ -199,9 +204,9 @@ pub fn arbitrary(comparison: &mut Comparison, random: &mut Random) {
     let file = arbitrary_file(random);
     let other = arbitrary_file(random);
     task_file_as_it_is(comparison, random, &file);
-    comparison.check_plan(&file, &other);
+    pages::as_it_is(comparison, random, &file, &other);
     let task = task_file(&generate::small(random));
-    comparison.check_plan(&task, &other);
+    pages::as_it_is(comparison, random, &task, &other);
 }
 
 fn arbitrary_file(random: &mut Random) -> Vec<u8> {
@@ -269,10 +274,12 @@ pub fn every_byte(comparison: &mut Comparison, random: &mut Random, task: &Task)
     let (_, origin) = reduction(task, &marking(task, 4).kept, 1);
     let origin = origin_file(&origin);
     for_every_byte(&file, |file| {
-        comparison.check_plan(file, &plan);
+        pages::as_it_is(comparison, random, file, &plan);
         task_file_as_it_is(comparison, random, file);
     });
-    for_every_byte(&plan, |plan| comparison.check_plan(&file, plan));
+    for_every_byte(&plan, |plan| {
+        pages::as_it_is(comparison, random, &file, plan);
+    });
     for_every_byte(&origin, |origin| comparison.check_origin(origin));
     for end in 0..=file.len() {
         task_file_as_it_is(comparison, random, &file[..end]);
@@ -307,4 +314,5 @@ pub fn any(comparison: &mut Comparison, random: &mut Random) {
     }
     let small = generate::small(random);
     every_length(comparison, random, &small);
+    pages::every_length(comparison, random, &small);
 }

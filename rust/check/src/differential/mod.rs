@@ -2,13 +2,14 @@
 //! buffers, and all that they hand back compared.
 
 pub mod cases;
+pub mod pages;
 
 use std::collections::BTreeMap;
 
 use shortest::lent::{self as library, Answer};
 use shortest::{Entry, Outcome};
 
-use crate::buffers::{Mark, Plan, Reduce};
+use crate::buffers::{Mark, Plan, Reduce, Sheet};
 use crate::reference;
 
 /// Lengths lent: action marks, fact marks, reduced, origin, table, plan. A
@@ -123,6 +124,25 @@ impl Comparison {
         });
     }
 
+    pub fn sheet(&mut self, task: &[u8], plan: &[u8], length: usize) {
+        let run = |sheet: Sheet| {
+            let mut page = Lent::of(length, byte);
+            let answer = sheet(task, plan, page.lend());
+            (answer, page)
+        };
+        let expected = run(reference::sheet);
+        let found = run(library::sheet);
+        self.count("sheet", expected.0.outcome, expected == found, || {
+            let answers = format!("{:?}\n{:?}", expected.0, found.0);
+            let page = first_difference("page", &expected.1 .0, &found.1 .0).unwrap_or_default();
+            format!(
+                "{answers}\n{page}\nlength {length}\n{}\n{}",
+                hex(task),
+                hex(plan)
+            )
+        });
+    }
+
     fn count(
         &mut self,
         call: &'static str,
@@ -165,6 +185,16 @@ impl<T> Lent<T> {
     }
 }
 
+/// No mark and no character of a page is such a byte.
+fn byte(place: usize) -> u8 {
+    0x80 | (place % 127) as u8
+}
+
+/// No cost to the goal is such a number.
+fn entry(place: usize) -> Entry {
+    Entry::new(1 << 60 | place as u64, 0xA000 | place as u16)
+}
+
 /// The five buffers of bytes, and the table.
 #[derive(PartialEq)]
 struct Buffers {
@@ -176,9 +206,6 @@ impl Buffers {
     /// The first `count` buffers in these lengths, the others empty.
     fn of(lengths: Lengths, count: usize) -> Buffers {
         let length = |place: usize| if place < count { lengths[place] } else { 0 };
-        // No mark is such a byte, and no cost to the goal such a number.
-        let byte = |place| 0x80 | (place % 127) as u8;
-        let entry = |place| Entry::new(1 << 60 | place as u64, 0xA000 | place as u16);
         Buffers {
             bytes: [0, 1, 2, 3, 5].map(|place| Lent::of(length(place), byte)),
             table: Lent::of(length(4), entry),

@@ -9,9 +9,11 @@ pub mod outcome;
 pub mod plans;
 pub mod reduction;
 pub mod search;
+pub mod sheet;
 
 pub use files::{check_origin, check_task};
 pub use marking::mark;
 pub use plans::check_plan;
 pub use reduction::reduce;
 pub use search::plan;
+pub use sheet::sheet;
