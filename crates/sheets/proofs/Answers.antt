@@ -22,7 +22,7 @@ module _ (task plan : List ℕ) where
   abbrev row : Outcome
   row = outcomeOf (checkStages task plan)
 
-  checker-listed : listed (checkRefusals task plan) (checkPlan task plan .outcome) ≡ true
+  pub checker-listed : listed (checkRefusals task plan) (checkPlan task plan .outcome) ≡ true
   unfolding withTotal
   checker-listed =
       let answers = check-answers task plan in

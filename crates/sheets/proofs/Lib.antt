@@ -3,4 +3,5 @@ pub mod LineLaws
 pub mod StepLaws
 pub mod Right
 pub mod Answers
+pub mod CallLaws
 pub mod Examples

@@ -93,11 +93,13 @@ module _ (minutes : ℕ → ℕ) where
       unfolding stepLines placed
       writing-ends h = sym (ap (λ (l : List ℕ). placed page (33 * i) (stepLines minutes i total l)) (drop-of-length-le plan h)) ∙ w .rest
 
-      -- the step that is due
-      module _ (h : i < length plan) (few : length plan ≤ 4096) (a : ℕ) (is : a ≡ stepOf plan i) (known : stepOf plan i < 512) (cheap : minutes (stepOf plan i) ≤ 1000000) where
-        pub due-fits : NumbersFit (i + 1) a (minutes a) (total + minutes a)
+      -- the step that is due, and its minutes
+      module _ (h : i < length plan) (few : length plan ≤ 4096) (a m : ℕ) (is : a ≡ stepOf plan i) (takes : m ≡ minutes a) (known : stepOf plan i < 512) (cheap : minutes (stepOf plan i) ≤ 1000000) where
+        most : m ≤ 1000000
+        most = omega (arith, takes ∙ ap minutes is, cheap)
+
+        pub due-fits : NumbersFit (i + 1) a m (total + m)
         due-fits =
-            let most : minutes a ≤ 1000000 = subst (λ (n : ℕ). minutes n ≤ 1000000) (sym is) cheap in
             record {
               stepFits = omega (arith, h, few);
               actionFits = omega (arith, is, known);
@@ -105,17 +107,18 @@ module _ (minutes : ℕ → ℕ) where
               totalFits = omega (arith, h, few, w .sum, most);
             }
 
-        pub writing-next : (next : List ℕ) → next ≡ placed page (33 * i) (stepLine (i + 1) a (minutes a) (total + minutes a)) → Writing page₀ plan next (i + 1) (total + minutes a)
+        pub writing-next : (next : List ℕ) → next ≡ placed page (33 * i) (stepLine (i + 1) a m (total + m)) → Writing page₀ plan next (i + 1) (total + m)
         unfolding stepLines
         writing-next next e =
-            let line = stepLine (i + 1) a (minutes a) (total + minutes a) in
-            let long = step-is-line (i + 1) a (minutes a) (total + minutes a) due-fits .long in
+            let line = stepLine (i + 1) a m (total + m) in
+            let long = step-is-line (i + 1) a m (total + m) due-fits .long in
             let left : drop i plan ≡ a ∷ drop (i + 1) plan = drop-cons plan i 0 h ∙ ap₂ (λ (x n : ℕ). x ∷ drop n plan) (sym is) (sym (add-one i)) in
-            let most : minutes a ≤ 1000000 = subst (λ (n : ℕ). minutes n ≤ 1000000) (sym is) cheap in
+            let lines : line ++ stepLines minutes (i + 1) (total + m) (drop (i + 1) plan) ≡ stepLines minutes i total (drop i plan) =
+            ap (λ (x : ℕ). stepLine (i + 1) a x (total + x) ++ stepLines minutes (i + 1) (total + x) (drop (i + 1) plan)) takes ∙ sym (ap (stepLines minutes i total) left) in
             record {
               rest =
-                  placed-then page next (33 * i) (33 * (i + 1)) line (stepLines minutes (i + 1) (total + minutes a) (drop (i + 1) plan)) e (omega (arith, long))
-                  ∙ sym (ap (λ (p : List ℕ). placed page (33 * i) (stepLines minutes i total p)) left)
+                  placed-then page next (33 * i) (33 * (i + 1)) line (stepLines minutes (i + 1) (total + m) (drop (i + 1) plan)) e (omega (arith, long))
+                  ∙ ap (placed page (33 * i)) lines
                   ∙ w .rest;
               sum = omega (arith, w .sum, most);
               within = omega (arith, h);

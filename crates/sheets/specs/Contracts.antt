@@ -16,11 +16,10 @@ pub record LineFits (page : List ℕ) (at step action minutes total : ℕ) : Typ
   pub numbers : NumbersFit step action minutes total
   pub room : at + 33 ≤ length page
 
--- steps that an array of costs knows, few and cheap, and a page with room for their lines
+-- few steps, of known actions whose costs are within the limit, and a page with room for their lines
 pub record StepsFit (page plan costs : List ℕ) : Type 0 where
   pub few : length plan ≤ 4096
-  pub known : (i : ℕ) → i < length plan → stepOf plan i < length costs
-  pub small : (i : ℕ) → i < length plan → stepOf plan i < 512
+  pub known : (i : ℕ) → i < length plan → stepOf plan i < 512
   pub cheap : (i : ℕ) → i < length plan → getD costs (stepOf plan i) 0 ≤ 1000000
   pub room : 33 * length plan ≤ length page
 

@@ -3,6 +3,7 @@ ghost use mathlib.Core.Path.{_≡_};
 ghost use Prim.Native.Nat.{_+_, _≤_};
 ghost use lib.ListN.{length, getD};
 ghost use Rattle.files.specs.Bytes.{placed};
+ghost use Rattle.files.specs.Contracts.{IsBelow};
 ghost use Rattle.files.specs.PlanFile.{planOf};
 ghost use Rattle.digits.specs.Decimal.{ascii};
 ghost use Rattle.sheets.specs.Contracts.{LineFits, StepsFit, SignerFits};
@@ -27,8 +28,15 @@ fn put_step(page: &mut [u8], at: usize, step: u64, action: u64, minutes: u64, to
     page[at + 32] = LINE_FEED;
 }
 
+// The minutes of a cost.
+fn minutes_of(cost: u32) -> u64
+    ensures { λ r. ⌜ IsBelow r cost 4294967296 ⌝ }
+{
+    cost as u64
+}
+
 // Writes a line for each step of a plan file, from the page's start on.
-pub fn put_steps(page: &mut [u8], plan: &[u8], costs: &[u32])
+pub fn put_steps(page: &mut [u8], plan: &[u8], costs: &[u32; 512])
     requires { ⌜ StepsFit (now page) (planOf (now plan)) (now costs) ⌝ }
     ensures { λ r. ⌜ now (page .exit) ≡ placed (now (page .entry)) 0 (stepLines (λ a. getD (now (costs .entry)) a 0) 0 0 (planOf (now (plan .entry)))) ⌝ }
 {
@@ -38,7 +46,7 @@ pub fn put_steps(page: &mut [u8], plan: &[u8], costs: &[u32])
     let mut i: usize = 0;
     while i < count {
         let action = files::plan::step(plan, i);
-        let minutes = costs[action.0 as usize] as u64;
+        let minutes = minutes_of(costs[action.0 as usize]);
         total += minutes;
         put_step(
             page,

@@ -27,24 +27,25 @@ loop-holds c = writing-begins _ _ _
 step-requires : tie.Need-step-requires Inv-loop μ-loop
 step-requires c κs = omega (arith, c .before .before .before .steps .ensures .is)
 
-cast-minutes : tie.Need-cast-minutes Inv-loop μ-loop
-cast-minutes c = search needs
+cast-minutes-of : tie.Need-cast-minutes-of Inv-loop μ-loop
+cast-minutes-of c = search needs
 
-mul-minutes : tie.Need-mul-minutes Inv-loop μ-loop
-mul-minutes c = search needs
+mul-minutes-of : tie.Need-mul-minutes-of Inv-loop μ-loop
+mul-minutes-of c = search needs
 
-shared-slice-read-minutes : tie.Need-shared-slice-read-minutes Inv-loop μ-loop
-shared-slice-read-minutes c = 
-    let start = c .before .before .before .before .before .before .before .before .before .before in
-    let l = c .before .before .before .before .loop in
-    let below : l .i < length (planOf (now (start .args .plan))) = omega (arith, c .before .before .before .before .before .before .steps .ensures .is, c .before .before .before .loop-test .taken) in
-    omega (arith, start .pre .known (l .i) below, c .before .before .step .ensures)
+element-copy-out-minutes-of : tie.Need-element-copy-out-minutes-of Inv-loop μ-loop
+element-copy-out-minutes-of c =
+    let start = c .before .before .before .before .before .before .before .before in
+    let l = c .before .before .before .loop in
+    let plan = planOf (now (start .args .plan)) in
+    let below : l .i < length plan = omega (arith, c .before .before .before .before .before .steps .ensures .is, c .before .before .loop-test .taken) in
+    omega (arith, start .pre .known (l .i) below, c .before .step .ensures)
 
-cast-minutes-2 : tie.Need-cast-minutes-2 Inv-loop μ-loop
-cast-minutes-2 c = omega (arith, c .shared-slice-known3 .given (c .before .before .step .result .0))
+minutes-of-requires : tie.Need-minutes-of-requires Inv-loop μ-loop
+minutes-of-requires c κs = search needs
 
 add-total : tie.Need-add-total Inv-loop μ-loop
-add-total c = omega (arith, c .shared-slice-known3 .given (c .before .before .step .result .0), c .before .before .before .before .loop .inv .sum, c .before .before .before .before .loop .inv .within, c .before .before .before .before .before .before .before .before .before .before .pre .few)
+add-total c = omega (arith, c .minutes-of .ensures .below, c .before .before .before .before .before .loop .inv .sum, c .before .before .before .before .before .loop .inv .within, c .before .before .before .before .before .before .before .before .before .before .pre .few)
 
 mul-put-step : tie.Need-mul-put-step Inv-loop μ-loop
 mul-put-step c = search needs
@@ -56,15 +57,13 @@ cast-put-step : tie.Need-cast-put-step Inv-loop μ-loop
 cast-put-step c = search needs
 
 put-step-requires : tie.Need-put-step-requires Inv-loop μ-loop
-put-step-requires c κs = 
+put-step-requires c κs =
     let start = c .before .before .before .before .before .before .before .before .before .before .before .before in
-    let l = c .before .before .before .before .before .before .loop in
+    let l = c .before .before .before .before .before .before .before .loop in
     let plan = planOf (now (start .args .plan)) in
-    let below : l .i < length plan = omega (arith, c .before .before .before .before .before .before .before .before .steps .ensures .is, c .before .before .before .before .before .loop-test .taken) in
-    let known = start .pre .small (l .i) below in
-    let cheap = start .pre .cheap (l .i) below in
+    let below : l .i < length plan = omega (arith, c .before .before .before .before .before .before .before .before .before .steps .ensures .is, c .before .before .before .before .before .before .loop-test .taken) in
     record {
-      numbers = due-fits (λ (a : ℕ). getD (now (start .args .costs)) a 0) _ plan _ (l .i) (l .total) (l .inv) below (start .pre .few) (c .before .before .before .before .step .result .0) (c .before .before .before .before .step .ensures) known cheap;
+      numbers = due-fits (λ (a : ℕ). getD (now (start .args .costs)) a 0) _ plan _ (l .i) (l .total) (l .inv) below (start .pre .few) _ _ (c .before .before .before .before .before .step .ensures) (c .before .before .minutes-of .ensures .is) (start .pre .known (l .i) below) (start .pre .cheap (l .i) below);
       room = omega (arith, l .inv .long, start .pre .room, below);
     }
 
@@ -75,14 +74,12 @@ loop-less : tie.Need-loop-less Inv-loop μ-loop
 loop-less c = search needs
 
 loop-again : tie.Need-loop-again Inv-loop μ-loop
-loop-again c = 
+loop-again c =
     let start = c .before .before .before .before .before .before .before .before .before .before .before .before .before .before .before in
-    let l = c .before .before .before .before .before .before .before .before .before .loop in
+    let l = c .before .before .before .before .before .before .before .before .before .before .loop in
     let plan = planOf (now (start .args .plan)) in
-    let below : l .i < length plan = omega (arith, c .before .before .before .before .before .before .before .before .before .before .before .steps .ensures .is, c .before .before .before .before .before .before .before .before .loop-test .taken) in
-    let known = start .pre .small (l .i) below in
-    let cheap = start .pre .cheap (l .i) below in
-    writing-next (λ (a : ℕ). getD (now (start .args .costs)) a 0) _ plan _ (l .i) (l .total) (l .inv) below (start .pre .few) (c .before .before .before .before .before .before .before .step .result .0) (c .before .before .before .before .before .before .before .step .ensures) known cheap _ (c .before .before .put-step .ensures)
+    let below : l .i < length plan = omega (arith, c .before .before .before .before .before .before .before .before .before .before .before .before .steps .ensures .is, c .before .before .before .before .before .before .before .before .before .loop-test .taken) in
+    writing-next (λ (a : ℕ). getD (now (start .args .costs)) a 0) _ plan _ (l .i) (l .total) (l .inv) below (start .pre .few) _ _ (c .before .before .before .before .before .before .before .before .step .ensures) (c .before .before .before .before .before .minutes-of .ensures .is) (start .pre .known (l .i) below) (start .pre .cheap (l .i) below) _ (c .before .before .put-step .ensures)
 
 same-length : tie.Need-same-length Inv-loop μ-loop
 same-length c = c .before .loop .inv .long
@@ -100,10 +97,10 @@ put-steps-spec =
     cast-count
     loop-holds
     step-requires
-    cast-minutes
-    mul-minutes
-    shared-slice-read-minutes
-    cast-minutes-2
+    cast-minutes-of
+    mul-minutes-of
+    element-copy-out-minutes-of
+    minutes-of-requires
     add-total
     mul-put-step
     add-put-step
