@@ -2,6 +2,7 @@
 mod lines;
 
 ghost use mathlib.Core.Path.{_≡_};
+ghost use Rattle.files.specs.Outcome.{done, andThen, fits};
 ghost use Rattle.sheets.specs.Sheet.{LaysSheet, noSheet};
 use files::outcomes;
 use plans::Minutes;
@@ -21,15 +22,11 @@ pub fn sheet(task: &[u8], plan: &[u8], page: &mut [u8]) -> Laid
     ensures { λ r. ⌜ LaysSheet (now (task .entry)) (now (plan .entry)) (now (page .entry)) r (now (page .exit)) ⌝ }
 {
     let checked = plans::check_plan(task, plan);
-    let outcome = checked.outcome;
-    if outcome.number != 0 {
-        return refused(outcome);
-    }
-    let cost = checked.cost;
     let steps = checked.steps;
     let needed = lines::LINE * (steps.0 as usize + 1);
-    if page.len() < needed {
-        return refused(outcomes::refuse(outcomes::SHORT_BUFFER, needed));
+    let outcome = outcome_of(checked.outcome, needed, page.len());
+    if outcome.number != 0 {
+        return refused(outcome);
     }
     let mut costs = [0u32; 512];
     files::decode::read_costs(task, &mut costs);
@@ -39,12 +36,26 @@ pub fn sheet(task: &[u8], plan: &[u8], page: &mut [u8]) -> Laid
         needed - lines::LINE,
         files::records::signer(plan) as u64,
     );
+    let cost = checked.cost;
     Laid {
         outcome: outcome,
         page: needed,
         cost: cost,
         steps: steps,
     }
+}
+
+// The plan checker's refusal, then that of a page buffer of `room` bytes for `needed` bytes.
+fn outcome_of(checked: files::Outcome, needed: usize, room: usize) -> files::Outcome
+    ensures { λ r. ⌜ r ≡ andThen checked (fits needed room done) ⌝ }
+{
+    if checked.number != 0 {
+        return checked;
+    }
+    if room < needed {
+        return outcomes::refuse(outcomes::SHORT_BUFFER, needed);
+    }
+    outcomes::done()
 }
 
 // A refusal has no page, no cost and no steps.

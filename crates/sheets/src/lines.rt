@@ -47,15 +47,16 @@ pub fn put_steps(page: &mut [u8], plan: &[u8], costs: &[u32; 512])
     while i < count {
         let action = files::plan::step(plan, i);
         let minutes = minutes_of(costs[action.0 as usize]);
-        total += minutes;
+        let sum = total + minutes;
         put_step(
             page,
             LINE * i,
             (i + 1) as u64,
             action.0 as u64,
             minutes,
-            total,
+            sum,
         );
+        total = sum;
         i += 1;
     }
 }

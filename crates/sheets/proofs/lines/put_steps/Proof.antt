@@ -44,8 +44,8 @@ element-copy-out-minutes-of c =
 minutes-of-requires : tie.Need-minutes-of-requires Inv-loop μ-loop
 minutes-of-requires c κs = search needs
 
-add-total : tie.Need-add-total Inv-loop μ-loop
-add-total c = omega (arith, c .minutes-of .ensures .below, c .before .before .before .before .before .loop .inv .sum, c .before .before .before .before .before .loop .inv .within, c .before .before .before .before .before .before .before .before .before .before .pre .few)
+add-sum : tie.Need-add-sum Inv-loop μ-loop
+add-sum c = omega (arith, c .minutes-of .ensures .below, c .before .before .before .before .before .loop .inv .sum, c .before .before .before .before .before .loop .inv .within, c .before .before .before .before .before .before .before .before .before .before .pre .few)
 
 mul-put-step : tie.Need-mul-put-step Inv-loop μ-loop
 mul-put-step c = search needs
@@ -101,7 +101,7 @@ put-steps-spec =
     mul-minutes-of
     element-copy-out-minutes-of
     minutes-of-requires
-    add-total
+    add-sum
     mul-put-step
     add-put-step
     cast-put-step
