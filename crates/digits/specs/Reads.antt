@@ -1,9 +1,6 @@
 -- What is promised of decimal digits: they state the number, and no number has a shorter text.
 use Prim.Native.Nat.{ℕ, _≤_, _<_, _^_}
 use mathlib.Core.Path.{_≡_}
-use mathlib.Core.Bool.{true, _&&_}
-use mathlib.Core.List.{List}
-use lib.Dec.{leb}
 use lib.ListN.{length, getD}
 use Rattle.digits.specs.Decimal.{decimal, numberOf}
 

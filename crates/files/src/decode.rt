@@ -1,9 +1,9 @@
 // An accepted task file into dense arrays: a number per variable and action, and for each action
 // a row of 64 cells, one per variable, in which 255 stands for no pair.
 ghost use mathlib.Core.Path.{_≡_};
-ghost use Prim.Native.Nat.{_+_, _*_, _^_, _≤_};
+ghost use Prim.Native.Nat.{_+_, _*_, _^_, _≤_, _<_};
 ghost use lib.ListN.{length};
-ghost use Rattle.files.specs.Bytes.{placed};
+ghost use Rattle.files.specs.Bytes.{u32At, placed};
 ghost use Rattle.files.specs.Contracts.{Readable, VariableRoom, VariablesRead, ActionRoom, ActionRead, ActionsRoom, ActionsRead, fileArrays, TaskRead, CostsOf};
 ghost use Rattle.files.specs.Records.{offsetLimit};
 ghost use Rattle.files.specs.Rows.{cleared, stored, filled, storedCosts};
@@ -73,6 +73,14 @@ fn read_variables(sizes: &mut [u8], starts: &mut [u8], s: &[u8], count: usize)
     }
 }
 
+// The cost of the action record at `at`.
+fn cost_at(s: &[u8], at: usize) -> u32
+    requires { ⌜ at < offsetLimit ⌝ }
+    ensures { λ r. ⌜ r ≡ u32At (now (s .entry)) (at + 4) ⌝ }
+{
+    bytes::u32_at(s, at + 4) as u32
+}
+
 // The cost, the conditions and the effects of the action record at `at`, as those of action `a`.
 fn read_action(
     costs: &mut [u32],
@@ -86,7 +94,7 @@ fn read_action(
     ensures { λ r. ⌜ ActionRead (now (s .entry)) at a (now (costs .entry)) (now (conditions .entry)) (now (effects .entry)) (now (costs .exit)) (now (conditions .exit)) (now (effects .exit)) ⌝ }
 {
     let base = limits::ROW * a;
-    costs[a] = bytes::u32_at(s, at + 4) as u32;
+    costs[a] = cost_at(s, at);
     clear_row(conditions, base);
     fill_row(conditions, base, s, at + 12, task::conditions_in(s, at));
     clear_row(effects, base);
@@ -162,7 +170,7 @@ fn costs_from(costs: &mut [u32], s: &[u8], at: usize, count: usize)
     let mut place = at;
     let mut left = count;
     while 0 < left {
-        costs[a] = bytes::u32_at(s, place + 4) as u32;
+        costs[a] = cost_at(s, place);
         place = reader::record_after(s, place);
         a += 1;
         left -= 1;

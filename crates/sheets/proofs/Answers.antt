@@ -3,10 +3,9 @@ use Prim.Native.Nat.{ℕ}
 use mathlib.Core.Path.{_≡_, refl, ap, _∙_}
 use mathlib.Core.Bool.{true}
 use mathlib.Core.List.{List, [], _∷_}
-use lib.ListN.{length}
 use Rattle.files.specs.declared.Outcome.{Outcome}
 use Rattle.files.specs.Listed.{listed, short}
-use Rattle.files.specs.Outcome.{done, isDone, fits}
+use Rattle.files.specs.Outcome.{isDone, fits}
 use Rattle.files.specs.PlanFile.{planOf}
 use Rattle.files.specs.Stages.{outcomeOf}
 use Rattle.files.proofs.Listed.{listed-done, listed-front, listed-behind, listed-guard, listed-both, listed-at}

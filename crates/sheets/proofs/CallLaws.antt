@@ -1,7 +1,7 @@
 -- The call's answer by its stages: what the plan checker or a short page refuses, and a page that is written.
 use Prim.Native.Nat.{ℕ, _+_, _-_, _*_, _^_, _≤_, _<_}
 use mathlib.Core.Path.{_≡_, refl, sym, ap, ap₂, _∙_}
-use mathlib.Core.Bool.{true, false}
+use mathlib.Core.Bool.{true}
 use mathlib.Core.List.{List, _++_}
 use native.Mathlib.Omega.{arith}
 use lib.Dec.{leb}
@@ -34,7 +34,7 @@ use Rattle.sheets.specs.Contracts.{StepsFit}
 use Rattle.sheets.specs.Sheet.{stepLines, signedLine, sheetOf, pageLength, sheetWhole, noSheet, LaysSheet}
 use Rattle.sheets.proofs.Answers.{checker-listed}
 use Rattle.sheets.proofs.LineLaws.{signed-is-line}
-use Rattle.sheets.proofs.StepLaws.{Shown, lines-length, lines-alike}
+use Rattle.sheets.proofs.StepLaws.{lines-length, lines-alike}
 
 module _ (task plan : List ℕ) (checked : Checked) (is : checked ≡ checkPlan task plan) where
   number : checked .outcome .number ≡ checkPlan task plan .outcome .number

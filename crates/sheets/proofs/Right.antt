@@ -1,12 +1,12 @@
 -- The page shows the plan, line by line, and every line has its exact form.
 use Prim.Native.Nat.{ℕ, zero, suc, _+_, _*_, _^_, _≤_, _<_}
-use mathlib.Core.Path.{_≡_, refl, sym, ap, subst, _∙_}
+use mathlib.Core.Path.{_≡_, sym, ap, subst, _∙_}
 use mathlib.Core.Bool.{true}
-use mathlib.Core.List.{List, [], _∷_, _++_}
+use mathlib.Core.List.{List, [], _∷_}
 use native.Mathlib.Numerals.{add-one}
 use native.Mathlib.Omega.{arith}
 use lib.Dec.{leb, ltb}
-use lib.ListN.{length, take, drop, length-append, length-take}
+use lib.ListN.{length, take, length-append, length-take}
 use lib.Seq.{take-all, take-length, drop-at}
 use borrow.Author.Tests.{leb-true, ltb-true}
 use Rattle.files.specs.Accepted.{validSigner, acceptedTask, acceptedPlan}

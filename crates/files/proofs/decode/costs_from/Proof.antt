@@ -24,14 +24,8 @@ abbrev μ-loop : tie.MeasureT-loop
 loop-holds : tie.Need-loop-holds Inv-loop μ-loop
 loop-holds c = search needs
 
-add-u32-at : tie.Need-add-u32-at Inv-loop μ-loop
-add-u32-at c = search needs
-
-u32-at-requires : tie.Need-u32-at-requires Inv-loop μ-loop
-u32-at-requires c κs = search needs
-
-cast-costs : tie.Need-cast-costs Inv-loop μ-loop
-cast-costs c = search needs
+cost-at-requires : tie.Need-cost-at-requires Inv-loop μ-loop
+cost-at-requires c κs = search needs
 
 mul-costs : tie.Need-mul-costs Inv-loop μ-loop
 mul-costs c = search needs
@@ -54,7 +48,7 @@ loop-less c = search needs
 loop-again : tie.Need-loop-again Inv-loop μ-loop
 loop-again c =
     let v = c .before .before .before .loop in
-    (search costs-next, omega arith, length-set (v .costs) (v .a) (c .before .u32-at .result) ∙ v .inv .2)
+    (search costs-next, omega arith, length-set (v .costs) (v .a) (c .before .cost-at .result) ∙ v .inv .2)
 
 same-length : tie.Need-same-length Inv-loop μ-loop
 same-length c = c .before .loop .inv .2
@@ -69,9 +63,7 @@ costs-from-spec =
     Inv-loop
     μ-loop
     loop-holds
-    add-u32-at
-    u32-at-requires
-    cast-costs
+    cost-at-requires
     mul-costs
     slice-write-costs
     record-after-requires

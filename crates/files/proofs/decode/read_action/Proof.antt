@@ -7,14 +7,8 @@ use Rattle.files.proofs.decode.read_action.Tie as tie
 mul-base : tie.Need-mul-base
 mul-base c = search needs
 
-add-u32-at : tie.Need-add-u32-at
-add-u32-at c = search needs
-
-u32-at-requires : tie.Need-u32-at-requires
-u32-at-requires c κs = search needs
-
-cast-costs : tie.Need-cast-costs
-cast-costs c = search needs
+cost-at-requires : tie.Need-cost-at-requires
+cost-at-requires c κs = search needs
 
 mul-costs : tie.Need-mul-costs
 mul-costs c = search needs
@@ -63,9 +57,7 @@ read-action-spec =
     tie.close
     (tie.spec
     mul-base
-    add-u32-at
-    u32-at-requires
-    cast-costs
+    cost-at-requires
     mul-costs
     slice-write-costs
     clear-row-requires
