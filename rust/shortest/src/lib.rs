@@ -7,13 +7,15 @@
 //! let planned = shortest::plan(&task, 1)?;
 //! assert_eq!((planned.steps.len(), planned.cost), (0, 0));
 //! assert_eq!(shortest::check_plan(&task, &planned.file)?.cost, 0);
+//! let sheet = shortest::sheet(&task, &planned.file)?;
+//! assert_eq!(sheet.page, format!("SIGNED{:26}\n", 1));
 //!
 //! let refused = shortest::plan(&task[..20], 1).unwrap_err();
 //! assert_eq!((refused.number, refused.place), (1, 12));
 //! # Ok::<(), shortest::Outcome>(())
 //! ```
 //!
-//! The calls use up to about 550 KiB of the stack. [`lent`] has the same calls
+//! The calls use up to about 575 KiB of the stack. [`lent`] has the same calls
 //! on the caller's own buffers; they allocate nothing, and after a refusal the
 //! buffers hold what the stages before it gave.
 
