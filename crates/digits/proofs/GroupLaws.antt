@@ -8,7 +8,7 @@ use Rattle.digits.specs.Decimal.{digits, decimal}
 use Rattle.digits.specs.Groups.{packedDigits, three}
 use Rattle.digits.proofs.DecimalLaws.{digits-last, digits-more, digits-fuel, digits-length}
 
--- ---- numbers below 1,000
+-- numbers below 1,000
 
 pub decimal-one : (n : ℕ) → n < 10 → decimal n ≡ (48 + n) ∷ []
 unfolding decimal
@@ -40,7 +40,7 @@ three-length n = refl
 pub front-three : (n : ℕ) → 100 ≤ n → n < 1000 → 3 ≡ length (decimal n)
 front-three n l h = sym (ap (λ (r : List ℕ). length r) (decimal-front n l h) ∙ three-length n)
 
--- ---- one group more
+-- one group more
 
 pub decimal-length : (n : ℕ) → length (decimal n) ≤ 20
 unfolding decimal
@@ -70,7 +70,7 @@ decimal-next-length n l h =
     ∙ length-append (decimal (n / 1000)) (three (n % 1000))
     ∙ ap (λ (k : ℕ). length (decimal (n / 1000)) + k) (three-length (n % 1000))
 
--- ---- the digits out of a packed number
+-- the digits out of a packed number
 
 packed-apart : (h t u : ℕ) → t < 16 → u < 16 → ((h * 256 + t * 16 + u) / 256 ≡ h) × ((h * 256 + t * 16 + u) / 16 % 16 ≡ t) × ((h * 256 + t * 16 + u) % 16 ≡ u)
 packed-apart h t u b c = (omega (arith, b, c), omega (arith, b, c), omega (arith, b, c))

@@ -13,7 +13,7 @@ use Rattle.digits.specs.Decimal.{decimal, column}
 use Rattle.digits.specs.Groups.{packedDigits, three}
 use Rattle.digits.proofs.GroupLaws.{decimal-one, decimal-two, decimal-front, decimal-length, decimal-next, decimal-next-length, packed-hundreds, packed-tens, packed-units, packed-two, packed-one}
 
--- ---- runs of stores
+-- runs of stores
 
 pub sets-append : (b : List ℕ) (at : ℕ) (xs ys : List ℕ) → sets b at (xs ++ ys) ≡ sets (sets b at xs) (at + length xs) ys
 sets-append b at [] ys = ap (λ (n : ℕ). sets b n ys) (sym (add-zero at))
@@ -35,7 +35,7 @@ sets-swap b at p [] ys h = refl
 sets-swap b at p (x ∷ xs) ys h =
     ap (λ (l : List ℕ). sets l (suc at) xs) (sets-set b at x p ys (omega (arith, h))) ∙ sets-swap (set b at x) (suc at) p xs ys (omega (arith, h))
 
--- ---- a number below 1,000: `d` is what `packed` answers
+-- a number below 1,000: `d` is what `packed` answers
 
 pub hundreds-fit : (n d : ℕ) → d ≡ packedDigits n → n < 1000 → Fits w8 (48 + d / 256)
 hundreds-fit n d e h =
@@ -79,7 +79,7 @@ front-one-put b at n d e h =
     let units : d ≡ n = e ∙ packed-one n (omega (arith, h)) in
     rw (decimal-one n (omega (arith, h)), units) refl
 
--- ---- loops: what is still to be stored makes of the buffer what was to be made, `whole`
+-- loops: what is still to be stored makes of the buffer what was to be made, `whole`
 
 pub group-put : (b last whole : List ℕ) (at end rest : ℕ) → sets b at (decimal rest) ≡ whole → at + length (decimal rest) ≡ end → 999 < rest → rest < 2 ^ 64
     → last ≡ sets b (end - 3) (three (rest % 1000)) → sets last at (decimal (rest / 1000)) ≡ whole
@@ -117,7 +117,7 @@ column-put b blanks last at width count n c e f =
     ∙ ap (λ (k : ℕ). sets (sets b at (replicate (width - length (decimal n)) 32)) (at + k) (decimal n)) (sym (length-replicate (width - length (decimal n)) 32))
     ∙ sym (sets-append b at (replicate (width - length (decimal n)) 32) (decimal n))
 
--- ---- the call: the digits at the front of a buffer of 20 bytes, `r` of them
+-- the call: the digits at the front of a buffer of 20 bytes, `r` of them
 
 pub decimal-whole : (old new : List ℕ) (r n : ℕ) → length old ≡ 20 → r ≡ length (decimal n) → new ≡ sets old 0 (decimal n) → new ≡ decimal n ++ drop r old
 decimal-whole old new r n l c e =

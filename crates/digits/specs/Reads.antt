@@ -1,4 +1,4 @@
--- What is promised of decimal digits: they state the number, and no number has a shorter text.
+-- What is promised of decimal digits: they state the number, the first is no spare zero, and there are few of them.
 use Prim.Native.Nat.{ℕ, _≤_, _<_, _^_}
 use mathlib.Core.Path.{_≡_}
 use lib.ListN.{length, getD}
