@@ -7,9 +7,8 @@ use lib.ListN.{set}
 use borrow.Author.Tests.{lt-ltb, le-ltb}
 use Rattle.files.specs.Bytes.{u16At, u32At, placed}
 use Rattle.files.specs.Contracts.{ActionRead}
-use Rattle.files.specs.Records.{recordEnd}
-use Rattle.files.specs.TaskFile.{pairsFrom, variablesFrom, actionFrom, actionsFrom, conditionsIn, effectsIn, effectsPlace}
-use Rattle.files.specs.Rows.{cleared, stored, filled, storedSizes, storedStarts, storedCosts}
+use Rattle.files.specs.TaskFile.{pairsFrom, variablesFrom, conditionsIn, effectsIn, effectsPlace}
+use Rattle.files.specs.Rows.{cleared, stored, filled, storedSizes, storedStarts}
 use Rattle.files.proofs.Countdown.{one-more, none-left}
 
 pub cleared-next : (row whole : List ℕ) (at k : ℕ) → cleared row at k ≡ whole → 0 < k → cleared (set row at 255) (at + 1) (k - 1) ≡ whole
@@ -65,28 +64,15 @@ pub starts-none : (b whole : List ℕ) (i : ℕ) (s : List ℕ) (at k : ℕ) →
 unfolding placed storedStarts variablesFrom
 starts-none b whole i s at k w h = sym (ap (λ (n : ℕ). placed b i (storedStarts (variablesFrom s at n))) (none-left k h)) ∙ w
 
--- a cell for each action
-pub costs-next : (b whole : List ℕ) (a : ℕ) (s : List ℕ) (at next k x : ℕ) → placed b a (storedCosts (actionsFrom s at k)) ≡ whole → 0 < k → x ≡ u32At s (at + 4) → next ≡ recordEnd s at
-    → placed (set b a x) (a + 1) (storedCosts (actionsFrom s next (k - 1))) ≡ whole
-unfolding placed storedCosts actionsFrom actionFrom
-costs-next b whole a s at next k x w h e n =
-    ap₂ (λ (y p : ℕ). placed (set b a y) (a + 1) (storedCosts (actionsFrom s p (k - 1)))) e n
-    ∙ sym (ap (λ (m : ℕ). placed b a (storedCosts (actionsFrom s at m))) (one-more k h))
-    ∙ w
-
-pub costs-none : (b whole : List ℕ) (a : ℕ) (s : List ℕ) (at k : ℕ) → placed b a (storedCosts (actionsFrom s at k)) ≡ whole → k ≤ 0 → b ≡ whole
-unfolding placed storedCosts actionsFrom
-costs-none b whole a s at k w h = sym (ap (λ (n : ℕ). placed b a (storedCosts (actionsFrom s at n))) (none-left k h)) ∙ w
-
 -- an action's entry and rows
-pub action-read : (s : List ℕ) (at a : ℕ) (costs conditions effects : List ℕ) (base cost : ℕ) (blank conditions′ : List ℕ) (count : ℕ) (blank′ effects′ : List ℕ) (from count′ : ℕ)
-    → base ≡ 64 * a → cost ≡ u32At s (at + 4) → count ≡ conditionsIn s at → from ≡ effectsPlace s at → count′ ≡ effectsIn s at
+pub action-read : (s : List ℕ) (at a : ℕ) (costs conditions effects : List ℕ) (base : ℕ) (costs′ blank conditions′ : List ℕ) (count : ℕ) (blank′ effects′ : List ℕ) (from count′ : ℕ)
+    → base ≡ 64 * a → costs′ ≡ set costs a (u32At s (at + 4)) → count ≡ conditionsIn s at → from ≡ effectsPlace s at → count′ ≡ effectsIn s at
     → blank ≡ cleared conditions base 64 → conditions′ ≡ filled blank base (pairsFrom s (at + 12) count)
     → blank′ ≡ cleared effects base 64 → effects′ ≡ filled blank′ base (pairsFrom s from count′)
-    → ActionRead s at a costs conditions effects (set costs a cost) conditions′ effects′
-action-read s at a costs conditions effects base cost blank conditions′ count blank′ effects′ from count′ eb ec en ef em e₁ e₂ e₃ e₄ =
+    → ActionRead s at a costs conditions effects costs′ conditions′ effects′
+action-read s at a costs conditions effects base costs′ blank conditions′ count blank′ effects′ from count′ eb ec en ef em e₁ e₂ e₃ e₄ =
     record {
-      costRead = ap (set costs a) ec;
+      costRead = ec;
       conditionsRead = cc;
       effectsRead = cc;
     }

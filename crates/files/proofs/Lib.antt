@@ -33,6 +33,7 @@ pub mod Steps
 pub mod RunLaws
 pub mod Decoding
 pub mod ActionsReading
+pub mod CostsReading
 pub mod ReaderCall
 pub mod LendOn
 -- bytes, numbers and records that stand in a file

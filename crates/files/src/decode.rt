@@ -1,8 +1,8 @@
 // An accepted task file into dense arrays: a number per variable and action, and for each action
 // a row of 64 cells, one per variable, in which 255 stands for no pair.
 ghost use mathlib.Core.Path.{_≡_};
-ghost use Prim.Native.Nat.{_+_, _*_, _^_, _≤_, _<_};
-ghost use lib.ListN.{length};
+ghost use Prim.Native.Nat.{_+_, _*_, _^_, _≤_};
+ghost use lib.ListN.{length, set};
 ghost use Rattle.files.specs.Bytes.{u32At, placed};
 ghost use Rattle.files.specs.Contracts.{Readable, VariableRoom, VariablesRead, ActionRoom, ActionRead, ActionsRoom, ActionsRead, fileArrays, TaskRead, CostsOf};
 ghost use Rattle.files.specs.Records.{offsetLimit};
@@ -73,12 +73,12 @@ fn read_variables(sizes: &mut [u8], starts: &mut [u8], s: &[u8], count: usize)
     }
 }
 
-// The cost of the action record at `at`.
-fn cost_at(s: &[u8], at: usize) -> u32
-    requires { ⌜ at < offsetLimit ⌝ }
-    ensures { λ r. ⌜ r ≡ u32At (now (s .entry)) (at + 4) ⌝ }
+// The cost of the action record at `at`, as that of action `a`.
+fn read_cost(costs: &mut [u32], s: &[u8], at: usize, a: usize)
+    requires { ⌜ Readable (a + 1) (now costs) at offsetLimit ⌝ }
+    ensures { λ r. ⌜ now (costs .exit) ≡ set (now (costs .entry)) a (u32At (now (s .entry)) (at + 4)) ⌝ }
 {
-    bytes::u32_at(s, at + 4) as u32
+    costs[a] = bytes::u32_at(s, at + 4) as u32;
 }
 
 // The cost, the conditions and the effects of the action record at `at`, as those of action `a`.
@@ -94,7 +94,7 @@ fn read_action(
     ensures { λ r. ⌜ ActionRead (now (s .entry)) at a (now (costs .entry)) (now (conditions .entry)) (now (effects .entry)) (now (costs .exit)) (now (conditions .exit)) (now (effects .exit)) ⌝ }
 {
     let base = limits::ROW * a;
-    costs[a] = cost_at(s, at);
+    read_cost(costs, s, at, a);
     clear_row(conditions, base);
     fill_row(conditions, base, s, at + 12, task::conditions_in(s, at));
     clear_row(effects, base);
@@ -166,14 +166,12 @@ fn costs_from(costs: &mut [u32], s: &[u8], at: usize, count: usize)
     requires { ⌜ Readable count (now costs) (at + 65540 * count) offsetLimit ⌝ }
     ensures { λ r. ⌜ now (costs .exit) ≡ placed (now (costs .entry)) 0 (storedCosts (actionsFrom (now (s .entry)) at count)) ⌝ }
 {
+    let mut reader = Reader { file: s, at };
     let mut a: usize = 0;
-    let mut place = at;
-    let mut left = count;
-    while 0 < left {
-        costs[a] = cost_at(s, place);
-        place = reader::record_after(s, place);
+    while a < count {
+        read_cost(costs, s, reader.at, a);
+        reader = reader::past(reader);
         a += 1;
-        left -= 1;
     }
 }
 

@@ -1,4 +1,4 @@
--- The entry is written and each row is cleared and filled.
+-- The cost is read, and each row is cleared and filled.
 use borrow.Author.Needs.{needs}
 use Rattle.files.proofs.Decoding.{action-read}
 use Rattle.files.proofs.decode.read_action.Statement.{statement}
@@ -7,14 +7,8 @@ use Rattle.files.proofs.decode.read_action.Tie as tie
 mul-base : tie.Need-mul-base
 mul-base c = search needs
 
-cost-at-requires : tie.Need-cost-at-requires
-cost-at-requires c κs = search needs
-
-mul-costs : tie.Need-mul-costs
-mul-costs c = search needs
-
-slice-write-costs : tie.Need-slice-write-costs
-slice-write-costs c = search needs
+read-cost-requires : tie.Need-read-cost-requires
+read-cost-requires c κs = search needs
 
 clear-row-requires : tie.Need-clear-row-requires
 clear-row-requires c κs = search needs
@@ -57,9 +51,7 @@ read-action-spec =
     tie.close
     (tie.spec
     mul-base
-    cost-at-requires
-    mul-costs
-    slice-write-costs
+    read-cost-requires
     clear-row-requires
     add-fill-row
     conditions-in-requires
