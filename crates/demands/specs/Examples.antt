@@ -3,7 +3,7 @@ use Prim.Native.Nat.{ℕ}
 use mathlib.Core.List.{List, [], _∷_, _++_}
 use lib.ListN.{replicate}
 use Rattle.files.specs.Bytes.{u16Bytes}
-use Rattle.files.specs.Examples.{fileE, fileWithoutLine, fileLampAlone, outcomeParts, Case, case}
+use Rattle.files.specs.Examples.{fileE, fileWithoutLine, fileLampAlone, used, outcomeParts, Case, case}
 use Rattle.files.specs.Records.{recordBytes}
 use Rattle.files.specs.TaskFile.{checkTask}
 use Rattle.files.specs.PlanFile.{planFile}
@@ -41,10 +41,6 @@ checkNumbers c = outcomeParts (c .outcome) ++ (c .cost .0 ∷ c .steps .0 ∷ []
 
 abbrev pub planNumbers : Planned → List ℕ
 planNumbers p = outcomeParts (p .outcome) ++ (p .cost .0 ∷ p .steps .0 ∷ [])
-
--- buffers that held 9 before
-abbrev pub used : ℕ → List ℕ
-used n = replicate n 9
 
 -- buffers for a small task
 abbrev pub smallBuffers : Lent

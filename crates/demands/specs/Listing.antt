@@ -18,16 +18,16 @@ unfoldable pub line : String → ℕ → String → ℕ → List ℕ
 line first m second n = ascii first ++ decimal m ++ ascii second ++ decimal n ++ ascii "\n"
 
 -- a line a step, with its original number
-unfoldable pub stepLines : List ℕ → List ℕ
-stepLines [] = []
-stepLines (a ∷ steps) = ascii "step " ++ decimal a ++ ascii "\n" ++ stepLines steps
+unfoldable pub printedSteps : List ℕ → List ℕ
+printedSteps [] = []
+printedSteps (a ∷ steps) = ascii "step " ++ decimal a ++ ascii "\n" ++ printedSteps steps
 
 -- counts of variables and actions, those of the kept, the steps, cost and steps
 unfoldable pub planLines : List ℕ → Planned → List ℕ
 planLines task p =
     line "task " (variableCount (taskOf task)) " " (actionCount (taskOf task))
     ++ line "kept " (variableCount (searched task)) " " (actionCount (searched task))
-    ++ stepLines (planMade task)
+    ++ printedSteps (planMade task)
     ++ line "cost " (p .cost .0) " steps " (p .steps .0)
 
 -- the program's buffers, of the largest lengths (`Ample`)

@@ -3,6 +3,7 @@ use Prim.Native.Nat.{ℕ}
 use mathlib.Core.Bool.{Bool}
 use mathlib.Core.List.{List, [], _∷_, _++_}
 use lib.Dec.{eqb}
+use lib.ListN.{replicate}
 use Rattle.files.specs.declared.Outcome.{Outcome}
 use Rattle.files.specs.Below.{sameList}
 use Rattle.files.specs.Task.{Pair, Variable, Action, pair, variable, action}
@@ -40,6 +41,10 @@ fileWithoutLine = taskFile (record { variables = variablesE; goal = goalE; actio
 
 abbrev pub fileLampAlone : List ℕ
 fileLampAlone = taskFile (record { variables = variablesE; goal = pair 1 1 ∷ []; actions = lineActions ++ otherActions }) 7
+
+-- buffers that held 9 before
+abbrev pub used : ℕ → List ℕ
+used n = replicate n 9
 
 -- an outcome as numbers
 abbrev pub outcomeParts : Outcome → List ℕ

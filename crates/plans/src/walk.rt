@@ -2,7 +2,7 @@
 ghost use mathlib.Core.Path.{_≡_};
 ghost use Prim.Native.Nat.{ℕ};
 ghost use mathlib.Core.List.{List};
-ghost use Rattle.files.specs.Contracts.{IsBelow, ActionWithin};
+ghost use Rattle.files.specs.Contracts.{ActionWithin};
 ghost use Rattle.files.specs.Dense.{held, arrays, rowAction, rowPairs};
 ghost use Rattle.files.specs.PlanFile.{planOf};
 ghost use Rattle.plans.specs.Check.{withTotal, walkAnswer};
@@ -18,6 +18,7 @@ use crate::tally::Row;
 use crate::tally::Tally;
 use files::limits;
 use files::outcomes;
+use files::units::minutes_of;
 
 // A refusal has no cost and no steps.
 pub fn refused(outcome: files::Outcome) -> Checked
@@ -28,13 +29,6 @@ pub fn refused(outcome: files::Outcome) -> Checked
         cost: Minutes(0),
         steps: Steps(0),
     }
-}
-
-// The cost of an action as minutes.
-fn minutes_of(cost: u32) -> Minutes
-    ensures { λ r. ⌜ IsBelow (r .0) cost 4294967296 ⌝ }
-{
-    Minutes(cost as u64)
 }
 
 // The row of an action.

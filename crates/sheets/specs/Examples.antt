@@ -2,19 +2,15 @@
 use Prim.Native.Nat.{ℕ}
 use mathlib.Core.List.{List, [], _∷_, _++_}
 use lib.ListN.{replicate}
-use Rattle.files.specs.Examples.{fileE, fileLampAlone, outcomeParts, Case, case}
+use Rattle.files.specs.Examples.{fileE, fileLampAlone, used, outcomeParts, Case, case}
 use Rattle.files.specs.PlanFile.{planFile}
 use Rattle.digits.specs.Decimal.{ascii}
 use Rattle.sheets.specs.declared.Laid.{Laid}
 use Rattle.sheets.specs.Sheet.{sheetAnswer, sheetPage}
 
 -- outcome, page bytes, cost and steps
-abbrev pub laidNumbers : Laid → List ℕ
-laidNumbers l = outcomeParts (l .outcome) ++ (l .page ∷ l .cost .0 ∷ l .steps .0 ∷ [])
-
--- a page buffer that held 9s
-abbrev pub used : ℕ → List ℕ
-used n = replicate n 9
+abbrev pub sheetNumbers : Laid → List ℕ
+sheetNumbers l = outcomeParts (l .outcome) ++ (l .page ∷ l .cost .0 ∷ l .steps .0 ∷ [])
 
 -- plan 2, 0 under signer 7
 abbrev pub planE : List ℕ
@@ -31,14 +27,14 @@ sheetE =
 unfoldable pub cases : List Case
 cases =
     -- plan 2, 0: 99 bytes, cost 3, steps 2; the last two of 101 bytes are untouched
-    case (laidNumbers (sheetAnswer fileE planE (used 101))) (0 ∷ 0 ∷ 0 ∷ 99 ∷ 3 ∷ 2 ∷ [])
+    case (sheetNumbers (sheetAnswer fileE planE (used 101))) (0 ∷ 0 ∷ 0 ∷ 99 ∷ 3 ∷ 2 ∷ [])
     ∷ case (sheetPage fileE planE (used 101)) (sheetE ++ used 2)
     -- a page of 98 bytes: 21 at 99, and the page untouched
-    ∷ case (laidNumbers (sheetAnswer fileE planE (used 98))) (21 ∷ 0 ∷ 99 ∷ 0 ∷ 0 ∷ 0 ∷ [])
+    ∷ case (sheetNumbers (sheetAnswer fileE planE (used 98))) (21 ∷ 0 ∷ 99 ∷ 0 ∷ 0 ∷ 0 ∷ [])
     ∷ case (sheetPage fileE planE (used 98)) (used 98)
     -- plan 0, no page: 22 at 0 stands before 21
-    ∷ case (laidNumbers (sheetAnswer fileE (planFile (0 ∷ []) 7) [])) (22 ∷ 0 ∷ 0 ∷ 0 ∷ 0 ∷ 0 ∷ [])
+    ∷ case (sheetNumbers (sheetAnswer fileE (planFile (0 ∷ []) 7) [])) (22 ∷ 0 ∷ 0 ∷ 0 ∷ 0 ∷ 0 ∷ [])
     -- goal lamp=1 alone, the empty plan: the signed line alone
-    ∷ case (laidNumbers (sheetAnswer fileLampAlone (planFile [] 7) (used 33))) (0 ∷ 0 ∷ 0 ∷ 33 ∷ 0 ∷ 0 ∷ [])
+    ∷ case (sheetNumbers (sheetAnswer fileLampAlone (planFile [] 7) (used 33))) (0 ∷ 0 ∷ 0 ∷ 33 ∷ 0 ∷ 0 ∷ [])
     ∷ case (sheetPage fileLampAlone (planFile [] 7) (used 33)) (ascii "SIGNED" ++ replicate 25 32 ++ ascii "7\n")
     ∷ []

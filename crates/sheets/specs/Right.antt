@@ -7,10 +7,15 @@ use lib.Dec.{eqb, leb}
 use lib.ListN.{length, getD, take, drop}
 use Rattle.files.specs.Accepted.{validSigner, acceptedTask, acceptedPlan}
 use Rattle.files.specs.Below.{anyOf}
+use Rattle.files.specs.Bytes.{Octets}
+use Rattle.files.specs.Outcome.{done}
+use Rattle.files.specs.PlanFile.{planOf}
+use Rattle.files.specs.Records.{signerOf}
 use Rattle.files.specs.Task.{Task, actionCount, actionOf}
+use Rattle.files.specs.TaskFile.{taskOf}
 use Rattle.plans.specs.Plan.{totalOf, stepOf}
 use Rattle.digits.specs.Decimal.{ascii}
-use Rattle.sheets.specs.Sheet.{stepLine, signedLine, sheetOf}
+use Rattle.sheets.specs.Sheet.{stepLine, signedLine, sheetOf, sheetOutcome, sheetAnswer, sheetPage}
 
 -- line k: bytes 33k to 33k + 32
 abbrev pub lineOf : List ℕ → ℕ → List ℕ
@@ -45,3 +50,14 @@ abbrev pub SheetsRight : Type 0
 SheetsRight =
     (t : Task) (plan : List ℕ) (signer : ℕ) → acceptedTask t ≡ true → acceptedPlan (actionCount t) plan ≡ true → validSigner signer ≡ true
     → SheetRight t plan signer
+
+-- of the files handed in: where the call is done, the page's front is the sheet of the plan file's plan, under its signer
+pub record PageRight (task plan page : List ℕ) : Type 0 where
+  pub right : SheetRight (taskOf task) (planOf plan) (signerOf plan)
+  pub front : take (sheetAnswer task plan page .page) (sheetPage task plan page) ≡ sheetOf (taskOf task) (planOf plan) (signerOf plan)
+  -- and cost and steps are the plan's
+  pub cost : sheetAnswer task plan page .cost .0 ≡ totalOf (taskOf task) (planOf plan) .minutes
+  pub steps : sheetAnswer task plan page .steps .0 ≡ length (planOf plan)
+
+abbrev pub PagesRight : Type 0
+PagesRight = (task plan page : List ℕ) → Octets task → Octets plan → sheetOutcome task plan page ≡ done → PageRight task plan page

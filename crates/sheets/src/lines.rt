@@ -3,12 +3,15 @@ ghost use mathlib.Core.Path.{_≡_};
 ghost use Prim.Native.Nat.{_+_, _≤_};
 ghost use lib.ListN.{length, getD};
 ghost use Rattle.files.specs.Bytes.{placed};
-ghost use Rattle.files.specs.Contracts.{IsBelow};
 ghost use Rattle.files.specs.PlanFile.{planOf};
 ghost use Rattle.digits.specs.Decimal.{ascii};
 ghost use Rattle.sheets.specs.Contracts.{LineFits, StepsFit, SignerFits};
 ghost use Rattle.sheets.specs.Sheet.{stepLine, stepLines, signedLine};
 use digits::columns;
+use files::units::minutes_of;
+use plans::Minutes;
+use plans::OriginalAction;
+use plans::Steps;
 
 // How many bytes a line has.
 pub const LINE: usize = 33;
@@ -16,23 +19,23 @@ pub const LINE: usize = 33;
 const LINE_FEED: u8 = 10;
 
 // Writes the line of a step: its number, its action, its minutes and the running total.
-fn put_step(page: &mut [u8], at: usize, step: u64, action: u64, minutes: u64, total: u64)
-    requires { ⌜ LineFits (now page) at step action minutes total ⌝ }
-    ensures { λ r. ⌜ now (page .exit) ≡ placed (now (page .entry)) at (stepLine step action minutes total) ⌝ }
+fn put_step(
+    page: &mut [u8],
+    at: usize,
+    step: Steps,
+    action: OriginalAction,
+    minutes: Minutes,
+    total: Minutes,
+)
+    requires { ⌜ LineFits (now page) at (step .0) (action .0) (minutes .0) (total .0) ⌝ }
+    ensures { λ r. ⌜ now (page .exit) ≡ placed (now (page .entry)) at (stepLine (step .0) (action .0) (minutes .0) (total .0)) ⌝ }
 {
-    columns::put_column(page, at, 4, step);
+    columns::put_column(page, at, 4, step.0 as u64);
     columns::put_blanks(page, at + 4, 2);
-    columns::put_column(page, at + 6, 5, action);
-    columns::put_column(page, at + 11, 9, minutes);
-    columns::put_column(page, at + 20, 12, total);
+    columns::put_column(page, at + 6, 5, action.0 as u64);
+    columns::put_column(page, at + 11, 9, minutes.0);
+    columns::put_column(page, at + 20, 12, total.0);
     page[at + 32] = LINE_FEED;
-}
-
-// The minutes of a cost.
-fn minutes_of(cost: u32) -> u64
-    ensures { λ r. ⌜ IsBelow r cost 4294967296 ⌝ }
-{
-    cost as u64
 }
 
 // Writes a line for each step of a plan file, from the page's start on.
@@ -42,20 +45,13 @@ pub fn put_steps(page: &mut [u8], plan: &[u8], costs: &[u32; 512])
 {
     let steps = files::plan::steps(plan);
     let count = steps.0 as usize;
-    let mut total: u64 = 0;
+    let mut total = Minutes(0);
     let mut i: usize = 0;
     while i < count {
         let action = files::plan::step(plan, i);
         let minutes = minutes_of(costs[action.0 as usize]);
-        let sum = total + minutes;
-        put_step(
-            page,
-            LINE * i,
-            (i + 1) as u64,
-            action.0 as u64,
-            minutes,
-            sum,
-        );
+        let sum = Minutes(total.0 + minutes.0);
+        put_step(page, LINE * i, Steps((i + 1) as u16), action, minutes, sum);
         total = sum;
         i += 1;
     }

@@ -95,6 +95,7 @@ fn crowded_counter(random: &mut Random) -> Task {
 
 struct Calls {
     check: fn(&[u8]) -> Answer,
+    check_plan: fn(&[u8], &[u8]) -> Answer,
     mark: Mark,
     reduce: Reduce,
     plan: Plan,
@@ -104,6 +105,7 @@ struct Calls {
 impl Calls {
     const LIBRARY: Calls = Calls {
         check: library::check_task,
+        check_plan: library::check_plan,
         mark: library::mark,
         reduce: library::reduce,
         plan: library::plan,
@@ -111,6 +113,7 @@ impl Calls {
     };
     const REFERENCE: Calls = Calls {
         check: |file| Answer::from(reference::check_task(file)),
+        check_plan: reference::check_plan,
         mark: reference::mark,
         reduce: reference::reduce,
         plan: reference::plan,
@@ -177,6 +180,10 @@ fn measure_sheet() {
         "\nsheet of {} steps: {} bytes",
         laid_out.steps, laid_out.page
     );
+    let check = pair(|calls| {
+        black_box((calls.check_plan)(black_box(&task), black_box(&plan)));
+    });
+    print("check plan", check);
     let sheet = pair(|calls| {
         black_box((calls.sheet)(black_box(&task), black_box(&plan), page));
     });

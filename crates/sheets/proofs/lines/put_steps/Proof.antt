@@ -10,7 +10,7 @@ use Rattle.sheets.proofs.lines.put_steps.Statement.{statement}
 use Rattle.sheets.proofs.lines.put_steps.Tie as tie
 
 abbrev Inv-loop : tie.InvT-loop
-Inv-loop page₀ plan costs count total₀ i₀ page total i = Writing (λ (a : ℕ). getD costs a 0) page₀ (planOf plan) page i total
+Inv-loop page₀ plan costs count total₀ i₀ page total i = Writing (λ (a : ℕ). getD costs a 0) page₀ (planOf plan) page i (total .0)
 
 abbrev μ-loop : tie.MeasureT-loop
 μ-loop page₀ plan costs count total₀ i₀ page total i = count - i
@@ -44,26 +44,26 @@ element-copy-out-minutes-of c =
 minutes-of-requires : tie.Need-minutes-of-requires Inv-loop μ-loop
 minutes-of-requires c κs = search needs
 
-add-sum : tie.Need-add-sum Inv-loop μ-loop
-add-sum c = omega (arith, c .minutes-of .ensures .below, c .before .before .before .before .before .loop .inv .sum, c .before .before .before .before .before .loop .inv .within, c .before .before .before .before .before .before .before .before .before .before .pre .few)
+add-t17 : tie.Need-add-t17 Inv-loop μ-loop
+add-t17 c = omega (arith, c .before .before .minutes-of .ensures .below, c .before .before .before .before .before .before .before .loop .inv .sum, c .before .before .before .before .before .before .before .loop .inv .within, c .before .before .before .before .before .before .before .before .before .before .before .before .pre .few)
 
 mul-put-step : tie.Need-mul-put-step Inv-loop μ-loop
 mul-put-step c = search needs
 
-add-put-step : tie.Need-add-put-step Inv-loop μ-loop
-add-put-step c = search needs
+add-t13 : tie.Need-add-t13 Inv-loop μ-loop
+add-t13 c = search needs
 
-cast-put-step : tie.Need-cast-put-step Inv-loop μ-loop
-cast-put-step c = search needs
+cast-t21 : tie.Need-cast-t21 Inv-loop μ-loop
+cast-t21 c = search needs
 
 put-step-requires : tie.Need-put-step-requires Inv-loop μ-loop
 put-step-requires c κs =
-    let start = c .before .before .before .before .before .before .before .before .before .before .before .before in
-    let l = c .before .before .before .before .before .before .before .loop in
+    let start = c .before .before .before .before .before .before .before .before .before .before .before .before .before in
+    let l = c .before .before .before .before .before .before .before .before .loop in
     let plan = planOf (now (start .args .plan)) in
-    let below : l .i < length plan = omega (arith, c .before .before .before .before .before .before .before .before .before .steps .ensures .is, c .before .before .before .before .before .before .loop-test .taken) in
+    let below : l .i < length plan = omega (arith, c .before .before .before .before .before .before .before .before .before .before .steps .ensures .is, c .before .before .before .before .before .before .before .loop-test .taken) in
     record {
-      numbers = due-fits (λ (a : ℕ). getD (now (start .args .costs)) a 0) _ plan _ (l .i) (l .total) (l .inv) below (start .pre .few) _ _ (c .before .before .before .before .before .step .ensures) (c .before .before .minutes-of .ensures .is) (start .pre .known (l .i) below) (start .pre .cheap (l .i) below);
+      numbers = due-fits (λ (a : ℕ). getD (now (start .args .costs)) a 0) _ plan _ (l .i) (l .total .0) (l .inv) below (start .pre .few) _ _ (c .before .before .before .before .before .before .step .ensures) (c .before .before .before .minutes-of .ensures .is) (start .pre .known (l .i) below) (start .pre .cheap (l .i) below);
       room = omega (arith, l .inv .long, start .pre .room, below);
     }
 
@@ -75,11 +75,11 @@ loop-less c = search needs
 
 loop-again : tie.Need-loop-again Inv-loop μ-loop
 loop-again c =
-    let start = c .before .before .before .before .before .before .before .before .before .before .before .before .before .before .before in
-    let l = c .before .before .before .before .before .before .before .before .before .before .loop in
+    let start = c .before .before .before .before .before .before .before .before .before .before .before .before .before .before .before .before in
+    let l = c .before .before .before .before .before .before .before .before .before .before .before .loop in
     let plan = planOf (now (start .args .plan)) in
-    let below : l .i < length plan = omega (arith, c .before .before .before .before .before .before .before .before .before .before .before .before .steps .ensures .is, c .before .before .before .before .before .before .before .before .before .loop-test .taken) in
-    writing-next (λ (a : ℕ). getD (now (start .args .costs)) a 0) _ plan _ (l .i) (l .total) (l .inv) below (start .pre .few) _ _ (c .before .before .before .before .before .before .before .before .step .ensures) (c .before .before .before .before .before .minutes-of .ensures .is) (start .pre .known (l .i) below) (start .pre .cheap (l .i) below) _ (c .before .before .put-step .ensures)
+    let below : l .i < length plan = omega (arith, c .before .before .before .before .before .before .before .before .before .before .before .before .before .steps .ensures .is, c .before .before .before .before .before .before .before .before .before .before .loop-test .taken) in
+    writing-next (λ (a : ℕ). getD (now (start .args .costs)) a 0) _ plan _ (l .i) (l .total .0) (l .inv) below (start .pre .few) _ _ (c .before .before .before .before .before .before .before .before .before .step .ensures) (c .before .before .before .before .before .before .minutes-of .ensures .is) (start .pre .known (l .i) below) (start .pre .cheap (l .i) below) _ (c .before .before .put-step .ensures)
 
 same-length : tie.Need-same-length Inv-loop μ-loop
 same-length c = c .before .loop .inv .long
@@ -101,10 +101,10 @@ put-steps-spec =
     mul-minutes-of
     element-copy-out-minutes-of
     minutes-of-requires
-    add-sum
+    add-t17
     mul-put-step
-    add-put-step
-    cast-put-step
+    add-t13
+    cast-t21
     put-step-requires
     add-i
     loop-less
