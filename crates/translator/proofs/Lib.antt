@@ -1,0 +1,5 @@
+-- Laws about the crate's definitions.
+pub mod Written
+pub mod Traces
+pub mod Computes
+pub mod Examples

@@ -1,0 +1,8 @@
+-- The definitions of the crate.
+pub mod Sas
+pub mod Stated
+pub mod Fields
+pub mod Format
+pub mod Text
+pub mod Right
+pub mod Examples

@@ -1,0 +1,2 @@
+// Tasks from the translator's text.
+mod fields;
