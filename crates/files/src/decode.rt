@@ -17,7 +17,7 @@ use crate::records;
 use crate::task;
 
 // Clears the row of 64 cells at `base`.
-fn clear_row(row: &mut [u8], base: usize)
+pub fn clear_row(row: &mut [u8], base: usize)
     requires { ⌜ base + 64 ≤ length (now row) ⌝ }
     ensures { λ r. ⌜ now (row .exit) ≡ cleared (now (row .entry)) base 64 ⌝ }
 {
@@ -31,7 +31,7 @@ fn clear_row(row: &mut [u8], base: usize)
 }
 
 // Stores a value in the cell of a variable below 64.
-fn store(row: &mut [u8], base: usize, variable: usize, value: usize)
+pub fn store(row: &mut [u8], base: usize, variable: usize, value: usize)
     requires { ⌜ base + 64 ≤ length (now row) ⌝ }
     ensures { λ r. ⌜ now (row .exit) ≡ stored (now (row .entry)) base variable value ⌝ }
 {

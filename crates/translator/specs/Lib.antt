@@ -4,5 +4,6 @@ pub mod Stated
 pub mod Fields
 pub mod Format
 pub mod Text
+pub mod Contracts
 pub mod Right
 pub mod Examples

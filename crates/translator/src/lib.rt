@@ -1,2 +1,2 @@
 // Tasks from the translator's text.
-mod fields;
+pub mod fields;
