@@ -6,5 +6,6 @@ pub mod WordLaws
 pub mod NumeralLaws
 pub mod NumberLaws
 pub mod LineLaws
+pub mod FieldLaws
 pub mod Computes
 pub mod Examples

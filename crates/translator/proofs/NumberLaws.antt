@@ -19,7 +19,7 @@ use Rattle.translator.specs.Fields.{byteAt, isDigit, digitsLength, numer
 use Rattle.translator.specs.Sas.{numeral}
 use Rattle.translator.proofs.FrontLaws.{Agree, agree-first, agree-past, passing, passing-whole, passing-within, passing-pass, passing-agree}
 use Rattle.translator.proofs.WordLaws.{guard-goes, guard-stops, guard-done, byte-read, byte-back, byte-form, byte-agree}
-use Rattle.translator.proofs.NumeralLaws.{Plain, between-digit, numeral-reads, numeral-plain, numeral-only}
+use Rattle.translator.proofs.NumeralLaws.{Plain, plain-first, between-digit, numeral-reads, numeral-plain, numeral-only}
 
 digits-passing : (r : List ℕ) → digitsLength r ≡ passing isDigit r
 unfolding digitsLength
@@ -94,19 +94,29 @@ module _ (b : ℕ) (fails : isDigit b ≡ false) where
   ends-append : (n : ℕ) (rest : List ℕ) → ends n ++ rest ≡ numeral n ++ (b ∷ rest)
   ends-append n rest = append-assoc (numeral n) (b ∷ []) rest
 
-  pub number-ends : (n : ℕ) (rest : List ℕ) → numeralLength (ends n ++ rest) ≡ length (numeral n)
-  number-ends n rest = ap numeralLength (ends-append n rest) ∙ numeral-whole (numeral n) b rest (numeral-plain n) fails
+  number-count : (n : ℕ) (rest : List ℕ) → numeralLength (ends n ++ rest) ≡ length (numeral n)
+  number-count n rest = ap numeralLength (ends-append n rest) ∙ numeral-whole (numeral n) b rest (numeral-plain n) fails
+
+  pub number-ends : (n : ℕ) (rest : List ℕ) → numeralLength (ends n ++ rest) + 1 ≡ length (ends n)
+  number-ends n rest = omega (arith, number-count n rest, length-append (numeral n) (b ∷ []))
+
+  -- a number begins with a digit
+  pub number-first : (n : ℕ) (rest : List ℕ) → 48 ≤ getD (ends n ++ rest) 0 0
+  number-first n rest =
+      let plain = numeral-plain n in
+      let first : getD (ends n ++ rest) 0 0 ≡ getD (numeral n) 0 0 = ap (λ (r : List ℕ). getD r 0 0) (ends-append n rest) ∙ List·getD-append (numeral n) (b ∷ rest) 0 0 (plain .some) in
+      omega (arith, first, plain-first (numeral n) plain)
 
   pub number-states : (n : ℕ) (rest : List ℕ) → numeralValue (ends n ++ rest) ≡ n
   unfolding numeralValue
   number-states n rest =
-      ap numberOf (ap (λ (k : ℕ). take k (ends n ++ rest)) (number-ends n rest) ∙ ap (take (length (numeral n))) (ends-append n rest) ∙ take-append-seam (numeral n) (b ∷ rest))
+      ap numberOf (ap (λ (k : ℕ). take k (ends n ++ rest)) (number-count n rest) ∙ ap (take (length (numeral n))) (ends-append n rest) ∙ take-append-seam (numeral n) (b ∷ rest))
       ∙ numeral-reads n
 
   pub number-reads : (n : ℕ) (rest : List ℕ) (at : ℕ) → numeralAt b (ends n ++ rest) at ≡ done
   unfolding numeralAt
   number-reads n rest at =
-      let count = number-ends n rest in
+      let count = number-count n rest in
       let past : drop (numeralLength (ends n ++ rest)) (ends n ++ rest) ≡ b ∷ rest =
       ap (λ (k : ℕ). drop k (ends n ++ rest)) count ∙ ap (drop (length (numeral n))) (ends-append n rest) ∙ drop-append-seam (numeral n) (b ∷ rest) in
       guard-goes _ _ _ (le-leb 1 (numeralLength (ends n ++ rest)) (omega (arith, count, numeral-plain n .some)))

@@ -28,6 +28,10 @@ pub between-digit : (b : ℕ) → 48 ≤ b → b ≤ 57 → isDigit b ≡ true
 unfolding isDigit
 between-digit b h k = and-join (le-leb 48 b h) (le-leb b 57 k)
 
+pub plain-first : (ds : List ℕ) → Plain ds → 48 ≤ getD ds 0 0
+plain-first [] plain = absurd (omega (arith, plain .some))
+plain-first (d ∷ ds) plain = digit-between d (and-split (isDigit d) (allOf isDigit ds) (plain .digits) .0) .0
+
 all-digits : (ds : List ℕ) → AreDigits ds → allOf isDigit ds ≡ true
 all-digits [] are = refl
 all-digits (d ∷ ds) are =
