@@ -6,6 +6,9 @@ pub mod WordLaws
 pub mod NumeralLaws
 pub mod NumberLaws
 pub mod LineLaws
+pub mod UnfinishedLaws
+pub mod FlagLaws
+pub mod SignedLaws
 pub mod FieldLaws
 pub mod Computes
 pub mod Examples

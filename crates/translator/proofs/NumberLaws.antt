@@ -1,25 +1,28 @@
 -- Laws of numbers in a text: the numeral at its front, and how a number with its separator is read.
-use Prim.Native.Nat.{ℕ, zero, suc, _+_, _≤_, _<_}
+use Prim.Native.Nat.{ℕ, suc, _+_, _≤_}
 use mathlib.Core.Path.{_≡_, refl, sym, ap, subst, _∙_}
-use mathlib.Core.Bool.{Bool, true, false, cond}
+use mathlib.Core.Bool.{true, false, cond}
 use mathlib.Core.List.{List, [], _∷_, _++_, append-assoc}
 use mathlib.Core.Logic.{_⊎_, inl, inr, ⊎-elim}
 use native.Mathlib.Omega.{arith}
-use native.Mathlib.Nat.{add-zero}
 use lib.Dec.{eqb, leb}
 use lib.ListN.{length, getD, take, drop, length-append, take-append-drop, List·getD-append}
-use lib.Seq.{length-take-le, take-append-seam, take-append-le, take-length, drop-append-seam, drop-drop, getD-take}
-use borrow.Author.Tests.{eq-eqb, ne-eqb, eqb-true, eqb-false, le-leb, leb-true, leb-false}
+use lib.Seq.{length-take-le, take-append-seam, drop-append-seam, drop-drop, getD-take}
+use borrow.Author.Tests.{eqb-true, eqb-false, le-leb, leb-true, leb-false}
 use Rattle.files.specs.Below.{allOf}
-use Rattle.files.specs.declared.Outcome.{Outcome}
 use Rattle.files.specs.Outcome.{done, refusal, guard}
 use Rattle.files.proofs.Logic.{split, split-le, and-join}
 use Rattle.digits.specs.Decimal.{numberOf}
 use Rattle.translator.specs.Fields.{byteAt, isDigit, digitsLength, numeralLength, numeralAt, numeralValue}
-use Rattle.translator.specs.Sas.{numeral}
+use Rattle.translator.specs.Sas.{numeral, Separator, blank, lineFeed, byteOf}
 use Rattle.translator.proofs.FrontLaws.{Agree, agree-first, agree-past, passing, passing-whole, passing-within, passing-pass, passing-agree}
 use Rattle.translator.proofs.WordLaws.{guard-goes, guard-stops, guard-done, byte-read, byte-back, byte-form, byte-agree}
 use Rattle.translator.proofs.NumeralLaws.{Plain, plain-first, between-digit, numeral-reads, numeral-plain, numeral-only}
+
+pub separator-fails : (separator : Separator) → isDigit (byteOf separator) ≡ false
+unfolding isDigit
+separator-fails blank = refl
+separator-fails lineFeed = refl
 
 digits-passing : (r : List ℕ) → digitsLength r ≡ passing isDigit r
 unfolding digitsLength
@@ -68,7 +71,7 @@ numeral-whole ds b rest plain fails =
     (λ first e. e ∙ sym (plain .leading (sym (List·getD-append ds (b ∷ rest) 0 0 (plain .some)) ∙ first)))
     (λ first e. e ∙ passing-whole isDigit ds b rest (plain .digits) fails)
 
-pub numeral-agree : (r s : List ℕ) → Agree (suc (numeralLength r)) s r → numeralLength s ≡ numeralLength r
+numeral-agree : (r s : List ℕ) → Agree (suc (numeralLength r)) s r → numeralLength s ≡ numeralLength r
 numeral-agree r s agree =
     let same : getD s 0 0 ≡ getD r 0 0 = agree-first (numeralLength r) s r agree in
     numeral-cases r

@@ -1,7 +1,7 @@
 -- Laws of numbers in decimal without spare zeros: which digits they are, and that these and no others state the number.
 use Prim.Native.Nat.{ℕ, zero, suc, _+_, _-_, _*_, _/_, _%_, _^_, _≤_, _<_}
 use mathlib.Core.Path.{_≡_, refl, sym, ap, subst, _∙_}
-use mathlib.Core.Bool.{Bool, true, false}
+use mathlib.Core.Bool.{true}
 use mathlib.Core.List.{List, [], _∷_, _++_, append-assoc, append-nil}
 use native.Mathlib.Nat.{pow-suc}
 use native.Mathlib.Omega.{arith}
@@ -20,7 +20,7 @@ pub record Plain (ds : List ℕ) : Type 0 where
   pub some : 0 < length ds
   pub leading : getD ds 0 0 ≡ 48 → length ds ≡ 1
 
-pub digit-between : (b : ℕ) → isDigit b ≡ true → (48 ≤ b) × (b ≤ 57)
+digit-between : (b : ℕ) → isDigit b ≡ true → (48 ≤ b) × (b ≤ 57)
 unfolding isDigit
 digit-between b e = let both = and-split _ _ e in (leb-true 48 b (both .0), leb-true b 57 (both .1))
 

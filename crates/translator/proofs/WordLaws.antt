@@ -1,16 +1,17 @@
 -- Laws of a byte that is due and of words: what is read, and where a text that is no word stops.
-use Prim.Native.Nat.{ℕ, zero, suc, _+_, _≤_}
-use mathlib.Core.Path.{_≡_, refl, sym, ap, subst, _∙_}
+use Prim.Native.Nat.{ℕ, suc, _+_, _≤_}
+use mathlib.Core.Path.{_≡_, refl, sym, ap, _∙_}
 use mathlib.Core.Bool.{Bool, true, false}
 use mathlib.Core.List.{List, [], _∷_, _++_, nil≢cons, head-eq-of-cons-eq, tail-eq-of-cons-eq}
 use mathlib.Core.Logic.{_⊎_, inl, inr, ⊎-elim}
 use native.Mathlib.Omega.{arith}
 use native.Mathlib.Nat.{add-zero}
 use lib.Dec.{eqb}
-use lib.ListN.{length, take, drop}
+use lib.ListN.{length, drop}
 use borrow.Author.Tests.{eq-eqb, eqb-true}
 use Rattle.files.specs.declared.Outcome.{Outcome}
 use Rattle.files.specs.Outcome.{done, refusal, guard}
+use Rattle.files.proofs.Guards.{guard-passes, guard-refuses}
 use Rattle.files.proofs.Logic.{split}
 use Rattle.translator.specs.Fields.{byteAt, wordAt}
 use Rattle.translator.proofs.FrontLaws.{Agree}
@@ -20,12 +21,10 @@ pub refused : {p : ℕ} → done ≡ refusal 31 p → ⊥
 refused e = let z : _≡_ {A = ℕ} 0 31 = ap (λ (o : Outcome). o .number) e in omega (arith, z)
 
 pub guard-goes : (t : Bool) (p : ℕ) (rest : Outcome) → t ≡ true → guard t 31 p rest ≡ rest
-unfolding guard
-guard-goes t p rest e = rw e refl
+guard-goes t p rest e = sym (guard-passes t 31 p rest rest e refl)
 
 pub guard-stops : (t : Bool) (p : ℕ) (rest : Outcome) → t ≡ false → guard t 31 p rest ≡ refusal 31 p
-unfolding guard
-guard-stops t p rest e = rw e refl
+guard-stops t p rest e = sym (guard-refuses t 31 p rest (refusal 31 p) e refl)
 
 pub guard-done : (t : Bool) (p : ℕ) (rest : Outcome) → guard t 31 p rest ≡ done → (t ≡ true) × (rest ≡ done)
 unfolding guard
