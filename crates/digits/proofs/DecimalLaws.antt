@@ -78,7 +78,7 @@ pub decimal-few : (n k : ℕ) → 0 < k → n < 10 ^ k → length (decimal n) �
 unfolding decimal
 decimal-few n k p h = digits-few 20 k n p h
 
-some-digits : (c n : ℕ) → 0 < length (digits (suc c) n)
+pub some-digits : (c n : ℕ) → 0 < length (digits (suc c) n)
 some-digits c n =
     split-below n 10
     (λ l. rw (digits-last c n l) (omega arith))
@@ -100,7 +100,7 @@ snoc-digits xs x before now i h =
     let e : i ≡ length xs = omega (arith, h, length-snoc xs x) in
     subst IsDigit (sym (ap (λ (j : ℕ). getD (xs ++ (x ∷ [])) j 0) e ∙ getD-append-seam xs x [] 0)) now)
 
-digits-are : (c n : ℕ) → AreDigits (digits c n)
+pub digits-are : (c n : ℕ) → AreDigits (digits c n)
 unfolding digits
 digits-are zero n = λ i h. absurd (omega arith)
 digits-are (suc c) n =
@@ -113,7 +113,7 @@ unfolding decimal
 decimal-are n = digits-are 20 n
 
 -- the first digit is 0 in 0 alone
-digits-leading : (c n : ℕ) → 0 < n → n < 10 ^ suc c → 48 < getD (digits (suc c) n) 0 0
+pub digits-leading : (c n : ℕ) → 0 < n → n < 10 ^ suc c → 48 < getD (digits (suc c) n) 0 0
 digits-leading zero n p h = rw (digits-last zero n (omega (arith, h))) (omega arith)
 digits-leading (suc c) n p h =
     split-below n 10
@@ -129,7 +129,7 @@ unfolding numberFrom
 number-snoc a [] d = refl
 number-snoc a (x ∷ xs) d = number-snoc (10 * a + (x - 48)) xs d
 
-digits-read : (c n : ℕ) → n < 10 ^ suc c → numberFrom 0 (digits (suc c) n) ≡ n
+pub digits-read : (c n : ℕ) → n < 10 ^ suc c → numberFrom 0 (digits (suc c) n) ≡ n
 unfolding numberFrom
 digits-read zero n h = ap (numberFrom 0) (digits-last zero n (omega (arith, h))) ∙ omega arith
 digits-read (suc c) n h =
