@@ -2,5 +2,9 @@
 pub mod Written
 pub mod Traces
 pub mod ReadingLaws
+pub mod ReadingSteps
+pub mod ReadingTraces
+pub mod ReadingListed
+pub mod ReadingPlaces
 pub mod Computes
 pub mod Examples
