@@ -6,5 +6,6 @@ pub mod ReadingSteps
 pub mod ReadingTraces
 pub mod ReadingListed
 pub mod ReadingPlaces
+pub mod Right
 pub mod Computes
 pub mod Examples

@@ -35,7 +35,7 @@ fault-listed s givenTwice place h = rw (le-leb place (length s) h) refl
 fault-listed s outsideLimits place h = rw (le-leb place (length s) h) refl
 fault-listed s outOfRange place h = rw (le-leb place (length s) h) refl
 
-cursor-open : (at : ℕ) → isOpen (cursorAt at) ≡ true
+pub cursor-open : (at : ℕ) → isOpen (cursorAt at) ≡ true
 unfolding isOpen isDone
 cursor-open at = refl
 

@@ -57,7 +57,7 @@ take-piece piece s r n e =
     ∙ drop-append-seam piece (take n r)
 
 -- a text that agrees with one on a piece and more begins with the piece
-begins-with : (piece s r : List ℕ) (n : ℕ) → take (length piece + n) s ≡ take (length piece + n) (piece ++ r) → s ≡ piece ++ (take n r ++ drop (length piece + n) s)
+pub begins-with : (piece s r : List ℕ) (n : ℕ) → take (length piece + n) s ≡ take (length piece + n) (piece ++ r) → s ≡ piece ++ (take n r ++ drop (length piece + n) s)
 begins-with piece s r n e =
     sym (take-append-drop (length piece + n) s)
     ∙ ap (λ (l : List ℕ). l ++ drop (length piece + n) s) (e ∙ take-append-add piece r n)
