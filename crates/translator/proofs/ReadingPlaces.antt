@@ -42,7 +42,7 @@ least-writable flag = refl
 least-writable (number separator) = refl
 least-writable (signed separator) = refl
 
-pub some-trace : {A : Type 0} (f : Format A) → Trace f
+some-trace : {A : Type 0} (f : Format A) → Trace f
 some-trace (gives a) = tt
 some-trace (field f fault next) = record { value = least f; fits = least-writable f; rest = some-trace (next (least f)) }
 

@@ -14,7 +14,6 @@ use Rattle.translator.specs.declared.fields.Cursor.{Cursor}
 use Rattle.translator.specs.Fields.{Field, Value, fieldAt, fieldLength, fieldValue}
 use Rattle.translator.specs.Format.{Fault, unsupported, givenTwice, outsideLimits, outOfRange, faultNumber, Format, field, cursorAt, cursorRefused, isOpen, reached, fieldAfter, faultAfter, stepAfter, after, valueAfter}
 use Rattle.translator.proofs.Written.{written, writable, Unfinished, FieldRight}
-use Rattle.translator.proofs.Traces.{isFine}
 use Rattle.translator.proofs.ReadingLaws.{fault-refused, after-refused}
 
 -- what stands behind a piece of a text
@@ -50,18 +49,18 @@ after-stopped f fault next s at place e =
 
 module _ (fields : (f : Field) → FieldRight f) where
   -- a field that is written for a value is read, up to the fault of that value
+  value-written : (f : Field) (s : List ℕ) (at : ℕ) (v : Value f) (rest : List ℕ) → drop at s ≡ written f v ++ rest → writable f v ≡ true → fieldValue f (drop at s) ≡ v
+  value-written f s at v rest e w = ap (fieldValue f) e ∙ fields f .states v rest w
+
   step-written : (f : Field) (fault : Value f → Option Fault) (s : List ℕ) (at : ℕ) (v : Value f) (rest : List ℕ) (o : Option Fault)
       → drop at s ≡ written f v ++ rest → writable f v ≡ true → fault v ≡ o
       → stepAfter f fault s (cursorAt at) ≡ faultAfter o at (cursorAt (at + length (written f v)))
   unfolding stepAfter reached isDone
   step-written f fault s at v rest o e w q =
       ap₂ (λ (x : Option Fault) (c : Cursor). faultAfter x at c)
-      (ap fault (ap (fieldValue f) e ∙ fields f .states v rest w) ∙ q)
+      (ap fault (value-written f s at v rest e w) ∙ q)
       (field-goes f s at done (ap (λ (r : List ℕ). fieldAt f r at) e ∙ fields f .reads v rest at w)
       ∙ ap (λ (n : ℕ). cursorAt (at + n)) (ap (fieldLength f) e ∙ fields f .ends v rest w))
-
-  value-written : (f : Field) (s : List ℕ) (at : ℕ) (v : Value f) (rest : List ℕ) → drop at s ≡ written f v ++ rest → writable f v ≡ true → fieldValue f (drop at s) ≡ v
-  value-written f s at v rest e w = ap (fieldValue f) e ∙ fields f .states v rest w
 
   -- nothing refuses the value
   pub after-fine : {A : Type 0} (f : Field) (fault : Value f → Option Fault) (next : Value f → Format A) (s : List ℕ) (at : ℕ) (v : Value f) (rest : List ℕ)

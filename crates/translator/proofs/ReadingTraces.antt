@@ -27,7 +27,7 @@ fault-number outsideLimits e = omega arith
 fault-number outOfRange e = omega arith
 
 -- a text that goes on with a trace goes on with its first field, and then with the others
-pub first-field : {A : Type 0} (f : Field) (fault : Value f → Option Fault) (next : Value f → Format A) (t : Trace (field f fault next)) (s rest : List ℕ) (at : ℕ)
+first-field : {A : Type 0} (f : Field) (fault : Value f → Option Fault) (next : Value f → Format A) (t : Trace (field f fault next)) (s rest : List ℕ) (at : ℕ)
     → drop at s ≡ textOf (field f fault next) t ++ rest → drop at s ≡ written f (t .value) ++ (textOf (next (t .value)) (t .rest) ++ rest)
 first-field f fault next t s rest at e = e ∙ append-assoc (written f (t .value)) (textOf (next (t .value)) (t .rest)) rest
 
