@@ -12,5 +12,11 @@ pub mod UnfinishedLaws
 pub mod FlagLaws
 pub mod SignedLaws
 pub mod FieldLaws
+pub mod ReadingLaws
+pub mod ReadingSteps
+pub mod ReadingTraces
+pub mod ReadingListed
+pub mod ReadingPlaces
+pub mod Right
 pub mod Computes
 pub mod Examples
