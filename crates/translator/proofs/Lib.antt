@@ -2,5 +2,6 @@
 pub mod Written
 pub mod Traces
 pub mod PrintsLaws
+pub mod ListPrints
 pub mod Computes
 pub mod Examples

@@ -1,13 +1,11 @@
 -- Laws of traces for every format: what holds of all traces of a format, and which values a format can give, part by part.
 use Prim.Native.Nat.{ℕ}
-use mathlib.Core.Path.{_≡_, refl, sym, ap, subst, subst₂, _∙_}
+use mathlib.Core.Path.{_≡_, refl, sym, subst, subst₂}
 use mathlib.Core.Bool.{Bool, true, _&&_, and-assoc}
 use mathlib.Core.List.{List, [], _++_, append-assoc}
 use mathlib.Core.Option.{Option}
-use lib.ListN.{length}
-use Rattle.translator.specs.Fields.{Field, Value, number}
+use Rattle.translator.specs.Fields.{Field, Value}
 use Rattle.translator.specs.Format.{Fault, Format, gives, field, bind}
-use Rattle.translator.specs.Sas.{Separator, ended}
 use Rattle.translator.proofs.Written.{written, writable}
 use Rattle.translator.proofs.Traces.{isFine, Trace, textOf, valueOf, passed, Prints}
 
@@ -36,6 +34,10 @@ prints always reaches =
       trace = λ a g. reaches a g .trace;
       value = λ a g. reaches a g .value;
     }
+
+pub prints-reaches : {A : Type 0} {f : Format A} {good : A → Type 0} {print : A → List ℕ} {ok : A → Bool}
+    → Prints f good print ok → (a : A) → good a → Reaches f a
+prints-reaches all a g = record { trace = all .trace a g; value = all .value a g }
 
 -- nothing more
 pub gives-always : {A : Type 0} {a : A} {P : A → List ℕ → Bool → Type 0} → P a [] true → Always (gives a) P

@@ -1,0 +1,75 @@
+-- Laws of traces for numbers, for counts and for lists of elements.
+use Prim.Native.Nat.{ℕ, zero, suc}
+use mathlib.Core.Path.{_≡_, refl, sym, ap, subst, _∙_}
+use mathlib.Core.Bool.{Bool, true, false, _&&_, and-true}
+use mathlib.Core.List.{List, [], _∷_, _++_, append-nil}
+use mathlib.Core.Option.{Option, none}
+use native.Mathlib.Omega.{arith}
+use lib.Dec.{leb}
+use lib.ListN.{length}
+use Rattle.files.specs.Below.{allOf}
+use Rattle.files.proofs.Logic.{and-split, and-join}
+use Rattle.translator.specs.Fields.{number}
+use Rattle.translator.specs.Format.{Fault, outsideLimits, unless, Format, field, gives, bind, repeat}
+use Rattle.translator.specs.Sas.{Separator, lineFeed, ended, joined}
+use Rattle.translator.specs.Text.{each, count}
+use Rattle.translator.proofs.Written.{written, writable}
+use Rattle.translator.proofs.Traces.{isFine, Prints}
+use Rattle.translator.proofs.PrintsLaws.{Always, Reaches, prints, prints-reaches, gives-always, gives-reaches, field-always, field-reaches, bind-always, bind-reaches}
+
+-- a fault is none just where its test passes
+pub unless-fine : (b : Bool) (fault : Fault) (others : Option Fault) → isFine (unless b fault others) ≡ b && isFine others
+unless-fine true fault others = refl
+unless-fine false fault others = refl
+
+-- a number alone
+abbrev pub Number : Separator → (ℕ → Bool) → Format ℕ → Type 0
+Number separator ok f = Prints f (λ n. Unit {0}) (ended separator) ok
+
+pub number-prints : (separator : Separator) (fault : ℕ → Option Fault) → Number separator (λ n. isFine (fault n)) (field (number separator) fault gives)
+unfolding written writable
+number-prints separator fault =
+    prints
+    (field-always (λ n fits. gives-always (record { fits = tt; text = append-nil (ended separator n); passes = and-true (isFine (fault n)) })))
+    (λ n g. field-reaches n refl (gives-reaches n))
+
+-- the traces of a format for a list are the printings of those of n elements that are good
+abbrev pub Lists : {A : Type 0} → (A → List ℕ) → (List A → Bool) → (List A → Bool) → ℕ → Format (List A) → Type 0
+Lists {A} print good ok n f = Prints f (λ (as′ : List A). (length as′ ≡ n) × (good as′ ≡ true)) (joined print) ok
+
+module _ {S A : Type 0} (item : S → Format A) (onward : S → A → S) (good : A → Bool) (print : A → List ℕ) (ok : S → A → Bool)
+    (goodAll : List A → Bool) (okAll : S → List A → Bool)
+    (item-prints : (state : S) → Prints (item state) (λ a. good a ≡ true) print (ok state))
+    (good-none : goodAll [] ≡ true)
+    (good-more : (a : A) (rest : List A) → goodAll (a ∷ rest) ≡ good a && goodAll rest)
+    (ok-none : (state : S) → okAll state [] ≡ true)
+    (ok-more : (state : S) (a : A) (rest : List A) → okAll state (a ∷ rest) ≡ ok state a && okAll (onward state a) rest) where
+  pub repeat-prints : (n : ℕ) (state : S) → Lists print goodAll (okAll state) n (repeat item onward state n)
+  unfolding repeat joined
+  repeat-prints zero state =
+      prints
+      (gives-always (record { fits = (refl, good-none); text = refl; passes = sym (ok-none state) }))
+      (λ l g. none-reaches l (g .0))
+    where
+      none-reaches : (l : List A) → length l ≡ 0 → Reaches (gives []) l
+      none-reaches [] e = gives-reaches []
+      none-reaches (a ∷ rest) e = absurd (omega arith)
+  repeat-prints (suc n) state =
+      prints
+      (bind-always _ (item-prints state) (λ a g.
+      bind-always _ (repeat-prints n (onward state a)) (λ rest h.
+      gives-always (record {
+        fits = (ap suc (h .0), good-more a rest ∙ and-join g (h .1));
+        text = ap (λ (s : List ℕ). print a ++ s) (append-nil (joined print rest));
+        passes = ap (λ (b : Bool). ok state a && b) (and-true (okAll (onward state a) rest)) ∙ sym (ok-more state a rest);
+      }))))
+      (λ l g. some-reaches (repeat-prints n) l (g .0) (g .1))
+    where
+      some-reaches : ((s : S) → Lists print goodAll (okAll s) n (repeat item onward s n)) → (l : List A) → length l ≡ suc n → goodAll l ≡ true
+          → Reaches (bind (item state) (λ a. bind (repeat item onward (onward state a) n) (λ rest. gives (a ∷ rest)))) l
+      some-reaches again [] e g = absurd (omega arith)
+      some-reaches again (a ∷ rest) e g =
+          let both = and-split (good a) (goodAll rest) (sym (good-more a rest) ∙ g) in
+          bind-reaches _ (prints-reaches (item-prints state) a (both .0))
+          (bind-reaches _ (prints-reaches (again (onward state a)) rest (omega arith, both .1))
+          (gives-reaches (a ∷ rest)))
