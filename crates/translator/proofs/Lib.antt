@@ -3,5 +3,6 @@ pub mod Written
 pub mod Traces
 pub mod PrintsLaws
 pub mod ListPrints
+pub mod PartPrints
 pub mod Computes
 pub mod Examples

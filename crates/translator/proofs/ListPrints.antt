@@ -26,11 +26,12 @@ unless-fine false fault others = refl
 abbrev pub Number : Separator → (ℕ → Bool) → Format ℕ → Type 0
 Number separator ok f = Prints f (λ n. Unit {0}) (ended separator) ok
 
-pub number-prints : (separator : Separator) (fault : ℕ → Option Fault) → Number separator (λ n. isFine (fault n)) (field (number separator) fault gives)
+pub number-prints : (separator : Separator) (fault : ℕ → Option Fault) (ok : ℕ → Bool) → ((n : ℕ) → isFine (fault n) ≡ ok n)
+    → Number separator ok (field (number separator) fault gives)
 unfolding written writable
-number-prints separator fault =
+number-prints separator fault ok fine =
     prints
-    (field-always (λ n fits. gives-always (record { fits = tt; text = append-nil (ended separator n); passes = and-true (isFine (fault n)) })))
+    (field-always (λ n fits. gives-always (record { fits = tt; text = append-nil (ended separator n); passes = and-true (isFine (fault n)) ∙ fine n })))
     (λ n g. field-reaches n refl (gives-reaches n))
 
 -- the traces of a format for a list are the printings of those of n elements that are good
@@ -73,3 +74,33 @@ module _ {S A : Type 0} (item : S → Format A) (onward : S → A → S) (good :
           bind-reaches _ (prints-reaches (item-prints state) a (both .0))
           (bind-reaches _ (prints-reaches (again (onward state a)) rest (omega arith, both .1))
           (gives-reaches (a ∷ rest)))
+
+-- elements of one format
+pub each-prints : {A : Type 0} (item : Format A) (good : A → Bool) (print : A → List ℕ) (ok : A → Bool) (goodAll okAll : List A → Bool)
+    → Prints item (λ a. good a ≡ true) print ok
+    → goodAll [] ≡ true → ((a : A) (rest : List A) → goodAll (a ∷ rest) ≡ good a && goodAll rest)
+    → okAll [] ≡ true → ((a : A) (rest : List A) → okAll (a ∷ rest) ≡ ok a && okAll rest)
+    → (n : ℕ) → Lists print goodAll okAll n (each item n)
+unfolding each
+each-prints item good print ok goodAll okAll all good-none good-more ok-none ok-more n =
+    repeat-prints (λ s. item) (λ s a. s) good print (λ s. ok) goodAll (λ s. okAll) (λ s. all) good-none good-more (λ s. ok-none) (λ s. ok-more) n tt
+
+-- a count, then so many elements
+module _ {A B : Type 0} {f : Format ℕ} {few : ℕ → Bool} {head : ℕ → List ℕ} {good ok : List A → Bool} {body : List A → List ℕ} (g : ℕ → Format (List A)) (k : List A → Format B)
+    (count-is : Prints f (λ n. Unit {0}) head few)
+    (list-is : (n : ℕ) → Prints (g n) (λ l. (length l ≡ n) × (good l ≡ true)) body ok) where
+  pub counted-always : {P : B → List ℕ → Bool → Type 0}
+      → ((l : List A) → good l ≡ true → Always (k l) (λ c s b. P c (head (length l) ++ (body l ++ s)) (few (length l) && (ok l && b))))
+      → Always (bind f (λ n. bind (g n) k)) P
+  counted-always {P} always =
+      bind-always _ count-is (λ n u.
+      bind-always k (list-is n) (λ l h.
+      subst (λ (m : ℕ). Always (k l) (λ c s b. P c (head m ++ (body l ++ s)) (few m && (ok l && b)))) (h .0) (always l (h .1))))
+
+  pub counted-reaches : {c : B} (l : List A) → good l ≡ true → Reaches (k l) c → Reaches (bind f (λ n. bind (g n) k)) c
+  counted-reaches l h reaches =
+      bind-reaches _ (prints-reaches count-is (length l) tt) (bind-reaches k (prints-reaches (list-is (length l)) l (refl, h)) reaches)
+
+pub count-prints : (most : ℕ) → Number lineFeed (λ n. leb n most) (count most)
+unfolding count
+count-prints most = number-prints lineFeed (λ n. unless (leb n most) outsideLimits none) (λ n. leb n most) (λ n. unless-fine (leb n most) outsideLimits none ∙ and-true (leb n most))
