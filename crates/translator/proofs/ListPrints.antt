@@ -12,7 +12,7 @@ use Rattle.files.proofs.Logic.{and-split, and-join}
 use Rattle.translator.specs.Fields.{number}
 use Rattle.translator.specs.Format.{Fault, outsideLimits, unless, Format, field, gives, bind, repeat}
 use Rattle.translator.specs.Sas.{Separator, lineFeed, ended, joined}
-use Rattle.translator.specs.Text.{each, count}
+use Rattle.translator.specs.Text.{any, each, count}
 use Rattle.translator.proofs.Written.{written, writable}
 use Rattle.translator.proofs.Traces.{isFine, Prints}
 use Rattle.translator.proofs.PrintsLaws.{Always, Reaches, prints, prints-reaches, gives-always, gives-reaches, field-always, field-reaches, bind-always, bind-reaches}
@@ -33,6 +33,9 @@ number-prints separator fault ok fine =
     prints
     (field-always (λ n fits. gives-always (record { fits = tt; text = append-nil (ended separator n); passes = and-true (isFine (fault n)) ∙ fine n })))
     (λ n g. field-reaches n refl (gives-reaches n))
+
+pub free-number : (separator : Separator) → Number separator (λ n. true) (field (number separator) any gives)
+free-number separator = number-prints separator any (λ n. true) (λ n. refl)
 
 -- the traces of a format for a list are the printings of those of n elements that are good
 abbrev pub Lists : {A : Type 0} → (A → List ℕ) → (List A → Bool) → (List A → Bool) → ℕ → Format (List A) → Type 0

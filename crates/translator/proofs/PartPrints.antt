@@ -16,7 +16,7 @@ use Rattle.translator.specs.Text.{any, says, each, nameLines, size, decl
 use Rattle.translator.proofs.Written.{written, writable}
 use Rattle.translator.proofs.Traces.{Prints}
 use Rattle.translator.proofs.PrintsLaws.{prints, gives-always, gives-reaches, field-always, field-reaches}
-use Rattle.translator.proofs.ListPrints.{unless-fine, Number, number-prints, Lists, each-prints, counted-always, counted-reaches}
+use Rattle.translator.proofs.ListPrints.{unless-fine, Number, number-prints, free-number, Lists, each-prints, counted-always, counted-reaches}
 
 pub freePair-prints : (separator : Separator) → Prints (freePair separator) (λ p. true ≡ true) (λ p. ended blank (p .variable) ++ ended separator (p .value)) (λ p. true)
 unfolding freePair written writable
@@ -29,10 +29,50 @@ pub pairs-print : (n : ℕ) → Lists printedPair (λ l. true) (λ l. true) n (e
 unfolding printedPair
 pairs-print = each-prints (freePair lineFeed) (λ p. true) printedPair (λ p. true) (λ l. true) (λ l. true) (freePair-prints lineFeed) refl (λ p l. refl) refl (λ p l. refl)
 
-group-prints : Prints group (λ g. true ≡ true) printedGroup (λ g. true)
+pub group-prints : Prints group (λ g. true ≡ true) printedGroup (λ g. true)
 unfolding group says written writable printedGroup counted bind
 group-prints =
     prints
-    (field-always (λ w e. counted-always _ _ (number-prints lineFeed any (λ n. true) (λ n. refl)) pairs-print (λ l g.
+    (field-always (λ w e. counted-always _ _ (free-number lineFeed) pairs-print (λ l g.
     field-always (λ w e. gives-always (record { fits = refl; text = simp (append-assoc, append-nil) refl; passes = refl })))))
-    (λ l g. field-reaches tt refl (counted-reaches _ _ (number-prints lineFeed any (λ n. true) (λ n. refl)) pairs-print l refl (field-reaches tt refl (gives-reaches l))))
+    (λ l g. field-reaches tt refl (counted-reaches _ _ (free-number lineFeed) pairs-print l refl (field-reaches tt refl (gives-reaches l))))
+
+name-prints : Prints (field name any gives) (λ n. isName n ≡ true) nameLine (λ n. true)
+unfolding written writable
+name-prints =
+    prints
+    (field-always (λ n e. gives-always (record { fits = e; text = append-nil (nameLine n); passes = refl })))
+    (λ n g. field-reaches n g (gives-reaches n))
+
+names-print : (n : ℕ) → Lists nameLine (allOf isName) (λ l. true) n (nameLines n)
+unfolding nameLines
+names-print = each-prints (field name any gives) isName nameLine (λ l. true) (allOf isName) (λ l. true) name-prints refl (λ a l. refl) refl (λ a l. refl)
+
+size-prints : Number lineFeed (λ n. leb 1 n && leb n 32) size
+unfolding size
+size-prints =
+    number-prints lineFeed (λ n. unless (leb 1 n) outsideLimits (unless (leb n 32) outsideLimits none)) (λ n. leb 1 n && leb n 32) (λ n.
+    simp (unless-fine, and-true) refl)
+
+pub declaration-prints : Prints declaration (λ d. namedDeclaration d ≡ true) printedDeclaration supportedDeclaration
+unfolding declaration says written writable printedDeclaration counted namedDeclaration supportedDeclaration
+declaration-prints =
+    prints
+    (field-always (λ w e.
+    field-always (λ name named.
+    field-always (λ layer e.
+    counted-always _ _ size-prints names-print (λ values all.
+    field-always (λ w e.
+    gives-always (record {
+      fits = and-join named all;
+      text = simp (append-assoc, append-nil) refl;
+      passes = simp (unless-fine, and-assoc, and-true) refl;
+    })))))))
+    (λ d g.
+    let both = and-split (isName (d .name)) (allOf isName (d .values)) g in
+    field-reaches tt refl
+    (field-reaches (d .name) (both .0)
+    (field-reaches (d .layer) refl
+    (counted-reaches _ _ size-prints names-print (d .values) (both .1)
+    (field-reaches tt refl
+    (gives-reaches d))))))
