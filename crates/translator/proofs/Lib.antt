@@ -4,5 +4,7 @@ pub mod Traces
 pub mod PrintsLaws
 pub mod ListPrints
 pub mod PartPrints
+pub mod StartPrints
+pub mod OperatorPrints
 pub mod Computes
 pub mod Examples
