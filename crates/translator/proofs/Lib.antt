@@ -6,5 +6,6 @@ pub mod ListPrints
 pub mod PartPrints
 pub mod StartPrints
 pub mod OperatorPrints
+pub mod TextPrints
 pub mod Computes
 pub mod Examples

@@ -37,9 +37,17 @@ number-prints separator fault ok fine =
 pub free-number : (separator : Separator) → Number separator (λ n. true) (field (number separator) any gives)
 free-number separator = number-prints separator any (λ n. true) (λ n. refl)
 
+pub test-number : (separator : Separator) (test : ℕ → Bool) (fault : Fault) → Number separator test (field (number separator) (λ n. unless (test n) fault none) gives)
+test-number separator test fault =
+    number-prints separator (λ n. unless (test n) fault none) test (λ n. unless-fine (test n) fault none ∙ and-true (test n))
+
+pub count-prints : (most : ℕ) → Number lineFeed (λ n. leb n most) (count most)
+unfolding count
+count-prints most = test-number lineFeed (λ n. leb n most) outsideLimits
+
 -- the traces of a format for a list are the printings of those of n elements that are good
 abbrev pub Lists : {A : Type 0} → (A → List ℕ) → (List A → Bool) → (List A → Bool) → ℕ → Format (List A) → Type 0
-Lists {A} print good ok n f = Prints f (λ (as′ : List A). (length as′ ≡ n) × (good as′ ≡ true)) (joined print) ok
+Lists {A} print good ok n f = Prints f (λ (l : List A). (length l ≡ n) × (good l ≡ true)) (joined print) ok
 
 module _ {S A : Type 0} (item : S → Format A) (onward : S → A → S) (good : A → Bool) (print : A → List ℕ) (ok : S → A → Bool)
     (goodAll : List A → Bool) (okAll : S → List A → Bool)
@@ -88,6 +96,16 @@ unfolding each
 each-prints item good print ok goodAll okAll all good-none good-more ok-none ok-more n =
     repeat-prints (λ s. item) (λ s a. s) good print (λ s. ok) goodAll (λ s. okAll) (λ s. all) good-none good-more (λ s. ok-none) (λ s. ok-more) n tt
 
+-- every one is to pass
+pub each-all : {A : Type 0} (item : Format A) (good : A → Bool) (print : A → List ℕ) (ok : A → Bool)
+    → Prints item (λ a. good a ≡ true) print ok → (n : ℕ) → Lists print (allOf good) (allOf ok) n (each item n)
+each-all item good print ok all = each-prints item good print ok (allOf good) (allOf ok) all refl (λ a rest. refl) refl (λ a rest. refl)
+
+-- nothing refuses any
+pub each-free : {A : Type 0} (item : Format A) (print : A → List ℕ)
+    → Prints item (λ a. true ≡ true) print (λ a. true) → (n : ℕ) → Lists print (λ l. true) (λ l. true) n (each item n)
+each-free item print all = each-prints item (λ a. true) print (λ a. true) (λ l. true) (λ l. true) all refl (λ a rest. refl) refl (λ a rest. refl)
+
 -- a count, then so many elements
 module _ {A B : Type 0} {f : Format ℕ} {few : ℕ → Bool} {head : ℕ → List ℕ} {good ok : List A → Bool} {body : List A → List ℕ} (g : ℕ → Format (List A)) (k : List A → Format B)
     (count-is : Prints f (λ n. Unit {0}) head few)
@@ -103,7 +121,3 @@ module _ {A B : Type 0} {f : Format ℕ} {few : ℕ → Bool} {head : ℕ → Li
   pub counted-reaches : {c : B} (l : List A) → good l ≡ true → Reaches (k l) c → Reaches (bind f (λ n. bind (g n) k)) c
   counted-reaches l h reaches =
       bind-reaches _ (prints-reaches count-is (length l) tt) (bind-reaches k (prints-reaches (list-is (length l)) l (refl, h)) reaches)
-
-pub count-prints : (most : ℕ) → Number lineFeed (λ n. leb n most) (count most)
-unfolding count
-count-prints most = number-prints lineFeed (λ n. unless (leb n most) outsideLimits none) (λ n. leb n most) (λ n. unless-fine (leb n most) outsideLimits none ∙ and-true (leb n most))

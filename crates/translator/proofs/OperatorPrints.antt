@@ -1,22 +1,18 @@
 -- The traces of conditions, effects, operators and axioms are their printings.
 use Prim.Native.Nat.{ℕ}
 use mathlib.Core.Path.{_≡_, refl}
-use mathlib.Core.Bool.{Bool, true, _&&_, and-true, and-assoc, not}
-use mathlib.Core.List.{List, [], _∷_, _++_, append-nil, append-assoc}
-use mathlib.Core.Option.{none}
-use lib.Dec.{eqb, leb, ltb}
-use lib.ListN.{length}
-use Rattle.files.specs.Below.{anyOf, allOf}
-use Rattle.files.specs.Task.{Pair}
-use Rattle.translator.specs.Fields.{name, number, signed}
-use Rattle.translator.specs.Format.{unsupported, outsideLimits, unless, field, gives, bind, repeat}
-use Rattle.translator.specs.Sas.{Effect, Operator, Rule, blank, lineFeed, ended, nameLine, counted, printedPair, printedCondition, printedEffect, printedOperator, printedRule, isName}
-use Rattle.translator.specs.Stated.{variablesOf, newVariable, isValue, isOldValue, supportedPair, supportedPairs, supportedEffect, supportedEffects, supportedOperator}
-use Rattle.translator.specs.Text.{any, says, each, count, freePair, variableFault, condition, conditions, effect, effects, operator, rule}
+use mathlib.Core.Bool.{true, and-true}
+use mathlib.Core.List.{List, [], _∷_, append-nil, append-assoc}
+use lib.Dec.{eqb}
+use Rattle.translator.specs.Fields.{name}
+use Rattle.translator.specs.Format.{unsupported, bind}
+use Rattle.translator.specs.Sas.{blank, lineFeed, counted, printedPair, printedCondition, printedEffect, printedOperator, printedRule, isName}
+use Rattle.translator.specs.Stated.{variablesOf, newVariable, supportedPair, supportedPairs, supportedEffect, supportedEffects, supportedOperator}
+use Rattle.translator.specs.Text.{says, each, freePair, variableFault, condition, conditions, effect, effects, operator, rule}
 use Rattle.translator.proofs.Written.{written, writable}
 use Rattle.translator.proofs.Traces.{isFine, Prints}
 use Rattle.translator.proofs.PrintsLaws.{prints, gives-always, gives-reaches, field-always, field-reaches}
-use Rattle.translator.proofs.ListPrints.{unless-fine, Number, number-prints, free-number, count-prints, Lists, each-prints, repeat-prints, counted-always, counted-reaches}
+use Rattle.translator.proofs.ListPrints.{unless-fine, test-number, free-number, count-prints, Lists, each-free, repeat-prints, counted-always, counted-reaches}
 use Rattle.translator.proofs.PartPrints.{freePair-prints, pairs-print}
 
 variable-fine : (sizes given : List ℕ) (v : ℕ) → isFine (variableFault sizes given v) ≡ newVariable sizes given v
@@ -45,16 +41,13 @@ conditions-print sizes given n =
 -- the conditions of an effect
 within-print : (n : ℕ) → Lists printedCondition (λ l. true) (λ l. true) n (each (freePair blank) n)
 unfolding printedCondition
-within-print = each-prints (freePair blank) (λ p. true) printedCondition (λ p. true) (λ l. true) (λ l. true) (freePair-prints blank) refl (λ p l. refl) refl (λ p l. refl)
-
-no-conditions : Number blank (λ n. eqb n 0) (field (number blank) (λ n. unless (eqb n 0) unsupported none) gives)
-no-conditions = number-prints blank (λ n. unless (eqb n 0) unsupported none) (λ n. eqb n 0) (λ n. simp (unless-fine, and-true) refl)
+within-print = each-free (freePair blank) printedCondition (freePair-prints blank)
 
 effect-prints : (sizes given : List ℕ) → Prints (effect sizes given) (λ p. true ≡ true) printedEffect (supportedEffect sizes given)
 unfolding effect bind written writable printedEffect supportedEffect
 effect-prints sizes given =
     prints
-    (counted-always _ _ no-conditions within-print (λ l g.
+    (counted-always _ _ (test-number blank (λ n. eqb n 0) unsupported) within-print (λ l g.
     field-always (λ v e.
     field-always (λ old e.
     field-always (λ new e.
@@ -64,7 +57,7 @@ effect-prints sizes given =
       passes = simp (variable-fine, unless-fine, and-true) refl;
     }))))))
     (λ x g.
-    counted-reaches _ _ no-conditions within-print (x .conditions) refl
+    counted-reaches _ _ (test-number blank (λ n. eqb n 0) unsupported) within-print (x .conditions) refl
     (field-reaches (x .variable) refl
     (field-reaches (x .old) refl
     (field-reaches (x .new) refl

@@ -1,22 +1,21 @@
 -- The traces of pairs, mutex groups, declarations and start values are their printings.
 use Prim.Native.Nat.{ℕ}
-use mathlib.Core.Path.{_≡_, refl, sym, ap, _∙_}
-use mathlib.Core.Bool.{Bool, true, _&&_, and-true, and-assoc}
-use mathlib.Core.List.{List, [], _∷_, _++_, append-nil, append-assoc}
+use mathlib.Core.Path.{_≡_, refl, ap}
+use mathlib.Core.Bool.{true, _&&_, and-true, and-assoc}
+use mathlib.Core.List.{List, _++_, append-nil, append-assoc}
 use mathlib.Core.Option.{none}
 use lib.Dec.{leb}
 use Rattle.files.specs.Below.{allOf}
-use Rattle.files.specs.Task.{Pair}
 use Rattle.files.proofs.Logic.{and-split, and-join}
 use Rattle.translator.specs.Fields.{name}
-use Rattle.translator.specs.Format.{unsupported, outsideLimits, unless, field, gives, bind}
-use Rattle.translator.specs.Sas.{Declaration, Separator, blank, lineFeed, ended, nameLine, counted, printedPair, printedCondition, printedGroup, printedDeclaration, isName, namedDeclaration}
-use Rattle.translator.specs.Stated.{isNone, supportedDeclaration}
+use Rattle.translator.specs.Format.{outsideLimits, unless, field, gives, bind}
+use Rattle.translator.specs.Sas.{Separator, blank, lineFeed, ended, nameLine, counted, printedPair, printedGroup, printedDeclaration, isName, namedDeclaration}
+use Rattle.translator.specs.Stated.{supportedDeclaration}
 use Rattle.translator.specs.Text.{any, says, each, nameLines, size, declaration, freePair, group}
 use Rattle.translator.proofs.Written.{written, writable}
 use Rattle.translator.proofs.Traces.{Prints}
 use Rattle.translator.proofs.PrintsLaws.{prints, gives-always, gives-reaches, field-always, field-reaches}
-use Rattle.translator.proofs.ListPrints.{unless-fine, Number, number-prints, free-number, Lists, each-prints, counted-always, counted-reaches}
+use Rattle.translator.proofs.ListPrints.{unless-fine, Number, number-prints, free-number, Lists, each-prints, each-free, counted-always, counted-reaches}
 
 pub freePair-prints : (separator : Separator) → Prints (freePair separator) (λ p. true ≡ true) (λ p. ended blank (p .variable) ++ ended separator (p .value)) (λ p. true)
 unfolding freePair written writable
@@ -27,7 +26,7 @@ freePair-prints separator =
 
 pub pairs-print : (n : ℕ) → Lists printedPair (λ l. true) (λ l. true) n (each (freePair lineFeed) n)
 unfolding printedPair
-pairs-print = each-prints (freePair lineFeed) (λ p. true) printedPair (λ p. true) (λ l. true) (λ l. true) (freePair-prints lineFeed) refl (λ p l. refl) refl (λ p l. refl)
+pairs-print = each-free (freePair lineFeed) printedPair (freePair-prints lineFeed)
 
 pub group-prints : Prints group (λ g. true ≡ true) printedGroup (λ g. true)
 unfolding group says written writable printedGroup counted bind

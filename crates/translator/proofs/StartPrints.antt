@@ -1,19 +1,14 @@
 -- The traces of the start values are the printings of variables with the given declarations.
-use Prim.Native.Nat.{ℕ}
-use mathlib.Core.Path.{_≡_, refl, ap, ap₂, subst, _∙_}
-use mathlib.Core.Bool.{Bool, _&&_, and-true}
-use mathlib.Core.List.{List, [], _∷_, _++_, append-nil, map}
-use mathlib.Core.Option.{none}
-use lib.Dec.{ltb}
-use lib.ListN.{length}
+use mathlib.Core.Path.{_≡_, refl, ap₂, subst}
+use mathlib.Core.Bool.{and-true}
+use mathlib.Core.List.{List, [], _∷_, append-nil, map}
 use Rattle.files.specs.Below.{allOf}
-use Rattle.translator.specs.Format.{outOfRange}
 use Rattle.translator.specs.Sas.{Declaration, Started, joined, printedStart}
 use Rattle.translator.specs.Stated.{supportedStart}
 use Rattle.translator.specs.Text.{start, starts}
 use Rattle.translator.proofs.Written.{written, writable}
 use Rattle.translator.proofs.Traces.{Prints}
-use Rattle.translator.proofs.PrintsLaws.{Always, Printed, Reaches, prints, prints-reaches, gives-always, gives-reaches, field-always, field-reaches, bind-always, bind-reaches}
+use Rattle.translator.proofs.PrintsLaws.{Reaches, prints, prints-reaches, gives-always, gives-reaches, field-always, field-reaches, bind-always, bind-reaches}
 use Rattle.translator.proofs.ListPrints.{unless-fine}
 
 start-prints : (d : Declaration) → Prints (start d) (λ v. v .declared ≡ d) printedStart supportedStart
