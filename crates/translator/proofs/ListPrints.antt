@@ -49,6 +49,7 @@ count-prints most = test-number lineFeed (λ n. leb n most) outsideLimits
 abbrev pub Lists : {A : Type 0} → (A → List ℕ) → (List A → Bool) → (List A → Bool) → ℕ → Format (List A) → Type 0
 Lists {A} print good ok n f = Prints f (λ (l : List A). (length l ≡ n) × (good l ≡ true)) (joined print) ok
 
+-- elements by a state that those before leave: `goodAll` and `okAll` go over the list as `good` and `ok` say of each
 module _ {S A : Type 0} (item : S → Format A) (onward : S → A → S) (good : A → Bool) (print : A → List ℕ) (ok : S → A → Bool)
     (goodAll : List A → Bool) (okAll : S → List A → Bool)
     (item-prints : (state : S) → Prints (item state) (λ a. good a ≡ true) print (ok state))

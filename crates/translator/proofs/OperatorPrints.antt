@@ -4,7 +4,6 @@ use mathlib.Core.Path.{_≡_, refl}
 use mathlib.Core.Bool.{true, and-true}
 use mathlib.Core.List.{List, [], _∷_, append-nil, append-assoc}
 use lib.Dec.{eqb}
-use Rattle.translator.specs.Fields.{name}
 use Rattle.translator.specs.Format.{unsupported, bind}
 use Rattle.translator.specs.Sas.{blank, lineFeed, counted, printedPair, printedCondition, printedEffect, printedOperator, printedRule, isName}
 use Rattle.translator.specs.Stated.{variablesOf, newVariable, supportedPair, supportedPairs, supportedEffect, supportedEffects, supportedOperator}

@@ -1,4 +1,4 @@
--- The traces of pairs, mutex groups, declarations and start values are their printings.
+-- The traces of pairs, mutex groups and declarations are their printings.
 use Prim.Native.Nat.{ℕ}
 use mathlib.Core.Path.{_≡_, refl, ap}
 use mathlib.Core.Bool.{true, _&&_, and-true, and-assoc}

@@ -80,7 +80,11 @@ pub bind-always : {A B : Type 0} {f : Format A} (k : A → Format B) {good : A �
 bind-always {f} k {P} all always =
     bind-holds f k P (λ t.
     record {
-      holds = λ u. subst₂ (λ s b. P (valueOf (k (valueOf f t)) u) (s ++ textOf (k (valueOf f t)) u) (b && passed (k (valueOf f t)) u)) (sym (all .text t)) (sym (all .passes t)) (always (valueOf f t) (all .good′ t) .holds u);
+      holds = λ u.
+          subst₂ (λ s b. P (valueOf (k (valueOf f t)) u) (s ++ textOf (k (valueOf f t)) u) (b && passed (k (valueOf f t)) u))
+          (sym (all .text t))
+          (sym (all .passes t))
+          (always (valueOf f t) (all .good′ t) .holds u);
     })
 
 bind-joins : {A B : Type 0} (f : Format A) (k : A → Format B) {c : B} (t : Trace f) → Reaches (k (valueOf f t)) c → Reaches (bind f k) c
