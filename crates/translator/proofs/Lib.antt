@@ -18,5 +18,11 @@ pub mod ReadingTraces
 pub mod ReadingListed
 pub mod ReadingPlaces
 pub mod Right
+pub mod PrintsLaws
+pub mod ListPrints
+pub mod PartPrints
+pub mod StartPrints
+pub mod OperatorPrints
+pub mod TextPrints
 pub mod Computes
 pub mod Examples
