@@ -1,5 +1,6 @@
 -- Laws about the crate's definitions.
 pub mod Written
 pub mod Traces
+pub mod OrderLaws
 pub mod Computes
 pub mod Examples
