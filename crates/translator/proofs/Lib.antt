@@ -2,5 +2,7 @@
 pub mod Written
 pub mod Traces
 pub mod OrderLaws
+pub mod RowsInOrder
+pub mod Supported
 pub mod Computes
 pub mod Examples

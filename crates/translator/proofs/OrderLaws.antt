@@ -3,6 +3,7 @@ use Prim.Native.Nat.{ℕ, zero, suc, _+_, _≤_, _<_}
 use mathlib.Core.Path.{_≡_, refl, sym, ap, ap₂, _∙_}
 use mathlib.Core.Bool.{true}
 use mathlib.Core.List.{List, [], _∷_, _++_}
+use mathlib.Core.Logic.{_⊎_, inl, inr, ⊎-elim}
 use mathlib.Core.Option.{Option, none, some}
 use native.Mathlib.Omega.{arith}
 use lib.ListN.{length}
@@ -25,6 +26,16 @@ Apart n (p ∷ ps) = (p .variable < n) × (valueIn ps (p .variable) ≡ none) ×
 -- no value and a value are not the same
 pub none-some {ℓ} : {X : Type ℓ} {o : Option ℕ} {x : ℕ} → o ≡ none → o ≡ some x → X
 none-some {o} {x} e q = absurd (let r : none ≡ some x = sym e ∙ q in let z : _≡_ {A = ℕ} 0 1 = cc in omega arith)
+
+-- a value is that of the first pair, or one of the rest
+pub value-cases : (p : Pair) (ps : List Pair) (v x : ℕ) → valueIn (p ∷ ps) v ≡ some x → ((p .variable ≡ v) × (p .value ≡ x)) ⊎ (valueIn ps v ≡ some x)
+value-cases p ps v x e =
+    split (eqb (p .variable) v)
+    (λ q.
+    let here : p .variable ≡ v = eqb-true (p .variable) v q in
+    let same : some (p .value) ≡ some x = sym (valueIn-here p ps v here) ∙ e in
+    inl (here, cc))
+    (λ q. inr (sym (valueIn-past p ps v (eqb-false (p .variable) v q)) ∙ e))
 
 pub apart-behind : (n : ℕ) (ps : List Pair) (v : ℕ) → Apart n ps → n ≤ v → valueIn ps v ≡ none
 apart-behind n [] v a h = refl
@@ -172,13 +183,10 @@ unfolding allHold holds admits
 hold-value [] s v x h e = none-some refl e
 hold-value (p ∷ ps) s v x h e =
     let both = and-split (holds p s) (allHold ps s) h in
-    split (eqb (p .variable) v)
-    (λ q.
-    let here : p .variable ≡ v = eqb-true (p .variable) v q in
-    let same : some (p .value) ≡ some x = sym (valueIn-here p ps v here) ∙ e in
-    let is : p .value ≡ x = cc in
-    ap₂ (λ (y w : ℕ). eqb y (s w)) (sym is) (sym here) ∙ both .0)
-    (λ q. hold-value ps s v x (both .1) (sym (valueIn-past p ps v (eqb-false (p .variable) v q)) ∙ e))
+    ⊎-elim
+    (λ q. ap₂ (λ (y w : ℕ). eqb y (s w)) (sym (q .1)) (sym (q .0)) ∙ both .0)
+    (λ q. hold-value ps s v x (both .1) q)
+    (value-cases p ps v x e)
 
 value-hold : (n : ℕ) (ps : List Pair) (s : State) → Apart n ps → ((v x : ℕ) → valueIn ps v ≡ some x → eqb x (s v) ≡ true) → allHold ps s ≡ true
 unfolding allHold holds admits
