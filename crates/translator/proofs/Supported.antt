@@ -1,21 +1,22 @@
 -- What a supported text is, as facts about its lists of pairs.
-use Prim.Native.Nat.{ℕ, _≤_, _<_}
-use mathlib.Core.Path.{_≡_, refl, sym, ap, _∙_}
+use Prim.Native.Nat.{ℕ, zero, suc, _≤_, _<_}
+use mathlib.Core.Path.{_≡_, refl, sym, ap, subst, _∙_}
 use mathlib.Core.Bool.{Bool, true, false, _||_}
-use mathlib.Core.List.{List, [], _∷_, _++_}
+use mathlib.Core.List.{List, [], _∷_, _++_, map}
 use mathlib.Core.Logic.{_⊎_, inl, inr, ⊎-elim}
 use mathlib.Core.Option.{none, some}
+use native.Mathlib.Omega.{arith}
 use lib.Dec.{eqb}
-use lib.ListN.{length, getD}
+use lib.ListN.{length, getD, length-map}
 use borrow.Author.Tests.{not-true, eq-eqb}
 use Rattle.files.specs.Below.{anyOf, allOf}
-use Rattle.files.specs.Task.{Pair, pair, valueIn}
+use Rattle.files.specs.Task.{Pair, pair, variable, variableCount, actionCount, sizeOf, valueIn}
 use Rattle.files.proofs.Distinct.{split-eq}
 use Rattle.files.proofs.Done.{facts}
 use Rattle.files.proofs.Logic.{clash, split-option, or-left, or-right}
 use Rattle.files.proofs.RowLaws.{valueIn-here, valueIn-past}
-use Rattle.translator.specs.Sas.{Effect, Operator, Sas}
-use Rattle.translator.specs.Stated.{sizesOf, declaredIn, variablesOf, newVariable, isValue, isOldValue, supportedDeclaration, supportedPair, supportedPairs, supportedEffect, supportedEffects, supportedOperator, supportedStart, supported, oldPairs, newPairs}
+use Rattle.translator.specs.Sas.{Declaration, Started, Effect, Operator, Sas}
+use Rattle.translator.specs.Stated.{sizesOf, declaredIn, variablesOf, newVariable, isValue, isOldValue, supportedDeclaration, supportedPair, supportedPairs, supportedEffect, supportedEffects, supportedOperator, supportedStart, supported, oldPairs, newPairs, operatorAction, startedVariable, textual, orderedAction, ordered, stated}
 use Rattle.translator.proofs.OrderLaws.{Apart, none-some, value-cases}
 
 -- pairs of variables with these sizes, each variable once and none of those given before
@@ -154,3 +155,48 @@ text-supported x h =
       operators-few = q .1 .1 .1 .1 .1 .0;
       operators = q .1 .1 .1 .1 .1 .1 .0;
     }
+
+-- sizes, as the stated task has them
+pub sizes-count : (x : Sas) → length (sizesOf (declaredIn x)) ≡ variableCount (textual x)
+unfolding textual
+sizes-count x =
+    length-map (declaredIn x) (λ d. length (d .values))
+    ∙ length-map (x .variables) (λ v. v .declared)
+    ∙ sym (length-map (x .variables) startedVariable)
+
+sizes-are : (vs : List Started) (v : ℕ) → getD (sizesOf (map (λ s. s .declared) vs)) v 0 ≡ getD (map startedVariable vs) v (variable 0 0) .size
+unfolding startedVariable
+sizes-are [] v = refl
+sizes-are (s ∷ vs) zero = refl
+sizes-are (s ∷ vs) (suc v) = sizes-are vs v
+
+pub size-is : (x : Sas) (v : ℕ) → getD (sizesOf (declaredIn x)) v 0 ≡ sizeOf (stated x) v
+unfolding stated ordered textual
+size-is x v = sizes-are (x .variables) v
+
+module _ (x : Sas) where
+  pub variables-stated : length (x .variables) ≡ variableCount (stated x)
+  unfolding stated ordered textual
+  variables-stated = sym (length-map (x .variables) startedVariable)
+
+  pub actions-stated : length (x .operators) ≡ actionCount (stated x)
+  unfolding stated ordered textual
+  actions-stated =
+      sym (length-map (map (operatorAction (x .metric)) (x .operators)) (orderedAction (variableCount (textual x))) ∙ length-map (x .operators) (operatorAction (x .metric)))
+
+  -- its lists are on its variables
+  pub text-apart : (given : List ℕ) (ps : List Pair) → Fits (sizesOf (declaredIn x)) given ps → Apart (variableCount (textual x)) ps
+  text-apart given ps f = subst (λ (n : ℕ). Apart n ps) (sizes-count x) (f .apart)
+
+  pub text-inside : (given : List ℕ) (ps : List Pair) → Fits (sizesOf (declaredIn x)) given ps → (v y : ℕ) → valueIn ps v ≡ some y → y < sizeOf (stated x) v
+  text-inside given ps f v y e = subst (λ (n : ℕ). y < n) (size-is x v) (f .inside v y e)
+
+-- values that a cell can hold
+pub sizes-few : (ds : List Declaration) (v : ℕ) → allOf supportedDeclaration ds ≡ true → getD (sizesOf ds) v 0 ≤ 32
+unfolding supportedDeclaration
+sizes-few [] v h = omega arith
+sizes-few (d ∷ ds) zero h = simp facts at h .0 .1 .1
+sizes-few (d ∷ ds) (suc v) h = sizes-few ds v (simp facts at h .1)
+
+pub fits-few : (ds : List Declaration) (given : List ℕ) (ps : List Pair) → allOf supportedDeclaration ds ≡ true → Fits (sizesOf ds) given ps → (v x : ℕ) → valueIn ps v ≡ some x → x < 255
+fits-few ds given ps h f v x e = omega (arith, sizes-few ds v h, f .inside v x e)
