@@ -24,5 +24,13 @@ pub mod PartPrints
 pub mod StartPrints
 pub mod OperatorPrints
 pub mod TextPrints
+pub mod OrderLaws
+pub mod RowsInOrder
+pub mod Supported
+pub mod TextLengths
+pub mod StatedHeld
+pub mod OrderedMeans
+pub mod StatedShorter
+pub mod StatedLaws
 pub mod Computes
 pub mod Examples
