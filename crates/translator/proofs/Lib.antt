@@ -17,6 +17,8 @@ pub mod ReadingSteps
 pub mod ReadingTraces
 pub mod ReadingListed
 pub mod ReadingPlaces
+pub mod StepReading
+pub mod VariableReading
 pub mod Right
 pub mod PrintsLaws
 pub mod ListPrints

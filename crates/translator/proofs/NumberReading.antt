@@ -122,15 +122,15 @@ module _ (s : List ℕ) (at value here : ℕ) (inv : DigitsFrom s at value here)
   pub digits-next : (next : ℕ) → here < length s → isDigit (getD s here 0) ≡ true → next ≡ capped (10 * value + (getD s here 0 - 48)) → DigitsFrom s at next (here + 1)
   unfolding numberFrom
   digits-next next h e n = (
-      omega (arith, inv .0, digits-more s here h e),
-      ap (λ (k : ℕ). capped (numberFrom k (digitsIn (drop (here + 1) s)))) n
-      ∙ from-capped (10 * value + (getD s here 0 - 48)) (digitsIn (drop (here + 1) s))
-      ∙ sym (ap (λ (l : List ℕ). capped (numberFrom value l)) (digitsIn-more s here h e))
-      ∙ inv .1,
-      omega (arith, n, capped-most (10 * value + (getD s here 0 - 48))),
-      omega (arith, inv .3),
-      omega arith,
-    )
+    omega (arith, inv .0, digits-more s here h e),
+    ap (λ (k : ℕ). capped (numberFrom k (digitsIn (drop (here + 1) s)))) n
+        ∙ from-capped (10 * value + (getD s here 0 - 48)) (digitsIn (drop (here + 1) s))
+        ∙ sym (ap (λ (l : List ℕ). capped (numberFrom value l)) (digitsIn-more s here h e))
+        ∙ inv .1,
+    omega (arith, n, capped-most (10 * value + (getD s here 0 - 48))),
+    omega (arith, inv .3),
+    omega arith,
+  )
 
 -- a number at the front
 first-byte : (s : List ℕ) (at : ℕ) → getD (drop at s) 0 0 ≡ getD s at 0
@@ -150,6 +150,10 @@ numeral-zero s at b e z =
 pub numeral-digits : (s : List ℕ) (at b : ℕ) (r : Found) → b ≡ getD s at 0 → (b ≡ 48 → ⊥) → r ≡ digitsFound (drop at s) → r ≡ numeralFound (drop at s)
 unfolding numeralFound digitsFound numeralLength numeralValue
 numeral-digits s at b r e d q = rw (ne-eqb (getD (drop at s) 0 0) 48 (λ z. d (e ∙ sym (first-byte s at) ∙ z))) q
+
+pub numeral-count : (r : List ℕ) (found : Found) → found ≡ numeralFound r → found .count ≡ numeralLength r
+unfolding numeralFound
+numeral-count r found e = ap (λ (x : Found). x .count) e
 
 digitsLength-within : (r : List ℕ) → digitsLength r ≤ length r
 unfolding digitsLength

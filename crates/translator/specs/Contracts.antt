@@ -1,5 +1,5 @@
 -- Names for the parts of what functions ask and ensure.
-use Prim.Native.Nat.{ℕ, _≤_}
+use Prim.Native.Nat.{ℕ, _≤_, _<_}
 use mathlib.Core.Path.{_≡_}
 use mathlib.Core.Bool.{Bool, cond}
 use mathlib.Core.List.{List}
@@ -12,8 +12,9 @@ use Rattle.translator.specs.declared.fields.Cursor.{Cursor}
 use Rattle.translator.specs.declared.fields.Found.{Found}
 use Rattle.translator.specs.declared.fields.ReadNumber.{ReadNumber}
 use Rattle.translator.specs.Fields.{number, signed, digitsLength, numeralLength, numeralValue, fieldValue}
-use Rattle.translator.specs.Format.{isOpen, cursorRefused, fieldAfter}
-use Rattle.translator.specs.Sas.{Separator, byteOf}
+use Rattle.translator.specs.Format.{Format, isOpen, cursorRefused, fieldAfter, stepAfter, after, valueAfter}
+use Rattle.translator.specs.Sas.{Declaration, Separator, lineFeed, byteOf}
+use Rattle.translator.specs.Text.{layerFault}
 
 -- an offset of a text that is within the limit
 pub record Inside (s : List ℕ) (at : ℕ) : Type 0 where
@@ -70,3 +71,22 @@ ReadsSigned s c byte r = (separator : Separator) → byteOf separator ≡ byte �
 -- a cursor behind a test, which a fault at a place stands for where it fails
 unfoldable pub judged : Cursor → Bool → ℕ → ℕ → Cursor
 judged c passes fault place = cond (isOpen c) (cond passes c (cursorRefused (refusal fault place))) c
+
+-- a limit that is told from larger numbers
+pub record CountInside (s : List ℕ) (at most : ℕ) : Type 0 where
+  pub inside : Inside s at
+  pub low : most < 1048576
+
+-- the number that a format gives, by what is read
+unfoldable pub numberBy : {A : Type 0} → Format A → (A → ℕ) → List ℕ → Cursor → ReadNumber
+numberBy f g s c = settled (after f s c) (g (valueAfter f s c))
+
+abbrev pub same : ℕ → ℕ
+same n = n
+
+abbrev pub sizeOf : Declaration → ℕ
+sizeOf d = length (d .values)
+
+-- a cursor behind an axiom layer
+unfoldable pub layerAfter : List ℕ → Cursor → Cursor
+layerAfter s c = stepAfter (signed lineFeed) layerFault s c

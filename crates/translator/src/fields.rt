@@ -3,15 +3,23 @@
 ghost use mathlib.Core.Path.{_≡_};
 ghost use Prim.Native.Nat.{_+_, _-_, _*_};
 ghost use lib.ListN.{drop};
-ghost use Rattle.translator.specs.Contracts.{Inside, WordInside, capped, DigitBehind, digitsFound, numeralFound, NumeralInside, settled, ReadsNumber, ReadsSigned, judged};
+ghost use Rattle.translator.specs.Contracts.{Inside, WordInside, capped, DigitBehind, digitsFound, numeralFound, NumeralInside, settled, ReadsNumber, ReadsSigned, judged, CountInside, numberBy, same};
 ghost use Rattle.translator.specs.Fields.{byteAt, wordAt, lineLength, numeralAt, word, name};
 ghost use Rattle.translator.specs.Format.{reached, fieldAfter};
+ghost use Rattle.translator.specs.Text.{count};
 use files::Outcome;
 use files::bytes;
 use files::outcomes;
 
-// A form that the format does not have.
+// The numbers of refusals.
+// A word or number that the format does not have there.
 pub const FORM: u32 = 31;
+
+// Axioms, an axiom layer or effect conditions.
+pub const UNSUPPORTED: u32 = 32;
+
+// A variable that is given twice.
+pub const GIVEN_TWICE: u32 = 33;
 
 pub const LINE_FEED: u8 = 10;
 
@@ -257,4 +265,16 @@ pub fn judged(c: Cursor, passes: bool, fault: u32, place: usize) -> Cursor
         outcome: outcomes::refuse(fault, place),
         at: 0,
     }
+}
+
+// A count of at most so many.
+pub fn count(s: &[u8], c: Cursor, most: usize) -> ReadNumber
+    requires { ⌜ CountInside (now s) (c .at) most ⌝ }
+    ensures { λ r. ⌜ r ≡ numberBy (count most) same (now (s .entry)) c ⌝ }
+{
+    let n = number(s, c, LINE_FEED);
+    let value = n.value;
+    let counted = n.cursor;
+    let within = judged(counted, value <= most, outcomes::OUTSIDE_LIMITS, c.at);
+    settled(within, value)
 }

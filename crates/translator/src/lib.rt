@@ -1,2 +1,3 @@
 // Tasks from the translator's text.
 pub mod fields;
+pub mod variables;

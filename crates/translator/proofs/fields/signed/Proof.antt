@@ -35,7 +35,7 @@ settled-requires-2 : tie.Need-settled-requires-2
 settled-requires-2 c κs = search needs
 
 returns-3 : tie.Need-returns-3
-returns-3 c = signed-minus _ _ _ _ _ _ _ (c .before .before .before .before .before .before .before .if1 .left) (c .before .before .before .before .before .before .byte-at .ensures .is) (c .before .before .before .before .before .if2 .left) (c .before .before .before .word-due .ensures) (c .before .reached .ensures) (? .ensures)
+returns-3 c = signed-minus _ _ _ _ _ _ _ (c .before .before .before .before .before .before .before .if1 .left) (c .before .before .before .before .before .before .byte-at .ensures .is) (c .before .before .before .before .before .if2 .left) (c .before .before .before .word-due .ensures) (c .before .reached .ensures) (c .settled2 .ensures)
 
 pub signed-spec : {M : Type 1} → statement M
 signed-spec =

@@ -1,0 +1,162 @@
+-- A number and the tests on it, from the code's own tests: the cursor is the one behind the field and its faults.
+use Prim.Native.Nat.{ℕ, _≤_, _<_}
+use mathlib.Core.Path.{_≡_, refl, sym, ap, ap₂, _∙_}
+use mathlib.Core.Bool.{Bool, true, false, cond}
+use mathlib.Core.List.{List}
+use mathlib.Core.Option.{Option, none, some}
+use native.Mathlib.Omega.{arith}
+use lib.Dec.{eqb, leb, ltb}
+use lib.ListN.{drop}
+use borrow.Author.Tests.{le-leb, lt-leb, lt-ltb, le-ltb, leb-true, ltb-true, eq-eqb, ne-eqb}
+use Rattle.files.proofs.Logic.{clash, split, split-le}
+use Rattle.files.specs.Outcome.{refusal, isDone}
+use Rattle.translator.specs.declared.fields.Cursor.{Cursor}
+use Rattle.translator.specs.declared.fields.ReadNumber.{ReadNumber}
+use Rattle.translator.specs.Contracts.{capped, coded, settled, numberAfter, signedAfter, judged}
+use Rattle.translator.specs.Fields.{Field, Value, number, signed, fieldValue}
+use Rattle.translator.specs.Format.{Fault, unsupported, givenTwice, outsideLimits, outOfRange, faultNumber, unless, isOpen, cursorRefused, fieldAfter, faultAfter, stepAfter}
+use Rattle.translator.specs.Sas.{Separator}
+use Rattle.translator.specs.Stated.{isNone}
+use Rattle.translator.specs.Text.{any}
+use Rattle.translator.proofs.NumberReading.{capped-small, capped-large, capped-most}
+use Rattle.translator.proofs.ReadingLaws.{fault-refused}
+
+-- tests that capping does not change
+module _ (n k : ℕ) where
+  pub leb-capped : k < 1048576 → leb (capped n) k ≡ leb n k
+  leb-capped h =
+      split-le n 1048576
+      (λ l. ap (λ (x : ℕ). leb x k) (sym (capped-small n l)))
+      (λ l. let c = capped-large n l in lt-leb (capped n) k (omega arith) ∙ sym (lt-leb n k (omega arith)))
+
+  pub ltb-capped : k ≤ 1048576 → ltb (capped n) k ≡ ltb n k
+  ltb-capped h =
+      split-le n 1048576
+      (λ l. ap (λ (x : ℕ). ltb x k) (sym (capped-small n l)))
+      (λ l. let c = capped-large n l in le-ltb (capped n) k (omega arith) ∙ sym (le-ltb n k (omega arith)))
+
+  pub least-capped : k ≤ 1048576 → leb k (capped n) ≡ leb k n
+  least-capped h =
+      split-le n 1048576
+      (λ l. ap (leb k) (sym (capped-small n l)))
+      (λ l. let c = capped-large n l in le-leb k (capped n) (omega arith) ∙ sym (le-leb k n (omega arith)))
+
+  pub eqb-capped : k < 1048576 → eqb (capped n) k ≡ eqb n k
+  eqb-capped h =
+      split-le n 1048576
+      (λ l. ap (λ (x : ℕ). eqb x k) (sym (capped-small n l)))
+      (λ l. let c = capped-large n l in ne-eqb (capped n) k (λ e. omega arith) ∙ sym (ne-eqb n k (λ e. omega arith)))
+
+-- a refusal is not open
+refused-closed : (f : Fault) (place : ℕ) → isOpen (cursorRefused (refusal (faultNumber f) place)) ≡ false
+unfolding isOpen isDone
+refused-closed unsupported place = refl
+refused-closed givenTwice place = refl
+refused-closed outsideLimits place = refl
+refused-closed outOfRange place = refl
+
+fault-closed : (f : Fault) (place : ℕ) (c : Cursor) → isOpen (faultAfter (some f) place c) ≡ false
+unfolding faultAfter
+fault-closed f place c = split (isOpen c) (λ e. rw e (refused-closed f place)) (λ e. rw e e)
+
+pub fault-judged : (c : Cursor) (b t : Bool) (f : Fault) (place : ℕ) → (isOpen c ≡ true → b ≡ t) → judged c b (faultNumber f) place ≡ faultAfter (unless t f none) place c
+unfolding judged faultAfter
+fault-judged c b t f place h =
+    split (isOpen c)
+    (λ e. rw (e, h e) (opened t e))
+    (λ e. rw e (sym (fault-refused (unless t f none) place c e)))
+  where
+    opened : (t : Bool) → isOpen c ≡ true → cond t c (cursorRefused (refusal (faultNumber f) place)) ≡ faultAfter (unless t f none) place c
+    opened true e = refl
+    opened false e = rw e refl
+
+-- one test behind another
+pub fault-then : (t : Bool) (f : Fault) (others : Option Fault) (place : ℕ) (c : Cursor) → faultAfter others place (faultAfter (unless t f none) place c) ≡ faultAfter (unless t f others) place c
+unfolding faultAfter
+fault-then true f others place c = refl
+fault-then false f others place c = fault-refused others place (faultAfter (some f) place c) (fault-closed f place c)
+
+pub judged-before : (c : Cursor) (b : Bool) (fault place : ℕ) → isOpen (judged c b fault place) ≡ true → isOpen c ≡ true
+unfolding judged
+judged-before c b fault place e = split (isOpen c) (λ o. o) (λ o. clash e (ap isOpen (closed o) ∙ o))
+  where
+    closed : isOpen c ≡ false → judged c b fault place ≡ c
+    closed o = rw o refl
+
+-- a step that is open has no fault
+module _ (f : Field) (fault : Value f → Option Fault) (s : List ℕ) (c : Cursor) (open′ : isOpen (stepAfter f fault s c) ≡ true) where
+  step-cases : (o : Option Fault) → isOpen (faultAfter o (c .at) (fieldAfter f s c)) ≡ true → (o ≡ none) × (isOpen (fieldAfter f s c) ≡ true)
+  unfolding faultAfter
+  step-cases none e = (refl, e)
+  step-cases (some x) e = clash e (fault-closed x (c .at) (fieldAfter f s c))
+
+  pub step-fine : fault (fieldValue f (drop (c .at) s)) ≡ none
+  unfolding stepAfter
+  step-fine = step-cases (fault (fieldValue f (drop (c .at) s))) open′ .0
+
+  pub step-field : isOpen (fieldAfter f s c) ≡ true
+  unfolding stepAfter
+  step-field = step-cases (fault (fieldValue f (drop (c .at) s))) open′ .1
+
+-- a test passes where nothing else is wrong
+pub unless-none : (t : Bool) (f : Fault) (others : Option Fault) → unless t f others ≡ none → (t ≡ true) × (others ≡ none)
+unless-none true f others e = (refl, e)
+unless-none false f others e = absurd (some-none f e)
+  where
+    some-none : (f : Fault) → some f ≡ none → ⊥
+    some-none f e = let z : _≡_ {A = ℕ} 1 0 = ap number e in omega arith
+      where
+        number : Option Fault → ℕ
+        number none = 0
+        number (some f) = 1
+
+pub settled-same : (c : Cursor) (a b : ℕ) → (isOpen c ≡ true → a ≡ b) → settled c a ≡ settled c b
+unfolding settled
+settled-same c a b h = split (isOpen c) (λ e. rw (e, h e) refl) (λ e. rw e refl)
+
+module _ (f : Field) (s : List ℕ) (c : Cursor) (n : ReadNumber) (v : ℕ) (is : n ≡ settled (fieldAfter f s c) v) where
+  pub read-cursor : n .cursor ≡ fieldAfter f s c
+  unfolding settled
+  read-cursor = ap (λ (x : ReadNumber). x .cursor) is
+
+  pub read-value : isOpen (fieldAfter f s c) ≡ true → n .value ≡ v
+  unfolding settled
+  read-value e = ap (λ (x : ReadNumber). x .value) is ∙ rw e refl
+
+  pub read-tested : (x : Fault) (t : Value f → Bool) (b : Bool) (j : Cursor) → (isOpen (fieldAfter f s c) ≡ true → b ≡ t (fieldValue f (drop (c .at) s)))
+      → j ≡ judged (n .cursor) b (faultNumber x) (c .at) → j ≡ stepAfter f (λ u. unless (t u) x none) s c
+  unfolding stepAfter
+  read-tested x t b j h e =
+      e
+      ∙ ap (λ (d : Cursor). judged d b (faultNumber x) (c .at)) read-cursor
+      ∙ fault-judged (fieldAfter f s c) b (t (fieldValue f (drop (c .at) s))) x (c .at) h
+
+  pub read-tested-twice : (x y : Fault) (t u : Value f → Bool) (b d : Bool) (j k : Cursor)
+      → (isOpen (fieldAfter f s c) ≡ true → b ≡ t (fieldValue f (drop (c .at) s)))
+      → (isOpen (fieldAfter f s c) ≡ true → d ≡ u (fieldValue f (drop (c .at) s)))
+      → j ≡ judged (n .cursor) b (faultNumber x) (c .at) → k ≡ judged j d (faultNumber y) (c .at)
+      → k ≡ stepAfter f (λ w. unless (t w) x (unless (u w) y none)) s c
+  unfolding stepAfter
+  read-tested-twice x y t u b d j k h g e q =
+      let v : Value f = fieldValue f (drop (c .at) s) in
+      let first : j ≡ stepAfter f (λ w. unless (t w) x none) s c = read-tested x t b j h e in
+      q
+      ∙ ap (λ (z : Cursor). judged z d (faultNumber y) (c .at)) first
+      ∙ fault-judged (stepAfter f (λ w. unless (t w) x none) s c) d (u v) y (c .at)
+      (λ o. g (step-field f (λ w. unless (t w) x none) s c o))
+      ∙ fault-then (t v) x (unless (u v) y none) (c .at) (fieldAfter f s c)
+
+-- numbers and signed numbers as they are read
+pub number-is : (separator : Separator) (s : List ℕ) (c : Cursor) (n : ReadNumber) → n ≡ numberAfter separator s c
+    → n ≡ settled (fieldAfter (number separator) s c) (capped (fieldValue (number separator) (drop (c .at) s)))
+unfolding numberAfter
+number-is separator s c n e = e
+
+pub signed-is : (separator : Separator) (s : List ℕ) (c : Cursor) (n : ReadNumber) → n ≡ signedAfter separator s c
+    → n ≡ settled (fieldAfter (signed separator) s c) (coded (fieldValue (signed separator) (drop (c .at) s)))
+unfolding signedAfter
+signed-is separator s c n e = e
+
+pub none-coded : (o : Option ℕ) → eqb (coded o) 1048577 ≡ isNone o
+none-coded none = refl
+none-coded (some n) = ne-eqb (capped n) 1048577 (λ e. omega (arith, capped-most n))
