@@ -1,20 +1,22 @@
 -- Names for the parts of what functions ask and ensure.
-use Prim.Native.Nat.{ℕ, _≤_, _<_}
+use Prim.Native.Nat.{ℕ, _%_, _≤_, _<_}
 use mathlib.Core.Path.{_≡_}
-use mathlib.Core.Bool.{Bool, cond}
-use mathlib.Core.List.{List}
+use mathlib.Core.Bool.{Bool, true, cond}
+use mathlib.Core.List.{List, map}
 use mathlib.Core.Option.{Option, none, some}
 use lib.Dec.{leb}
 use lib.ListN.{length, take, drop}
+use Rattle.files.specs.Bytes.{placed}
 use Rattle.files.specs.Outcome.{refusal}
 use Rattle.digits.specs.Decimal.{numberOf}
 use Rattle.translator.specs.declared.fields.Cursor.{Cursor}
 use Rattle.translator.specs.declared.fields.Found.{Found}
 use Rattle.translator.specs.declared.fields.ReadNumber.{ReadNumber}
 use Rattle.translator.specs.Fields.{number, signed, digitsLength, numeralLength, numeralValue, fieldValue}
-use Rattle.translator.specs.Format.{Format, isOpen, cursorRefused, fieldAfter, stepAfter, after, valueAfter}
-use Rattle.translator.specs.Sas.{Declaration, Separator, lineFeed, byteOf}
-use Rattle.translator.specs.Text.{layerFault}
+use Rattle.translator.specs.Format.{Format, field, isOpen, cursorRefused, fieldAfter, stepAfter, after, valueAfter}
+use Rattle.translator.specs.Sas.{Declaration, Started, Separator, lineFeed, byteOf}
+use Rattle.translator.specs.Stated.{sizesOf}
+use Rattle.translator.specs.Text.{any, each, layerFault, declaration, group, start, starts}
 
 -- an offset of a text that is within the limit
 pub record Inside (s : List ℕ) (at : ℕ) : Type 0 where
@@ -90,3 +92,41 @@ sizeOf d = length (d .values)
 -- a cursor behind an axiom layer
 unfoldable pub layerAfter : List ℕ → Cursor → Cursor
 layerAfter s c = stepAfter (signed lineFeed) layerFault s c
+
+-- arrays with a cell for each of `count` variables
+pub record VariablesInside (s : List ℕ) (at count : ℕ) (cells : List ℕ) : Type 0 where
+  pub inside : Inside s at
+  pub few : count ≤ 64
+  pub room : 64 ≤ length cells
+
+pub record StartsInside (s : List ℕ) (at count : ℕ) (sizes cells : List ℕ) : Type 0 where
+  pub inside : VariablesInside s at count cells
+  pub sizesRoom : 64 ≤ length sizes
+
+-- domain sizes and start values as they are stored
+abbrev pub storedSizes : List Declaration → List ℕ
+storedSizes declarations = map (λ d. sizeOf d % 256) declarations
+
+abbrev pub storedStarts : List Started → List ℕ
+storedStarts variables = map (λ v. v .start % 256) variables
+
+-- a cursor behind the declarations, and an array before and after their sizes are stored, where nothing is refused
+pub record DeclarationsRead (s : List ℕ) (c : Cursor) (count : ℕ) (before : List ℕ) (r : Cursor) (now : List ℕ) : Type 0 where
+  pub cursor : r ≡ after (each declaration count) s c
+  pub stored : isOpen r ≡ true → now ≡ placed before 0 (storedSizes (valueAfter (each declaration count) s c))
+
+-- a start value, of any declaration of so many values
+abbrev pub StartRead : List ℕ → Cursor → ℕ → ReadNumber → Type 0
+StartRead s c size r = (d : Declaration) → sizeOf d ≡ size → r ≡ numberBy (start d) (λ v. v .start) s c
+
+-- and start values, of any declarations that have the sizes
+pub record StartsStored (s : List ℕ) (c : Cursor) (declarations : List Declaration) (before : List ℕ) (r : Cursor) (now : List ℕ) : Type 0 where
+  pub cursor : r ≡ after (starts declarations) s c
+  pub stored : isOpen r ≡ true → now ≡ placed before 0 (storedStarts (valueAfter (starts declarations) s c))
+
+abbrev pub StartsRead : List ℕ → Cursor → ℕ → List ℕ → List ℕ → Cursor → List ℕ → Type 0
+StartsRead s c count sizes before r now = (declarations : List Declaration) → sizesOf declarations ≡ take count sizes → StartsStored s c declarations before r now
+
+-- a cursor behind the mutex groups
+unfoldable pub groupsAfter : List ℕ → Cursor → Cursor
+groupsAfter s c = after (field (number lineFeed) any (λ n. each group n)) s c

@@ -1,3 +1,4 @@
 // Tasks from the translator's text.
 pub mod fields;
+pub mod groups;
 pub mod variables;

@@ -1,7 +1,7 @@
 // The variables of a text: their declarations, of which the domain sizes are stored, and their start
 // values.
 ghost use mathlib.Core.Path.{_≡_};
-ghost use Rattle.translator.specs.Contracts.{Inside, same, sizeOf, numberBy, layerAfter};
+ghost use Rattle.translator.specs.Contracts.{Inside, CountInside, same, sizeOf, numberBy, layerAfter, VariablesInside, DeclarationsRead, StartRead, StartsInside, StartsRead};
 ghost use Rattle.translator.specs.Format.{after};
 ghost use Rattle.translator.specs.Text.{nameLines, size, declaration};
 use crate::fields;
@@ -65,4 +65,48 @@ fn declaration(s: &[u8], c: Cursor) -> ReadNumber
     let values = names(s, sized.cursor, sized.value);
     let ended = fields::word(s, values, b"end_variable\n");
     fields::settled(ended, sized.value)
+}
+
+// The declarations of `count` variables, and their domain sizes in order.
+pub fn declarations(s: &[u8], c: Cursor, count: usize, sizes: &mut [u8]) -> Cursor
+    requires { ⌜ VariablesInside (now s) (c .at) count (now sizes) ⌝ }
+    ensures { λ r. ⌜ DeclarationsRead (now (s .entry)) c count (now (sizes .entry)) r (now (sizes .exit)) ⌝ }
+{
+    let mut here = c;
+    let mut v: usize = 0;
+    while v < count {
+        let one = declaration(s, here);
+        sizes[v] = (one.value % 256) as u8;
+        here = one.cursor;
+        v += 1;
+    }
+    here
+}
+
+// The start value of a variable of `size` values.
+fn start(s: &[u8], c: Cursor, size: usize) -> ReadNumber
+    requires { ⌜ CountInside (now s) (c .at) size ⌝ }
+    ensures { λ r. ⌜ StartRead (now (s .entry)) c size r ⌝ }
+{
+    let n = fields::number(s, c, fields::LINE_FEED);
+    let value = n.value;
+    let read = n.cursor;
+    let within = fields::judged(read, value < size, outcomes::OUT_OF_RANGE, c.at);
+    fields::settled(within, value)
+}
+
+// The start values of `count` variables.
+pub fn starts(s: &[u8], c: Cursor, count: usize, sizes: &[u8], starts: &mut [u8]) -> Cursor
+    requires { ⌜ StartsInside (now s) (c .at) count (now sizes) (now starts) ⌝ }
+    ensures { λ r. ⌜ StartsRead (now (s .entry)) c count (now (sizes .entry)) (now (starts .entry)) r (now (starts .exit)) ⌝ }
+{
+    let mut here = c;
+    let mut v: usize = 0;
+    while v < count {
+        let one = start(s, here, sizes[v] as usize);
+        starts[v] = (one.value % 256) as u8;
+        here = one.cursor;
+        v += 1;
+    }
+    here
 }
