@@ -19,6 +19,7 @@ pub mod ReadingListed
 pub mod ReadingPlaces
 pub mod StepReading
 pub mod VariableReading
+pub mod RowReading
 pub mod Right
 pub mod PrintsLaws
 pub mod ListPrints
@@ -34,5 +35,7 @@ pub mod StatedHeld
 pub mod OrderedMeans
 pub mod StatedShorter
 pub mod StatedLaws
+pub mod ListReading
+pub mod ConditionsReading
 pub mod Computes
 pub mod Examples

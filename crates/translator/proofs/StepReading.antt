@@ -1,7 +1,7 @@
 -- A number and the tests on it, from the code's own tests: the cursor is the one behind the field and its faults.
 use Prim.Native.Nat.{ℕ, _≤_, _<_}
 use mathlib.Core.Path.{_≡_, refl, sym, ap, ap₂, _∙_}
-use mathlib.Core.Bool.{Bool, true, false, cond}
+use mathlib.Core.Bool.{Bool, true, false, cond, _&&_}
 use mathlib.Core.List.{List}
 use mathlib.Core.Option.{Option, none, some}
 use native.Mathlib.Omega.{arith}
@@ -75,6 +75,16 @@ pub fault-then : (t : Bool) (f : Fault) (others : Option Fault) (place : ℕ) (c
 unfolding faultAfter
 fault-then true f others place c = refl
 fault-then false f others place c = fault-refused others place (faultAfter (some f) place c) (fault-closed f place c)
+
+pub fault-both : (a b : Bool) (f : Fault) (place : ℕ) (c : Cursor) → faultAfter (unless b f none) place (faultAfter (unless a f none) place c) ≡ faultAfter (unless (a && b) f none) place c
+fault-both a b f place c = fault-then a f (unless b f none) place c ∙ ap (λ (o : Option Fault). faultAfter o place c) (joined a)
+  where
+    joined : (a : Bool) → unless a f (unless b f none) ≡ unless (a && b) f none
+    joined true = refl
+    joined false = refl
+
+pub fault-before : (o : Option Fault) (place : ℕ) (c : Cursor) → isOpen (faultAfter o place c) ≡ true → isOpen c ≡ true
+fault-before o place c e = split (isOpen c) (λ p. p) (λ p. clash e (ap isOpen (fault-refused o place c p) ∙ p))
 
 pub judged-before : (c : Cursor) (b : Bool) (fault place : ℕ) → isOpen (judged c b fault place) ≡ true → isOpen c ≡ true
 unfolding judged

@@ -1,6 +1,6 @@
 -- Counts, layers, sizes and declarations, from the code's own steps.
 use Prim.Native.Nat.{ℕ, zero, suc, _-_, _≤_, _<_}
-use mathlib.Core.Path.{_≡_, refl, sym, ap, ap₂, _∙_}
+use mathlib.Core.Path.{_≡_, refl, sym, ap, ap₂, subst, _∙_}
 use mathlib.Core.Bool.{Bool, true, false, cond}
 use mathlib.Core.List.{List, _∷_}
 use mathlib.Core.Option.{Option, none, some}
@@ -8,7 +8,7 @@ use native.Mathlib.Omega.{arith}
 use lib.Dec.{eqb, leb}
 use lib.ListN.{length, drop}
 use borrow.Author.Tests.{leb-true}
-use Rattle.files.proofs.Logic.{split}
+use Rattle.files.proofs.Logic.{split, cond-case}
 use Rattle.digits.specs.Decimal.{ascii}
 use Rattle.translator.specs.declared.fields.Cursor.{Cursor}
 use Rattle.translator.specs.declared.fields.ReadNumber.{ReadNumber}
@@ -42,6 +42,22 @@ number-inside f g s c r h e = after-inside f s c (r .cursor) h (ap (λ (x : Read
 pub layer-inside : (s : List ℕ) (c r : Cursor) → Inside s (c .at) → r ≡ layerAfter s c → Inside s (r .at)
 unfolding layerAfter after
 layer-inside s c r h e = after-inside (field (signed lineFeed) layerFault gives) s c r h e
+
+pub judged-inside : (s : List ℕ) (c r : Cursor) (b : Bool) (fault place : ℕ) → Inside s (c .at) → r ≡ judged c b fault place → Inside s (r .at)
+unfolding judged
+judged-inside s c r b fault place h e =
+    record {
+      limited = h .limited;
+      within = subst (λ (x : Cursor). x .at ≤ length s) (sym e) (cond-case (λ (x : Cursor). x .at ≤ length s) (isOpen c) _ c (λ o. cond-case (λ (x : Cursor). x .at ≤ length s) b c _ (λ t. h .within) (λ t. omega arith)) (λ o. h .within));
+    }
+
+pub settled-inside : (s : List ℕ) (c : Cursor) (n : ℕ) (r : ReadNumber) → Inside s (c .at) → r ≡ settled c n → Inside s (r .cursor .at)
+unfolding settled
+settled-inside s c n r h e = subst (λ (x : ReadNumber). Inside s (x .cursor .at)) (sym e) h
+
+pub read-inside : (separator : Separator) (s : List ℕ) (c : Cursor) (r : ReadNumber) → Inside s (c .at) → r ≡ numberAfter separator s c → Inside s (r .cursor .at)
+unfolding numberAfter
+read-inside separator s c r h e = settled-inside s _ _ r (field-inside (number separator) s c _ h refl) e
 
 pub word-inside : (s w : List ℕ) (at : ℕ) → Inside s at → length w ≤ 64 → WordInside s at w
 word-inside s w at h l = record { inside = h; short = l }

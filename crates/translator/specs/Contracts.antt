@@ -1,22 +1,24 @@
 -- Names for the parts of what functions ask and ensure.
-use Prim.Native.Nat.{ℕ, _%_, _≤_, _<_}
+use Prim.Native.Nat.{ℕ, _+_, _%_, _≤_, _<_}
 use mathlib.Core.Path.{_≡_}
-use mathlib.Core.Bool.{Bool, true, cond}
-use mathlib.Core.List.{List, map}
+use mathlib.Core.Bool.{Bool, true, not, cond, _&&_}
+use mathlib.Core.List.{List, [], _∷_, map}
 use mathlib.Core.Option.{Option, none, some}
-use lib.Dec.{leb}
-use lib.ListN.{length, take, drop}
+use lib.Dec.{eqb, leb, ltb}
+use lib.ListN.{length, getD, take, drop}
+use Rattle.files.specs.Below.{anyOf}
 use Rattle.files.specs.Bytes.{placed}
 use Rattle.files.specs.Outcome.{refusal}
+use Rattle.files.specs.Rows.{cleared, filled}
 use Rattle.digits.specs.Decimal.{numberOf}
 use Rattle.translator.specs.declared.fields.Cursor.{Cursor}
 use Rattle.translator.specs.declared.fields.Found.{Found}
 use Rattle.translator.specs.declared.fields.ReadNumber.{ReadNumber}
 use Rattle.translator.specs.Fields.{number, signed, digitsLength, numeralLength, numeralValue, fieldValue}
-use Rattle.translator.specs.Format.{Format, field, isOpen, cursorRefused, fieldAfter, stepAfter, after, valueAfter}
-use Rattle.translator.specs.Sas.{Declaration, Started, Separator, lineFeed, byteOf}
-use Rattle.translator.specs.Stated.{sizesOf}
-use Rattle.translator.specs.Text.{any, each, layerFault, declaration, group, start, starts}
+use Rattle.translator.specs.Format.{outOfRange, unless, Format, gives, field, isOpen, cursorRefused, fieldAfter, stepAfter, after, valueAfter}
+use Rattle.translator.specs.Sas.{Declaration, Started, Separator, blank, lineFeed, byteOf}
+use Rattle.translator.specs.Stated.{sizesOf, variablesOf}
+use Rattle.translator.specs.Text.{any, each, layerFault, declaration, group, start, starts, variableFault, condition, conditions}
 
 -- an offset of a text that is within the limit
 pub record Inside (s : List ℕ) (at : ℕ) : Type 0 where
@@ -130,3 +132,55 @@ StartsRead s c count sizes before r now = (declarations : List Declaration) → 
 -- a cursor behind the mutex groups
 unfoldable pub groupsAfter : List ℕ → Cursor → Cursor
 groupsAfter s c = after (field (number lineFeed) any (λ n. each group n)) s c
+
+-- a row of 64 cells
+pub record RowInside (row : List ℕ) (base : ℕ) : Type 0 where
+  pub room : base + 64 ≤ length row
+
+-- the row at `base` has no pair on a variable
+unfoldable pub isNew : List ℕ → ℕ → ℕ → Bool
+isNew row base v = cond (leb 64 v) true (eqb (getD row (base + v) 0) 255)
+
+-- just the variables that were given have a pair in one of two rows
+abbrev pub Given : List ℕ → List ℕ → ℕ → List ℕ → Type 0
+Given first second base given = (v : ℕ) → isNew first base v && isNew second base v ≡ not (anyOf (eqb v) given)
+
+pub record VariableInside (s : List ℕ) (at : ℕ) (first second : List ℕ) (base variables : ℕ) : Type 0 where
+  pub inside : Inside s at
+  pub firstRoom : RowInside first base
+  pub secondRoom : RowInside second base
+  pub few : variables ≤ 64
+
+-- a variable that was not given before
+abbrev pub variableOf : List ℕ → List ℕ → Format ℕ
+variableOf sizes given = field (number blank) (variableFault sizes given) gives
+
+pub record VariableRead (s : List ℕ) (c : Cursor) (first second : List ℕ) (base variables : ℕ) (r : ReadNumber) : Type 0 where
+  pub inside : Inside s (r .cursor .at)
+  pub is : (sizes given : List ℕ) → length sizes ≡ variables → (isOpen c ≡ true → Given first second base given) → r ≡ numberBy (variableOf sizes given) same s c
+
+-- a value of a domain
+abbrev pub valueBelow : ℕ → Format ℕ
+valueBelow size = field (number lineFeed) (λ n. unless (ltb n size) outOfRange none) gives
+
+pub record PairInside (s : List ℕ) (at : ℕ) (sizes : List ℕ) (variables : ℕ) (row : List ℕ) (base : ℕ) : Type 0 where
+  pub inside : Inside s at
+  pub sizesRoom : 64 ≤ length sizes
+  pub few : variables ≤ 64
+  pub room : RowInside row base
+
+-- a pair, and a row before and after it is stored, where nothing is refused
+pub record PairStored (s : List ℕ) (c : Cursor) (sizes given before : List ℕ) (base : ℕ) (r : Cursor) (now : List ℕ) : Type 0 where
+  pub cursor : r ≡ after (condition sizes given) s c
+  pub row : isOpen r ≡ true → now ≡ filled before base (valueAfter (condition sizes given) s c ∷ [])
+  pub given′ : isOpen r ≡ true → Given now now base (valueAfter (condition sizes given) s c .variable ∷ given)
+
+abbrev pub PairRead : List ℕ → Cursor → List ℕ → ℕ → List ℕ → ℕ → Cursor → List ℕ → Type 0
+PairRead s c sizes variables before base r now =
+    (given : List ℕ) → (isOpen c ≡ true → Given before before base given) → PairStored s c (take variables sizes) given before base r now
+
+-- pairs, in a row that is cleared first
+pub record ListRead (s : List ℕ) (c : Cursor) (count : ℕ) (sizes : List ℕ) (variables : ℕ) (before : List ℕ) (base : ℕ) (r : Cursor) (now : List ℕ) : Type 0 where
+  pub cursor : r ≡ after (conditions (take variables sizes) [] count) s c
+  pub row : isOpen r ≡ true → now ≡ filled (cleared before base 64) base (valueAfter (conditions (take variables sizes) [] count) s c)
+  pub given′ : isOpen r ≡ true → Given now now base (variablesOf (valueAfter (conditions (take variables sizes) [] count) s c))

@@ -1,4 +1,5 @@
 // Tasks from the translator's text.
 pub mod fields;
 pub mod groups;
+pub mod lists;
 pub mod variables;
