@@ -19,6 +19,7 @@ pub mod ReadingListed
 pub mod ReadingPlaces
 pub mod StepReading
 pub mod VariableReading
+pub mod GroupReading
 pub mod Right
 pub mod PrintsLaws
 pub mod ListPrints
