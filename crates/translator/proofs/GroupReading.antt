@@ -3,7 +3,7 @@ use Prim.Native.Nat.{ℕ, zero, suc, _+_, _-_, _≤_, _<_}
 use mathlib.Core.Path.{_≡_, refl, sym, ap, _∙_}
 use mathlib.Core.Bool.{true}
 use mathlib.Core.List.{List}
-use mathlib.Core.Option.{Option, none}
+use mathlib.Core.Option.{Option}
 use native.Mathlib.Omega.{arith}
 use lib.ListN.{length, drop}
 use Rattle.files.proofs.Guards.{is-refused, done-number}
@@ -56,7 +56,7 @@ after-onward (field f fault next) s c e =
     )
 
 -- a format that takes a byte at least
-abbrev pub Onward : {A : Type 0} → Format A → List ℕ → Type 0
+abbrev Onward : {A : Type 0} → Format A → List ℕ → Type 0
 Onward f s = (c : Cursor) → isOpen (after f s c) ≡ true → c .at < after f s c .at
 
 field-onward : {A : Type 0} (f : Field) (fault : Value f → Option Fault) (next : Value f → Format A) (s : List ℕ) → ((r : List ℕ) → 1 ≤ fieldLength f r) → Onward (field f fault next) s
@@ -70,7 +70,7 @@ number-some : (separator : Separator) (r : List ℕ) → 1 ≤ fieldLength (numb
 unfolding fieldLength
 number-some separator r = omega arith
 
-pub pair-onward : (s : List ℕ) → Onward (freePair lineFeed) s
+pair-onward : (s : List ℕ) → Onward (freePair lineFeed) s
 unfolding freePair
 pair-onward s = field-onward (number blank) _ _ s (number-some blank)
 
@@ -78,7 +78,7 @@ begin-some : (r : List ℕ) → 1 ≤ fieldLength (word (ascii "begin_mutex_grou
 unfolding fieldLength ascii
 begin-some r = omega arith
 
-pub group-onward : (s : List ℕ) → Onward group s
+group-onward : (s : List ℕ) → Onward group s
 unfolding group says
 group-onward s = field-onward (word (ascii "begin_mutex_group\n")) _ _ s begin-some
 
@@ -95,14 +95,14 @@ module _ {A : Type 0} (f : Format A) (s : List ℕ) (onward : Onward f s) where
       (λ e. after-refused (each f n) s next e ∙ sym (after-refused (each f m) s next e))
       ∙ sym (each-more f s m c)
 
-  pub each-capped : (n : ℕ) (c : Cursor) → Inside s (c .at) → after (each f (capped n)) s c ≡ after (each f n) s c
+  each-capped : (n : ℕ) (c : Cursor) → Inside s (c .at) → after (each f (capped n)) s c ≡ after (each f n) s c
   each-capped n c h =
       split-le n 1048576
       (λ l. ap (λ (k : ℕ). after (each f k) s c) (sym (capped-small n l)))
       (λ l. sym (each-enough (capped n) n c (h .within) (omega (arith, capped-large n l, h .limited)) (omega (arith, capped-large n l))))
 
   -- as many as a number says that was read
-  pub each-counted : (c r : Cursor) (n : ReadNumber) → Inside s (c .at) → n ≡ numberAfter lineFeed s c → r ≡ after (each f (n .value)) s (n .cursor)
+  each-counted : (c r : Cursor) (n : ReadNumber) → Inside s (c .at) → n ≡ numberAfter lineFeed s c → r ≡ after (each f (n .value)) s (n .cursor)
       → r ≡ after (each f (fieldValue (number lineFeed) (drop (c .at) s))) s (fieldAfter (number lineFeed) s c)
   each-counted c r n h e q =
       let counted : Cursor = fieldAfter (number lineFeed) s c in

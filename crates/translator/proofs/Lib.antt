@@ -20,6 +20,7 @@ pub mod ReadingPlaces
 pub mod StepReading
 pub mod VariableReading
 pub mod GroupReading
+pub mod StartReading
 pub mod Right
 pub mod PrintsLaws
 pub mod ListPrints
