@@ -20,6 +20,8 @@ pub mod ReadingPlaces
 pub mod StepReading
 pub mod VariableReading
 pub mod RowReading
+pub mod GroupReading
+pub mod StartReading
 pub mod Right
 pub mod PrintsLaws
 pub mod ListPrints

@@ -1,0 +1,52 @@
+-- The pairs that are left end where all end.
+use mathlib.Core.Path.{_≡_, refl}
+use Rattle.translator.specs.Contracts.{Inside}
+use Rattle.translator.specs.Format.{after}
+use Rattle.translator.specs.Sas.{lineFeed}
+use Rattle.translator.specs.Text.{each, freePair}
+use Rattle.translator.proofs.VariableReading.{after-inside, each-next, each-end}
+use Rattle.translator.proofs.GroupReading.{each-stops}
+use borrow.Author.Needs.{needs}
+use Rattle.translator.proofs.groups.pairs.Statement.{statement}
+use Rattle.translator.proofs.groups.pairs.Tie as tie
+
+abbrev Inv-loop : tie.InvT-loop
+Inv-loop s count here₀ left₀ here left = (after (each (freePair lineFeed) left) s here ≡ after (each (freePair lineFeed) count) s here₀) × Inside s (here .at)
+
+abbrev μ-loop : tie.MeasureT-loop
+μ-loop s count here₀ left₀ here left = left
+
+loop-holds : tie.Need-loop-holds Inv-loop μ-loop
+loop-holds c = (refl, c .before .pre)
+
+pair-requires : tie.Need-pair-requires Inv-loop μ-loop
+pair-requires c κs = c .before .loop .inv .1
+
+returns : tie.Need-returns Inv-loop μ-loop
+returns c = each-stops _ _ _ _ _ (c .before .before .before .before .before .loop .inv .0) _ (c .before .before .before .before .loop-test .taken) (c .before .before .before .pair .ensures) (c .if1 .taken)
+
+sub-left : tie.Need-sub-left Inv-loop μ-loop
+sub-left c = search needs
+
+loop-less : tie.Need-loop-less Inv-loop μ-loop
+loop-less c = search needs
+
+loop-again : tie.Need-loop-again Inv-loop μ-loop
+loop-again c = (each-next _ _ _ _ _ (c .before .before .before .before .before .loop .inv .0) _ (c .before .before .before .before .loop-test .taken) (c .before .before .before .pair .ensures), after-inside _ _ _ _ (c .before .before .before .before .before .loop .inv .1) (c .before .before .before .pair .ensures))
+
+returns-2 : tie.Need-returns-2 Inv-loop μ-loop
+returns-2 c = each-end _ _ _ _ _ (c .before .loop .inv .0) (c .loop-test .left)
+
+pub pairs-spec : {M : Type 1} → statement M
+pairs-spec =
+    tie.close
+    (tie.spec
+    Inv-loop
+    μ-loop
+    loop-holds
+    pair-requires
+    returns
+    sub-left
+    loop-less
+    loop-again
+    returns-2)
