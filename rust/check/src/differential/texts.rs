@@ -41,8 +41,8 @@ pub fn as_it_is(comparison: &mut Comparison, random: &mut Random, text: &[u8]) {
     comparison.translate(text, random.one_of(&SIGNERS), length);
 }
 
-/// Texts of the task, with conditions on variables that are set as old values
-/// or not; whole and damaged up to three times, or more rarely oftener.
+/// Texts of the task, whole, damaged once, and damaged on and on; the first may
+/// give variables twice and be too long.
 pub fn damaged(comparison: &mut Comparison, random: &mut Random, task: &Task) {
     let old_values = random.one_of(&[0, 90, 100]);
     let any = generate::printed(random, task, old_values);

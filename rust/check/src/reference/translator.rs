@@ -237,7 +237,9 @@ impl<'a> Reader<'a> {
                 return Err(conditions.refused(NOT_TAKEN));
             }
             let given = |variable| {
-                let mut facts = prevail.iter().chain(effects.iter().map(|effect| &effect.new));
+                let mut facts = prevail
+                    .iter()
+                    .chain(effects.iter().map(|effect| &effect.new));
                 facts.any(|fact| fact.variable == variable)
             };
             let variable = self.number(BLANK)?.variable_of(variables, given)?;
