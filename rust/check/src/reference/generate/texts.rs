@@ -6,7 +6,7 @@ use super::super::files::{Action, Fact, Task, Variable, MOST_BYTES, MOST_COST};
 use super::files::{byte_changed, cut, lengthened};
 use super::random::Random;
 
-/// The task with as many of its first actions as a text has room for, and a
+/// The task, without its last actions where a text has no room for them, and a
 /// text that states it. Half of the time all costs are 1.
 pub fn text(random: &mut Random, task: &Task) -> (Task, Vec<u8>) {
     let mut task = task.clone();
@@ -20,7 +20,7 @@ pub fn text(random: &mut Random, task: &Task) -> (Task, Vec<u8>) {
         if text.len() <= MOST_BYTES {
             return (task, text);
         }
-        task.actions.truncate(task.actions.len() / 2);
+        task.actions.truncate(task.actions.len() * 7 / 8);
     }
 }
 
