@@ -52,6 +52,13 @@ fn every_byte_of_small_files() {
     for_seeds(3, |comparison, random| {
         let task = generate::small_with_plan(random);
         cases::every_byte(comparison, random, &task);
+    });
+}
+
+#[test]
+fn every_byte_of_small_texts() {
+    for_seeds(2, |comparison, random| {
+        let task = generate::small(random);
         texts::every_byte(comparison, random, &task);
     });
 }
@@ -89,7 +96,7 @@ fn texts_of_each_family() {
         generate::largest_searched,
         generate::largest,
     ];
-    let comparison = for_seeds(100, |comparison, random| {
+    let comparison = for_seeds(30, |comparison, random| {
         for family in families {
             let task = family(random);
             texts::lengths_around(comparison, random, &task);

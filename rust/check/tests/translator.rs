@@ -234,6 +234,25 @@ fn axioms() {
     change_refused(664, "0/", "0//", 31, 666);
 }
 
+/// Each number of text E with the separator that is not due, or with none.
+#[test]
+fn separators_before_numbers() {
+    let declared = [54, 79, 82, 225, 239, 266, 268, 270, 285];
+    let of_operator_0 = [321, 323, 325, 327, 329, 331, 333, 336, 338];
+    for at in [&declared[..], &of_operator_0, &[664]].concat() {
+        let (before, behind) = TEXT_E.split_at(at);
+        let end = behind.iter().position(|byte| b" \n".contains(byte));
+        let (_, behind) = behind.split_at(end.unwrap());
+        let other = if behind[0] == b' ' { b"\n" } else { b" " };
+        for number in ["0", "99", "18446744073709551616"] {
+            let cut = [before, number.as_bytes()].concat();
+            refused(&cut, 31, cut.len());
+            refused(&[&cut[..], other, &behind[1..]].concat(), 31, cut.len());
+            refused(&[&cut[..], b"x", behind].concat(), 31, cut.len());
+        }
+    }
+}
+
 #[test]
 fn free_names() {
     let (name, behind) = (TEXT_E.split_at(71).0, &TEXT_E[78..]);

@@ -182,7 +182,7 @@ fn byte_set(random: &mut Random, text: &[u8]) -> Vec<u8> {
     set
 }
 
-/// With another number in place of one.
+/// With another number in place of one, now and then with a byte behind it.
 fn number_changed(random: &mut Random, text: &[u8]) -> Vec<u8> {
     let digit = |place: usize| text.get(place).is_some_and(u8::is_ascii_digit);
     let first = |&place: &usize| digit(place) && (place == 0 || !digit(place - 1));
@@ -194,7 +194,10 @@ fn number_changed(random: &mut Random, text: &[u8]) -> Vec<u8> {
     let digits = text[from..].iter().take_while(|byte| byte.is_ascii_digit());
     let to = from + digits.count();
     let number = std::str::from_utf8(&text[from..to]).unwrap();
-    let number = other_number(random, number);
+    let mut number = other_number(random, number);
+    if random.chance(15) {
+        number.push(random.one_of(&[' ', '\n', 'x']));
+    }
     [&text[..from], number.as_bytes(), &text[to..]].concat()
 }
 
