@@ -1,13 +1,13 @@
 //! Texts of the Fast Downward translator, format version 3, read as tasks.
 
+mod fields;
+
 use super::files::{
-    write_task, Action, Fact, Task, Variable, MOST_ACTIONS, MOST_BYTES, MOST_COST, MOST_PAIRS,
-    MOST_VALUES, MOST_VARIABLES,
+    write_task, Action, Fact, Task, Variable, MOST_ACTIONS, MOST_COST, MOST_PAIRS, MOST_VALUES,
+    MOST_VARIABLES,
 };
-use super::outcome::{
-    long_enough, signer_given, GIVEN_TWICE, NOT_OF_THE_FORMAT, NOT_TAKEN, OUTSIDE_LIMIT,
-    OUT_OF_RANGE,
-};
+use super::outcome::{long_enough, signer_given, NOT_TAKEN};
+use fields::{Reader, BLANK, LINE_FEED};
 use shortest::lent::Answer;
 use shortest::Outcome;
 
@@ -30,10 +30,7 @@ fn try_translate(text: &[u8], signer: u32, file: &mut [u8]) -> Result<Answer, Ou
 
 /// The task that a text states, with signer 0.
 pub fn read_text(text: &[u8]) -> Result<Task, Outcome> {
-    if text.len() > MOST_BYTES {
-        return Err(Outcome::refused(OUTSIDE_LIMIT, 0));
-    }
-    let mut reader = Reader { text, offset: 0 };
+    let mut reader = Reader::new(text)?;
     for line in ["begin_version", "3", "end_version", "begin_metric"] {
         reader.line(line)?;
     }
@@ -50,6 +47,7 @@ pub fn read_text(text: &[u8]) -> Result<Task, Outcome> {
         }
     }
     reader.axioms()?;
+    reader.end()?;
     Ok(Task {
         variables,
         goal,
@@ -58,80 +56,8 @@ pub fn read_text(text: &[u8]) -> Result<Task, Outcome> {
     })
 }
 
-/// What separates numbers that stand in one line.
-const BLANK: u8 = b' ';
-const LINE_FEED: u8 = b'\n';
-
-/// The text being read and the offset reached.
-struct Reader<'a> {
-    text: &'a [u8],
-    offset: usize,
-}
-
-impl<'a> Reader<'a> {
-    // Bytes, words and numbers.
-
-    /// The byte at the offset, if there is one.
-    fn next(&self) -> Option<u8> {
-        self.text.get(self.offset).copied()
-    }
-
-    /// The next byte, which is to be one that the format has there.
-    fn take(&mut self, due: impl Fn(u8) -> bool) -> Result<u8, Outcome> {
-        match self.next() {
-            Some(byte) if due(byte) => {
-                self.offset += 1;
-                Ok(byte)
-            }
-            _ => Err(Outcome::refused(NOT_OF_THE_FORMAT, self.offset)),
-        }
-    }
-
-    /// A line of this word.
-    fn line(&mut self, word: &str) -> Result<(), Outcome> {
-        for due in word.bytes().chain([LINE_FEED]) {
-            self.take(|byte| byte == due)?;
-        }
-        Ok(())
-    }
-
-    /// A line of any bytes.
-    fn name(&mut self) -> Result<(), Outcome> {
-        while self.take(|_| true)? != LINE_FEED {}
-        Ok(())
-    }
-
-    /// A number with its separator.
-    fn number(&mut self, separator: u8) -> Result<Number<'a>, Outcome> {
-        let place = self.offset;
-        if self.take(|byte| byte.is_ascii_digit())? != b'0' {
-            while self.next().is_some_and(|byte| byte.is_ascii_digit()) {
-                self.offset += 1;
-            }
-        }
-        let digits = &self.text[place..self.offset];
-        self.take(|byte| byte == separator)?;
-        Ok(Number { place, digits })
-    }
-
-    /// A number with its separator, or none for -1.
-    fn number_or_none(&mut self, separator: u8) -> Result<Option<Number<'a>>, Outcome> {
-        if self.next() != Some(b'-') {
-            return self.number(separator).map(Some);
-        }
-        for due in [b'-', b'1', separator] {
-            self.take(|byte| byte == due)?;
-        }
-        Ok(None)
-    }
-
-    /// A count in a line of its own, of at most so many.
-    fn count(&mut self, most: usize) -> Result<usize, Outcome> {
-        self.number(LINE_FEED)?.within(0, most)
-    }
-
-    // The parts of a text, in its order.
-
+/// The parts of a text, in its order.
+impl Reader<'_> {
     /// Whether costs are as written.
     fn metric(&mut self) -> Result<bool, Outcome> {
         let digit = self.take(|byte| byte == b'0' || byte == b'1')?;
@@ -255,16 +181,13 @@ impl<'a> Reader<'a> {
         Ok(effects)
     }
 
-    /// No axioms, and nothing behind their count.
+    /// No axioms.
     fn axioms(&mut self) -> Result<(), Outcome> {
         let count = self.number(LINE_FEED)?;
         if count.value() != 0 {
             return Err(count.refused(NOT_TAKEN));
         }
-        match self.next() {
-            None => Ok(()),
-            Some(_) => Err(Outcome::refused(NOT_OF_THE_FORMAT, self.offset)),
-        }
+        Ok(())
     }
 }
 
@@ -277,56 +200,4 @@ struct Effect {
 fn rising(mut facts: Vec<Fact>) -> Vec<Fact> {
     facts.sort_by_key(|fact| fact.variable);
     facts
-}
-
-/// The digits of a number, and the offset of the first.
-struct Number<'a> {
-    place: usize,
-    digits: &'a [u8],
-}
-
-impl Number<'_> {
-    fn refused(&self, number: u32) -> Outcome {
-        Outcome::refused(number, self.place)
-    }
-
-    /// The greatest number of the type for all that are not below it: more
-    /// than any limit, and more than a text has bytes.
-    fn value(&self) -> u64 {
-        let digits = std::str::from_utf8(self.digits).unwrap();
-        digits.parse().unwrap_or(u64::MAX)
-    }
-
-    fn within(&self, least: usize, most: usize) -> Result<usize, Outcome> {
-        let value = self.value();
-        if value < least as u64 || value > most as u64 {
-            return Err(self.refused(OUTSIDE_LIMIT));
-        }
-        Ok(value as usize)
-    }
-
-    fn below(&self, bound: usize) -> Result<u16, Outcome> {
-        let value = self.value();
-        if value >= bound as u64 {
-            return Err(self.refused(OUT_OF_RANGE));
-        }
-        Ok(value as u16)
-    }
-
-    fn value_of(&self, variable: &Variable) -> Result<u16, Outcome> {
-        self.below(variable.size as usize)
-    }
-
-    /// A variable that is not given yet. One that is given is in range.
-    fn variable_of(
-        &self,
-        variables: &[Variable],
-        given: impl Fn(u16) -> bool,
-    ) -> Result<u16, Outcome> {
-        let variable = self.below(variables.len())?;
-        if given(variable) {
-            return Err(self.refused(GIVEN_TWICE));
-        }
-        Ok(variable)
-    }
 }
