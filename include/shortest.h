@@ -12,8 +12,8 @@
  *
  *    0  number: 0 for done, any other for a refusal (docs/FORMAT.md lists them)
  *    1  file: 1 where the place is an offset in the second file handed in, else 0
- *    2  place of the refusal: an offset in a file; of 21 the number of elements that the buffer
- *       needs; of 22 and 23 a step
+ *    2  place of the refusal: an offset in a file or in a text; of 21 the number of elements that
+ *       the buffer needs; of 22 and 23 a step
  *    3  rounds of the marking
  *    4  cost of the plan
  *    5  steps of the plan
@@ -24,7 +24,7 @@
  *   10  entries of the table written
  *   11  bytes of the plan file written
  *   12  bytes of the page written
- *   13  reserved: bytes of a task file written
+ *   13  bytes of the task file written
  *   14  reserved: turns
  *   15  reserved: elements of a list written
  *   16  reserved: 1 where the goal holds, else 0
@@ -46,7 +46,7 @@
 extern "C" {
 #endif
 
-/* The places of `out`, and how many they are. No call has a number behind SHORTEST_PAGE yet. */
+/* The places of `out`, and how many they are. No call has a number behind SHORTEST_TASK yet. */
 enum {
     SHORTEST_NUMBER,
     SHORTEST_FILE,
@@ -77,7 +77,8 @@ enum {
     SHORTEST_MOST_ORIGIN = 5520,
     SHORTEST_MOST_ENTRIES = 4096,
     SHORTEST_MOST_PLAN = 8206,
-    SHORTEST_MOST_PAGE = 135201
+    SHORTEST_MOST_PAGE = 135201,
+    SHORTEST_MOST_TASK = 65536
 };
 
 /* An entry of the table: the least cost to the goal from a state, then the fewest steps at that
@@ -132,6 +133,18 @@ void shortest_plan(const uint8_t *task, size_t task_length, uint32_t signer,
 void shortest_sheet(const uint8_t *task, size_t task_length,
                     const uint8_t *plan, size_t plan_length,
                     uint8_t *page, size_t page_length, uint64_t out[SHORTEST_NUMBERS]);
+
+/* Writes to `file` the task file, under the signer, of the task that a text of the Fast Downward
+   translator states (format version 3, docs/FORMAT.md). The file is shorter than the text. Beside 7
+   for a signer 0 and 21, the refusals and their places in the text are:
+     4   a count, size or cost outside its limits, at the number; a text of over 65,536 bytes, at 0
+     5   a variable or value out of range, at the number
+     31  not of the format, at the first byte with which no text of the format goes on, or at the
+         text's length where it ends early
+     32  an axiom, a layer other than -1 or a conditional effect, at the number
+     33  a variable given twice in the goal or in one operator, at its second number */
+void shortest_translate(const uint8_t *text, size_t text_length, uint32_t signer,
+                        uint8_t *file, size_t file_length, uint64_t out[SHORTEST_NUMBERS]);
 
 #ifdef __cplusplus
 }

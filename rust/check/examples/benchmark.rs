@@ -5,7 +5,7 @@ use std::hint::black_box;
 use std::time::{Duration, Instant};
 
 use shortest::lent::{self as library, Answer};
-use shortest_check::buffers::{Buffers, Mark, Plan, Reduce, Sheet};
+use shortest_check::buffers::{Buffers, Mark, Plan, Reduce, Sheet, Translate};
 use shortest_check::reference;
 use shortest_check::reference::files::{self, Action, Fact, Task, Variable};
 use shortest_check::reference::generate::{self, plan_file, task_file, Random};
@@ -16,6 +16,11 @@ fn main() {
         measure(name, &task_file(&task));
     }
     measure_sheet();
+    let random = &mut Random::new(4);
+    let task = crowded(random);
+    measure_translation("512 actions", random, &task);
+    let task = generate::largest(random);
+    measure_translation("largest", random, &task);
 }
 
 fn tasks() -> [(&'static str, Task); 7] {
@@ -100,6 +105,7 @@ struct Calls {
     reduce: Reduce,
     plan: Plan,
     sheet: Sheet,
+    translate: Translate,
 }
 
 impl Calls {
@@ -110,6 +116,7 @@ impl Calls {
         reduce: library::reduce,
         plan: library::plan,
         sheet: library::sheet,
+        translate: library::translate,
     };
     const REFERENCE: Calls = Calls {
         check: |file| Answer::from(reference::check_task(file)),
@@ -118,6 +125,7 @@ impl Calls {
         reduce: reference::reduce,
         plan: reference::plan,
         sheet: reference::sheet,
+        translate: reference::translate,
     };
 }
 
@@ -188,6 +196,29 @@ fn measure_sheet() {
         black_box((calls.sheet)(black_box(&task), black_box(&plan), page));
     });
     print("sheet", sheet);
+}
+
+/// A text of the task, filled up to the most bytes by its first name.
+fn measure_translation(name: &str, random: &mut Random, task: &Task) {
+    let (task, text) = generate::text(random, task);
+    let line = b"begin_variable\n";
+    let mut lines = text.windows(line.len());
+    let (before, behind) = text.split_at(line.len() + lines.position(|l| l == line).unwrap());
+    let first_name = vec![b'x'; files::MOST_BYTES - text.len()];
+    let text = [before, &first_name, behind].concat();
+    let file = &mut vec![0; library::MOST_TASK];
+    let translated = library::translate(&text, 1, file);
+    println!(
+        "\ntext of {name}: {} bytes, {} in the first name, {} operators, file of {} bytes",
+        text.len(),
+        first_name.len(),
+        task.actions.len(),
+        translated.task
+    );
+    let translate = pair(|calls| {
+        black_box((calls.translate)(black_box(&text), 1, file));
+    });
+    print("translate", translate);
 }
 
 /// The best time of either side.

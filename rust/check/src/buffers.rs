@@ -7,6 +7,7 @@ pub type Reduce = fn(&[u8], u32, u32, &mut [u8], &mut [u8], &mut [u8], &mut [u8]
 pub type Plan =
     fn(&[u8], u32, &mut [u8], &mut [u8], &mut [u8], &mut [u8], &mut [Entry], &mut [u8]) -> Answer;
 pub type Sheet = fn(&[u8], &[u8], &mut [u8]) -> Answer;
+pub type Translate = fn(&[u8], u32, &mut [u8]) -> Answer;
 
 /// The planner's buffers.
 pub struct Buffers {

@@ -1,7 +1,7 @@
 //! The library against the reference.
 
 use shortest::lent::{self as library, Answer};
-use shortest_check::differential::{cases, pages, Comparison};
+use shortest_check::differential::{cases, pages, texts, Comparison};
 use shortest_check::reference;
 use shortest_check::reference::generate::{self, Random};
 
@@ -13,6 +13,9 @@ fn for_seeds(count: u64, mut compare: impl FnMut(&mut Comparison, &mut Random)) 
     assert_eq!(comparison.differences, 0);
     comparison
 }
+
+/// The outcomes of texts of the translator.
+const OF_TEXTS: [u32; 8] = [0, 4, 5, 7, 21, 31, 32, 33];
 
 #[test]
 fn mixed_cases_with_every_outcome() {
@@ -31,6 +34,7 @@ fn mixed_cases_with_every_outcome() {
         let expected = [&[0], &input[..], others].concat();
         assert_eq!(comparison.numbers(call), expected, "{call}");
     }
+    assert_eq!(comparison.numbers("translate"), OF_TEXTS);
 }
 
 #[test]
@@ -39,6 +43,7 @@ fn every_length_at_small_sizes() {
         let task = generate::small_with_plan(random);
         cases::every_length(comparison, random, &task);
         pages::every_length(comparison, random, &task);
+        texts::every_length(comparison, random, &task);
     });
 }
 
@@ -47,6 +52,14 @@ fn every_byte_of_small_files() {
     for_seeds(3, |comparison, random| {
         let task = generate::small_with_plan(random);
         cases::every_byte(comparison, random, &task);
+    });
+}
+
+#[test]
+fn every_byte_of_small_texts() {
+    for_seeds(2, |comparison, random| {
+        let task = generate::small(random);
+        texts::every_byte(comparison, random, &task);
     });
 }
 
@@ -67,6 +80,30 @@ fn each_family_around_its_lengths() {
             cases::lengths_around(comparison, random, &task);
         }
     });
+}
+
+#[test]
+fn texts_of_each_family() {
+    let families = [
+        generate::small,
+        generate::small_with_plan,
+        generate::varied,
+        generate::chain,
+        generate::many_alike,
+        generate::switches,
+        generate::counter,
+        generate::few_kept,
+        generate::largest_searched,
+        generate::largest,
+    ];
+    let comparison = for_seeds(30, |comparison, random| {
+        for family in families {
+            let task = family(random);
+            texts::lengths_around(comparison, random, &task);
+            texts::damaged(comparison, random, &task);
+        }
+    });
+    assert_eq!(comparison.numbers("translate"), OF_TEXTS);
 }
 
 #[test]
@@ -91,6 +128,7 @@ fn files_at_the_limit() {
             pages::as_it_is(comparison, random, file, &plan);
             pages::as_it_is(comparison, random, &plan, file);
             pages::as_it_is(comparison, random, &accepted, file);
+            texts::as_it_is(comparison, random, file);
         }
     });
 }
@@ -115,6 +153,10 @@ fn empty_slices() {
         assert_eq!(
             library::sheet(file, &[], &mut []),
             reference::sheet(file, &[], &mut [])
+        );
+        assert_eq!(
+            library::translate(file, 1, &mut []),
+            reference::translate(file, 1, &mut [])
         );
         assert_eq!(
             library::mark(file, 4, &mut [], &mut []),

@@ -9,6 +9,7 @@ use shortest_check::reference::files::{read_origin, read_plan, read_task, Fact, 
 use shortest_check::reference::generate::{self, origin_file, plan_file, task_file, Random};
 use shortest_check::reference::plans::{holds, start, step, State};
 use shortest_check::reference::search::{state_count, state_number, state_numbered};
+use shortest_check::reference::translator::read_text;
 use shortest_check::reference::{check_origin, check_plan, check_task, mark, plan, reduce};
 
 type Family = fn(&mut Random) -> Task;
@@ -76,6 +77,17 @@ fn tasks_are_accepted_and_read_back() {
         let task = generate::any(&mut Random::new(seed));
         assert_eq!(check_task(&task_file(&task)), Outcome::DONE);
     }
+}
+
+#[test]
+fn texts_state_their_tasks() {
+    let random = &mut Random::new(1);
+    for_all(|task| {
+        let (mut stated, text) = generate::text(random, task);
+        assert!(task_file(&stated).len() < text.len());
+        stated.signer = 0;
+        assert_eq!(read_text(&text), Ok(stated));
+    });
 }
 
 #[test]

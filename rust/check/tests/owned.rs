@@ -118,6 +118,30 @@ fn the_longest_plan() {
     assert_eq!(checked, Ok(Checked { cost, steps }));
 }
 
+#[test]
+fn texts_whole_and_damaged() {
+    let mut outcomes = std::collections::BTreeSet::new();
+    for seed in 0..300 {
+        let random = &mut Random::new(seed);
+        let any = generate::any(random);
+        let (task, text) = generate::text(random, &any);
+        assert_eq!(
+            shortest::translate(&text, task.signer),
+            Ok(task_file(&task))
+        );
+        for text in [&text, &generate::damaged_text(random, &text)] {
+            for signer in [0, 0x0403_0201] {
+                let file = &mut vec![0; 65_536];
+                let answer = reference::translate(text, signer, file);
+                let expected = answer.done().map(|answer| file[..answer.task].to_vec());
+                assert_eq!(shortest::translate(text, signer), expected);
+                outcomes.insert(answer.outcome.number);
+            }
+        }
+    }
+    assert_eq!(outcomes, [0, 4, 5, 7, 31, 32, 33].into());
+}
+
 /// A refusal says its number and place, and in which file.
 #[test]
 fn refusals_as_text() {

@@ -66,4 +66,12 @@ extern "C" {
         page_length: usize,
         out: *mut u64,
     );
+    pub fn shortest_translate(
+        text: *const u8,
+        text_length: usize,
+        signer: u32,
+        file: *mut u8,
+        file_length: usize,
+        out: *mut u64,
+    );
 }

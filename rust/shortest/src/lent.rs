@@ -12,6 +12,7 @@ pub const MOST_ORIGIN: usize = 5_520;
 pub const MOST_ENTRIES: usize = 4_096;
 pub const MOST_PLAN: usize = 8_206;
 pub const MOST_PAGE: usize = 135_201;
+pub const MOST_TASK: usize = 65_536;
 
 /// How many numbers a call writes.
 pub const NUMBERS: usize = 18;
@@ -32,8 +33,8 @@ pub struct Answer {
     pub table: usize,
     pub plan: usize,
     pub page: usize,
-    /// Reserved, 0 at every call.
     pub task: usize,
+    /// Reserved, 0 at every call.
     pub turns: usize,
     pub list: usize,
     pub goal: usize,
@@ -226,6 +227,20 @@ pub fn sheet(task: &[u8], plan: &[u8], page: &mut [u8]) -> Answer {
             plan.len(),
             page.as_mut_ptr(),
             page.len(),
+            out,
+        );
+    })
+}
+
+/// Writes the task file of the task that a text of the translator states.
+pub fn translate(text: &[u8], signer: u32, file: &mut [u8]) -> Answer {
+    answer(|out| unsafe {
+        c::shortest_translate(
+            text.as_ptr(),
+            text.len(),
+            signer,
+            file.as_mut_ptr(),
+            file.len(),
             out,
         );
     })

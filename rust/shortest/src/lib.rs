@@ -1,5 +1,5 @@
-//! The proved planner's calls. Each takes the bytes of files and hands back
-//! what it made of them, or the [`Outcome`] by which it refused.
+//! The proved planner's calls. Each takes the bytes of files, or of a text, and
+//! hands back what it made of them, or the [`Outcome`] by which it refused.
 //!
 //! ```
 //! // No variables, no actions and an empty goal, under signer 7.
@@ -12,6 +12,13 @@
 //!
 //! let refused = shortest::plan(&task[..20], 1).unwrap_err();
 //! assert_eq!((refused.number, refused.place), (1, 12));
+//!
+//! // The same task as a text of the translator.
+//! let text = b"begin_version\n3\nend_version\nbegin_metric\n0\nend_metric\n0\n0\n\
+//!     begin_state\nend_state\nbegin_goal\n0\nend_goal\n0\n0\n";
+//! assert_eq!(shortest::translate(text, 7)?, task);
+//! let refused = shortest::translate(&text[..20], 7).unwrap_err();
+//! assert_eq!((refused.number, refused.place), (31, 20));
 //! # Ok::<(), shortest::Outcome>(())
 //! ```
 //!
@@ -94,4 +101,12 @@ pub fn sheet(task: &[u8], plan: &[u8]) -> Result<Sheet, Outcome> {
     let mut page = vec![0; lent::MOST_PAGE];
     let answer = lent::sheet(task, plan, &mut page).done()?;
     Ok(Sheet::cut(page, &answer))
+}
+
+/// The task file of the task that a text of the Fast Downward translator
+/// states (format version 3), under the signer, which is not 0.
+pub fn translate(text: &[u8], signer: u32) -> Result<Vec<u8>, Outcome> {
+    let mut file = vec![0; lent::MOST_TASK];
+    let answer = lent::translate(text, signer, &mut file).done()?;
+    Ok(results::first(file, answer.task))
 }

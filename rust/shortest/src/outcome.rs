@@ -8,8 +8,8 @@ pub struct Outcome {
     pub number: u32,
     /// 1 where the place is an offset in the second file handed in, else 0.
     pub file: u32,
-    /// An offset in a file; of 21 the number of elements that the buffer
-    /// needs; of 22 and 23 a step.
+    /// An offset in a file or in a text; of 21 the number of elements that
+    /// the buffer needs; of 22 and 23 a step.
     pub place: usize,
 }
 

@@ -123,7 +123,7 @@ impl Sheet {
     }
 }
 
-fn first<T>(mut list: Vec<T>, count: usize) -> Vec<T> {
+pub(crate) fn first<T>(mut list: Vec<T>, count: usize) -> Vec<T> {
     list.truncate(count);
     list.shrink_to_fit();
     list

@@ -20,6 +20,7 @@ fn the_longest_results() {
     assert_eq!(given("SHORTEST_MOST_ENTRIES"), lent::MOST_ENTRIES);
     assert_eq!(given("SHORTEST_MOST_PLAN"), lent::MOST_PLAN);
     assert_eq!(given("SHORTEST_MOST_PAGE"), lent::MOST_PAGE);
+    assert_eq!(given("SHORTEST_MOST_TASK"), lent::MOST_TASK);
 }
 
 /// The names of the enum of places, in order.

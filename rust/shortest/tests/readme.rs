@@ -1,4 +1,5 @@
-//! The programs that README.md shows: they stand there whole, and plan task E.
+//! The programs that README.md shows: those that plan task E stand there whole,
+//! and one gives its file from a text of the translator.
 
 use std::fs::File;
 use std::path::{Path, PathBuf};
@@ -46,13 +47,35 @@ fn the_program_in_c() {
     plans_task_e(&program, "step 1\noutcome 0 cost 2\n");
 }
 
-#[test]
-fn the_program_in_rust() {
+fn example(name: &str) -> PathBuf {
     let test = std::env::current_exe().unwrap();
     let folder = test.ancestors().nth(2).unwrap();
-    let program = folder.join("examples").join("plan");
+    folder.join("examples").join(name)
+}
+
+#[test]
+fn the_program_in_rust() {
+    let program = example("plan");
     plans_task_e(&program, "step 1\ncost 2\n");
     // A file that is refused.
     let none = Command::new(program).stdin(Stdio::null()).output().unwrap();
     assert!(!none.status.success());
+}
+
+#[test]
+fn the_translation() {
+    let translate = |text: Stdio| {
+        let mut program = Command::new(example("translate"));
+        program.arg("7").stdin(text).output().unwrap()
+    };
+    let text = File::open(at_root("examples/e.sas")).unwrap();
+    let run = translate(text.into());
+    assert!(run.status.success());
+    let file = std::fs::read(at_root("crates/shortest/stdin")).unwrap();
+    assert_eq!(run.stdout, file);
+    // A text that is refused.
+    let none = translate(Stdio::null());
+    assert!(!none.status.success());
+    assert_eq!(none.stderr, b"refused 31 at 0\n");
+    assert!(none.stdout.is_empty());
 }

@@ -1,6 +1,6 @@
 //! What the calls are compared on.
 
-use super::{pages, Comparison, Lengths};
+use super::{pages, texts, Comparison, Lengths};
 use crate::reference::files::{Task, MOST_COST};
 use crate::reference::generate::{self, origin_file, plan_file, task_file, Random};
 use crate::reference::marking::marking;
@@ -10,7 +10,7 @@ use crate::reference::search::{state_count, MOST_STATES};
 use shortest::Entry;
 
 const LEVELS: [u32; 7] = [0, 1, 2, 3, 4, 5, u32::MAX];
-const SIGNERS: [u32; 6] = [0, 1, 4, 5, 1 << 16, u32::MAX];
+pub(super) const SIGNERS: [u32; 6] = [0, 1, 4, 5, 1 << 16, u32::MAX];
 
 /// Longer than any result.
 const LONG: Lengths = [520, 2_060, 65_540, 5_540, MOST_STATES + 4, 8_220];
@@ -60,6 +60,7 @@ pub fn every_length(comparison: &mut Comparison, random: &mut Random, task: &Tas
 pub fn lengths_around(comparison: &mut Comparison, random: &mut Random, task: &Task) {
     one_length_other(comparison, random, task, around);
     pages::lengths_around(comparison, random, task);
+    texts::lengths_around(comparison, random, task);
 }
 
 /// 0, the half of the length, and those around it.
@@ -286,7 +287,7 @@ pub fn every_byte(comparison: &mut Comparison, random: &mut Random, task: &Task)
     }
 }
 
-fn for_every_byte(file: &[u8], mut check: impl FnMut(&[u8])) {
+pub(super) fn for_every_byte(file: &[u8], mut check: impl FnMut(&[u8])) {
     let mut changed = file.to_vec();
     for place in 0..file.len() {
         for by in 1..=255 {
@@ -310,9 +311,11 @@ pub fn any(comparison: &mut Comparison, random: &mut Random) {
     lengths_around(comparison, random, &task);
     for _ in 0..count {
         damaged(comparison, random, &task);
+        texts::damaged(comparison, random, &task);
         arbitrary(comparison, random);
     }
     let small = generate::small(random);
     every_length(comparison, random, &small);
     pages::every_length(comparison, random, &small);
+    texts::every_length(comparison, random, &small);
 }

@@ -3,13 +3,14 @@
 
 pub mod cases;
 pub mod pages;
+pub mod texts;
 
 use std::collections::BTreeMap;
 
 use shortest::lent::{self as library, Answer};
 use shortest::{Entry, Outcome};
 
-use crate::buffers::{Mark, Plan, Reduce, Sheet};
+use crate::buffers::{Mark, Plan, Reduce, Sheet, Translate};
 use crate::reference;
 
 /// Lengths lent: action marks, fact marks, reduced, origin, table, plan. A
@@ -139,6 +140,24 @@ impl Comparison {
                 "{answers}\n{page}\nlength {length}\n{}\n{}",
                 hex(task),
                 hex(plan)
+            )
+        });
+    }
+
+    pub fn translate(&mut self, text: &[u8], signer: u32, length: usize) {
+        let run = |translate: Translate| {
+            let mut file = Lent::of(length, byte);
+            let answer = translate(text, signer, file.lend());
+            (answer, file)
+        };
+        let expected = run(reference::translate);
+        let found = run(library::translate);
+        self.count("translate", expected.0.outcome, expected == found, || {
+            let answers = format!("{:?}\n{:?}", expected.0, found.0);
+            let file = first_difference("file", &expected.1 .0, &found.1 .0).unwrap_or_default();
+            format!(
+                "{answers}\n{file}\nsigner {signer}, length {length}\n{}",
+                text.escape_ascii()
             )
         });
     }

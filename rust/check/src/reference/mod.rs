@@ -10,6 +10,7 @@ pub mod plans;
 pub mod reduction;
 pub mod search;
 pub mod sheet;
+pub mod translator;
 
 pub use files::{check_origin, check_task};
 pub use marking::mark;
@@ -17,3 +18,4 @@ pub use plans::check_plan;
 pub use reduction::reduce;
 pub use search::plan;
 pub use sheet::sheet;
+pub use translator::translate;

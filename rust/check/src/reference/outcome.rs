@@ -15,6 +15,9 @@ pub const NOT_APPLICABLE: u32 = 22;
 pub const GOAL_NOT_MET: u32 = 23;
 pub const NO_PLAN: u32 = 24;
 pub const TOO_MANY_STATES: u32 = 25;
+pub const NOT_OF_THE_FORMAT: u32 = 31;
+pub const NOT_TAKEN: u32 = 32;
+pub const GIVEN_TWICE: u32 = 33;
 
 /// Refusal 21 unless a buffer of `length` elements has room for `needed`.
 pub fn long_enough(length: usize, needed: usize) -> Result<(), Outcome> {

@@ -1,11 +1,12 @@
-//! Random accepted tasks, origins and plans, and damage to files. The same
-//! seed gives the same.
+//! Random accepted tasks, origins and plans, texts of tasks, and damage to
+//! files and texts. The same seed gives the same.
 
 mod files;
 mod large;
 mod random;
 mod shaped;
 mod small;
+mod texts;
 mod varied;
 
 use super::files::Task;
@@ -18,6 +19,7 @@ pub use large::{few_kept, largest, largest_searched};
 pub use random::Random;
 pub use shaped::{chain, counter, counter_of, switches};
 pub use small::{many_alike, small, small_with_plan};
+pub use texts::{damaged_text, printed, text};
 pub use varied::varied;
 
 /// A task of any of the families below, the large ones rarely.
