@@ -1,15 +1,17 @@
-// Bytes in hexadecimal, with repeats.
+// Bytes in hexadecimal, with repeats, and between | bytes that stand for themselves.
 ghost use Prim.Native.Nat.{_≤_};
 ghost use lib.ListN.{length};
 
-// What is read so far: how many bytes, the last of them, a first digit (16: none), and how often
-// the last byte is to stand there in all (0: no repeat is being read).
+// What is read so far: how many bytes, the last of them, a first digit (16: none), how often the
+// last byte is to stand there in all (0: no repeat is being read), and whether bytes stand for
+// themselves.
 pub struct Hex {
     pub count: usize,
     pub last: usize,
     pub first: usize,
     pub repeat: bool,
     pub times: usize,
+    pub plain: bool,
 }
 
 // The value of a digit, or 16.
@@ -54,6 +56,7 @@ fn counted(h: Hex, value: usize) -> Hex
         first: h.first,
         repeat: true,
         times: h.times * 10 + value,
+        plain: h.plain,
     }
 }
 
@@ -71,6 +74,7 @@ fn repeated(h: Hex, file: &mut [u8]) -> Hex {
         first: 16,
         repeat: false,
         times: 0,
+        plain: h.plain,
     }
 }
 
@@ -85,6 +89,7 @@ fn digit_read(h: Hex, value: usize, file: &mut [u8]) -> Hex
             first: value,
             repeat: false,
             times: 0,
+            plain: h.plain,
         };
     }
     let byte = h.first * 16 + value;
@@ -95,6 +100,7 @@ fn digit_read(h: Hex, value: usize, file: &mut [u8]) -> Hex
         first: 16,
         repeat: false,
         times: 0,
+        plain: h.plain,
     }
 }
 
@@ -106,6 +112,7 @@ fn step(h: Hex, letter: usize, file: &mut [u8]) -> Hex {
             first: 16,
             repeat: true,
             times: 0,
+            plain: h.plain,
         };
     }
     let value = digit(letter);
@@ -121,6 +128,47 @@ fn step(h: Hex, letter: usize, file: &mut [u8]) -> Hex {
     h
 }
 
+// | begins and ends bytes that stand for themselves.
+fn turned(h: Hex) -> Hex {
+    Hex {
+        count: h.count,
+        last: h.last,
+        first: 16,
+        repeat: false,
+        times: 0,
+        plain: !h.plain,
+    }
+}
+
+// A byte that stands for itself, or / for a line feed.
+fn plain_read(h: Hex, letter: usize, file: &mut [u8]) -> Hex {
+    if 1000000 < h.count {
+        return h;
+    }
+    let byte = if letter == b'/' as usize { 10 } else { letter };
+    store(file, h.count, byte);
+    Hex {
+        count: h.count + 1,
+        last: byte,
+        first: 16,
+        repeat: false,
+        times: 0,
+        plain: true,
+    }
+}
+
+// One byte of the line.
+fn next(h: Hex, letter: usize, file: &mut [u8]) -> Hex {
+    if letter == b'|' as usize {
+        let ended = step(h, letter, file);
+        return turned(ended);
+    }
+    if h.plain {
+        return plain_read(h, letter, file);
+    }
+    step(h, letter, file)
+}
+
 // Reads the bytes that the text has from `from` up to `to` into `file`, and says how many.
 pub fn read(text: &[u8], from: usize, to: usize, file: &mut [u8]) -> usize
     ensures { λ r. ⌜ r ≤ length (now (file .exit)) ⌝ }
@@ -131,10 +179,11 @@ pub fn read(text: &[u8], from: usize, to: usize, file: &mut [u8]) -> usize
         first: 16,
         repeat: false,
         times: 0,
+        plain: false,
     };
     let mut at = from;
     while at < to {
-        h = step(h, files::bytes::byte_at(text, at), file);
+        h = next(h, files::bytes::byte_at(text, at), file);
         at += 1;
     }
     h = step(h, 32, file);

@@ -1,12 +1,14 @@
 // Runs the cases of its standard input, a line each, and prints a line for each. A line that
 // begins with # is printed as it stands; in any other the first letter says what is called, and
-// bytes in hexadecimal follow, of which XX*N stands for N times XX.
+// bytes in hexadecimal follow, of which XX*N stands for N times XX. Behind a | bytes stand for
+// themselves and / for a line feed, up to the next | or the end of the line.
 mod hex;
 mod lines;
 mod planner;
 mod reduced;
 mod run;
 mod sheet;
+mod translated;
 
 ghost use Prim.Native.Nat.{_≤_};
 ghost use lib.ListN.{length};

@@ -4,6 +4,7 @@ use crate::lines;
 use crate::planner;
 use crate::reduced;
 use crate::sheet;
+use crate::translated;
 
 // t: a task file is checked. o: an origin file is checked. p: a plan file is checked against a
 // task of so many actions as the first byte says. a: a task file is read and written again.
@@ -20,6 +21,8 @@ use crate::sheet;
 // hold 9s.
 // S: the sheet; the first four bytes are the length of the page buffer, which holds 9s, and the next
 // four say how many of the others are the task file.
+// T: a translator text; the first four bytes are the signer, then two bytes for the length of the
+// buffer for the task file, which holds 9s.
 pub fn run_line(text: &[u8], from: usize, to: usize, file: &mut [u8], written: &mut [u8; 70000]) {
     let letter = files::bytes::byte_at(text, from) as u8;
     if letter == b'#' {
@@ -49,6 +52,11 @@ fn run_call(letter: u8, file: &[u8], written: &mut [u8; 70000]) {
     if letter == b'c' {
         check_both(file);
     }
+    run_stage(letter, file);
+}
+
+// The calls above plans, and those beside the layers.
+fn run_stage(letter: u8, file: &[u8]) {
     if letter == b'm' {
         let mut actions = [9u8; 600];
         let mut facts = [9u8; 2100];
@@ -69,6 +77,9 @@ fn run_call(letter: u8, file: &[u8], written: &mut [u8; 70000]) {
     }
     if letter == b'S' {
         sheet::lay_file(file);
+    }
+    if letter == b'T' {
+        translated::translate_text(file);
     }
 }
 
