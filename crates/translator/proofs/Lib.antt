@@ -39,5 +39,7 @@ pub mod StatedShorter
 pub mod StatedLaws
 pub mod ListReading
 pub mod ConditionsReading
+pub mod EffectReading
+pub mod EffectsReading
 pub mod Computes
 pub mod Examples

@@ -12,9 +12,9 @@ use Rattle.files.proofs.Logic.{clash, split, split-le}
 use Rattle.files.specs.Outcome.{refusal, isDone}
 use Rattle.translator.specs.declared.fields.Cursor.{Cursor}
 use Rattle.translator.specs.declared.fields.ReadNumber.{ReadNumber}
-use Rattle.translator.specs.Contracts.{capped, coded, settled, numberAfter, signedAfter, judged}
+use Rattle.translator.specs.Contracts.{capped, coded, settled, numberAfter, signedAfter, judged, numberBy}
 use Rattle.translator.specs.Fields.{Field, Value, number, signed, fieldValue}
-use Rattle.translator.specs.Format.{Fault, unsupported, givenTwice, outsideLimits, outOfRange, faultNumber, unless, isOpen, cursorRefused, fieldAfter, faultAfter, stepAfter}
+use Rattle.translator.specs.Format.{Fault, unsupported, givenTwice, outsideLimits, outOfRange, faultNumber, unless, gives, field, isOpen, cursorRefused, fieldAfter, faultAfter, stepAfter, after, valueAfter}
 use Rattle.translator.specs.Sas.{Separator}
 use Rattle.translator.specs.Stated.{isNone}
 use Rattle.translator.specs.Text.{any}
@@ -170,3 +170,18 @@ signed-is separator s c n e = e
 pub none-coded : (o : Option ℕ) → eqb (coded o) 1048577 ≡ isNone o
 none-coded none = refl
 none-coded (some n) = ne-eqb (capped n) 1048577 (λ e. omega (arith, capped-most n))
+
+-- a field, the test on its value, and the number that stands for the value where it passes
+module _ (f : Field) (s : List ℕ) (c : Cursor) (n : ReadNumber) (code : Value f → ℕ) (is : n ≡ settled (fieldAfter f s c) (code (fieldValue f (drop (c .at) s)))) where
+  pub read-settled : (x : Fault) (t : Value f → Bool) (g : Value f → ℕ) (b : Bool) (j : Cursor) (r : ReadNumber)
+      → (isOpen (fieldAfter f s c) ≡ true → b ≡ t (fieldValue f (drop (c .at) s)))
+      → (t (fieldValue f (drop (c .at) s)) ≡ true → code (fieldValue f (drop (c .at) s)) ≡ g (fieldValue f (drop (c .at) s)))
+      → j ≡ judged (n .cursor) b (faultNumber x) (c .at) → r ≡ settled j (n .value) → r ≡ numberBy (field f (λ u. unless (t u) x none) gives) g s c
+  unfolding numberBy after valueAfter
+  read-settled x t g b j r h k e q =
+      let u : Value f = fieldValue f (drop (c .at) s) in
+      let fault : Value f → Option Fault = λ u. unless (t u) x none in
+      q
+      ∙ ap (λ (y : Cursor). settled y (n .value)) (read-tested f s c n (code u) is x t b j h e)
+      ∙ settled-same (stepAfter f fault s c) (n .value) (g u)
+      (λ o. read-value f s c n (code u) is (step-field f fault s c o) ∙ k (unless-none (t u) x none (step-fine f fault s c o) .0))

@@ -9,16 +9,17 @@ use lib.ListN.{length, getD, take, drop}
 use Rattle.files.specs.Below.{anyOf}
 use Rattle.files.specs.Bytes.{placed}
 use Rattle.files.specs.Outcome.{refusal}
-use Rattle.files.specs.Rows.{cleared, filled}
+use Rattle.files.specs.Rows.{cleared, stored, filled}
 use Rattle.digits.specs.Decimal.{numberOf}
 use Rattle.translator.specs.declared.fields.Cursor.{Cursor}
 use Rattle.translator.specs.declared.fields.Found.{Found}
 use Rattle.translator.specs.declared.fields.ReadNumber.{ReadNumber}
 use Rattle.translator.specs.Fields.{number, signed, digitsLength, numeralLength, numeralValue, fieldValue}
-use Rattle.translator.specs.Format.{outOfRange, unless, Format, gives, field, isOpen, cursorRefused, fieldAfter, stepAfter, after, valueAfter}
+use Rattle.translator.specs.Format.{unsupported, outOfRange, unless, Format, gives, field, isOpen, cursorRefused, fieldAfter, stepAfter, after, valueAfter}
 use Rattle.translator.specs.Sas.{Declaration, Started, Separator, blank, lineFeed, byteOf}
-use Rattle.translator.specs.Stated.{sizesOf, variablesOf}
-use Rattle.translator.specs.Text.{any, each, layerFault, declaration, group, start, starts, variableFault, condition, conditions}
+use Rattle.translator.specs.Stated.{sizesOf, variablesOf, oldPairs, newPairs}
+use Rattle.translator.specs.Text.{any, each, layerFault, declaration, group, start, starts, variableFault, condition, conditions, effect}
+use Rattle.translator.specs.Text as Text
 
 -- an offset of a text that is within the limit
 pub record Inside (s : List ℕ) (at : ℕ) : Type 0 where
@@ -184,3 +185,52 @@ pub record ListRead (s : List ℕ) (c : Cursor) (count : ℕ) (sizes : List ℕ)
   pub cursor : r ≡ after (conditions (take variables sizes) [] count) s c
   pub row : isOpen r ≡ true → now ≡ filled (cleared before base 64) base (valueAfter (conditions (take variables sizes) [] count) s c)
   pub given′ : isOpen r ≡ true → Given now now base (variablesOf (valueAfter (conditions (take variables sizes) [] count) s c))
+
+-- a cursor behind the count of an effect's conditions
+unfoldable pub plainAfter : List ℕ → Cursor → Cursor
+plainAfter s c = stepAfter (number blank) (λ n. unless (eqb n 0) unsupported none) s c
+
+-- an old value of a domain, or none
+abbrev pub belowOrNone : ℕ → Option ℕ → Bool
+belowOrNone size none = true
+belowOrNone size (some value) = ltb value size
+
+abbrev pub oldBelow : ℕ → Format (Option ℕ)
+oldBelow size = field (signed blank) (λ o. unless (belowOrNone size o) outOfRange none) gives
+
+-- the same of a coded one
+unfoldable pub isOld : ℕ → ℕ → Bool
+isOld value size = cond (eqb value 1048577) true (ltb value size)
+
+unfoldable pub storedOld : List ℕ → ℕ → ℕ → ℕ → List ℕ
+storedOld row base v value = cond (eqb value 1048577) row (stored row base v value)
+
+pub record EffectInside (s : List ℕ) (at : ℕ) (sizes : List ℕ) (variables : ℕ) (conditions effects : List ℕ) (base : ℕ) : Type 0 where
+  pub inside : Inside s at
+  pub sizesRoom : 64 ≤ length sizes
+  pub few : variables ≤ 64
+  pub conditionsRoom : RowInside conditions base
+  pub effectsRoom : RowInside effects base
+
+-- an effect, and rows before and after it is stored, where nothing is refused
+pub record EffectStored (s : List ℕ) (c : Cursor) (sizes given conditions effects : List ℕ) (base : ℕ) (r : Cursor) (conditionsNow effectsNow : List ℕ) : Type 0 where
+  pub cursor : r ≡ after (effect sizes given) s c
+  pub conditionsRow : isOpen r ≡ true → conditionsNow ≡ filled conditions base (oldPairs (valueAfter (effect sizes given) s c ∷ []))
+  pub effectsRow : isOpen r ≡ true → effectsNow ≡ filled effects base (newPairs (valueAfter (effect sizes given) s c ∷ []))
+  pub given′ : isOpen r ≡ true → Given conditionsNow effectsNow base (valueAfter (effect sizes given) s c .variable ∷ given)
+
+pub record EffectRead (s : List ℕ) (c : Cursor) (sizes : List ℕ) (variables : ℕ) (conditions effects : List ℕ) (base : ℕ) (r : Cursor) (conditionsNow effectsNow : List ℕ) : Type 0 where
+  pub inside : Inside s (r .at)
+  pub is : (given : List ℕ) → (isOpen c ≡ true → Given conditions effects base given)
+      → EffectStored s c (take variables sizes) given conditions effects base r conditionsNow effectsNow
+
+-- effects behind prevail conditions that gave variables: a row of effects that is cleared first
+pub record EffectsStored (s : List ℕ) (c : Cursor) (count : ℕ) (sizes given conditions effects : List ℕ) (base : ℕ) (r : Cursor) (conditionsNow effectsNow : List ℕ) : Type 0 where
+  pub cursor : r ≡ after (Text.effects sizes given count) s c
+  pub conditionsRow : isOpen r ≡ true → conditionsNow ≡ filled conditions base (oldPairs (valueAfter (Text.effects sizes given count) s c))
+  pub effectsRow : isOpen r ≡ true → effectsNow ≡ filled (cleared effects base 64) base (newPairs (valueAfter (Text.effects sizes given count) s c))
+
+pub record EffectsRead (s : List ℕ) (c : Cursor) (count : ℕ) (sizes : List ℕ) (variables : ℕ) (conditions effects : List ℕ) (base : ℕ) (r : Cursor) (conditionsNow effectsNow : List ℕ) : Type 0 where
+  pub inside : Inside s (r .at)
+  pub is : (given : List ℕ) → (isOpen c ≡ true → Given conditions conditions base given)
+      → EffectsStored s c count (take variables sizes) given conditions effects base r conditionsNow effectsNow

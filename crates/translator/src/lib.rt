@@ -2,4 +2,5 @@
 pub mod fields;
 pub mod groups;
 pub mod lists;
+pub mod operators;
 pub mod variables;

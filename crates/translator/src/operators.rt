@@ -1,0 +1,100 @@
+// Operators: their costs, and their conditions and effects in rows of 64 cells.
+ghost use mathlib.Core.Path.{_≡_};
+ghost use Rattle.translator.specs.Contracts.{Inside, CountInside, coded, numberBy, plainAfter, oldBelow, isOld, RowInside, storedOld, EffectInside, EffectRead, EffectsRead};
+use crate::fields;
+use crate::fields::Cursor;
+use crate::fields::ReadNumber;
+use crate::lists;
+use files::bytes;
+use files::decode;
+use files::outcomes;
+
+// The count of an effect's conditions, which is to be 0.
+fn plain(s: &[u8], c: Cursor) -> Cursor
+    requires { ⌜ Inside (now s) (c .at) ⌝ }
+    ensures { λ r. ⌜ r ≡ plainAfter (now (s .entry)) c ⌝ }
+{
+    let n = fields::number(s, c, fields::BLANK);
+    let value = n.value;
+    let read = n.cursor;
+    fields::judged(read, value == 0, fields::UNSUPPORTED, c.at)
+}
+
+// Whether an old value is below a size, or none.
+fn is_old(value: usize, size: usize) -> bool
+    ensures { λ r. ⌜ r ≡ isOld value size ⌝ }
+{
+    if value == fields::NONE {
+        return true;
+    }
+    value < size
+}
+
+// An old value of a variable, or none.
+fn old(s: &[u8], c: Cursor, size: usize) -> ReadNumber
+    requires { ⌜ CountInside (now s) (c .at) size ⌝ }
+    ensures { λ r. ⌜ r ≡ numberBy (oldBelow size) coded (now (s .entry)) c ⌝ }
+{
+    let n = fields::signed(s, c, fields::BLANK);
+    let value = n.value;
+    let read = n.cursor;
+    let within = fields::judged(read, is_old(value, size), outcomes::OUT_OF_RANGE, c.at);
+    fields::settled(within, value)
+}
+
+// Stores an old value as a condition.
+fn store_old(row: &mut [u8], base: usize, variable: usize, value: usize)
+    requires { ⌜ RowInside (now row) base ⌝ }
+    ensures { λ r. ⌜ now (row .exit) ≡ storedOld (now (row .entry)) base variable value ⌝ }
+{
+    if value != fields::NONE {
+        decode::store(row, base, variable, value);
+    }
+}
+
+// An effect: its old value is stored as a condition, its new value as an effect.
+fn effect(
+    s: &[u8],
+    c: Cursor,
+    sizes: &[u8],
+    variables: usize,
+    conditions: &mut [u8],
+    effects: &mut [u8],
+    base: usize,
+) -> Cursor
+    requires { ⌜ EffectInside (now s) (c .at) (now sizes) variables (now conditions) (now effects) base ⌝ }
+    ensures { λ r. ⌜ EffectRead (now (s .entry)) c (now (sizes .entry)) variables (now (conditions .entry)) (now (effects .entry)) base r (now (conditions .exit)) (now (effects .exit)) ⌝ }
+{
+    let begun = plain(s, c);
+    let given = lists::variable(s, begun, conditions, effects, base, variables);
+    let size = bytes::byte_at(sizes, given.value);
+    let before = old(s, given.cursor, size);
+    let new = lists::value(s, before.cursor, size);
+    store_old(conditions, base, given.value, before.value);
+    decode::store(effects, base, given.value, new.value);
+    new.cursor
+}
+
+// `count` effects.
+fn effects_of(
+    s: &[u8],
+    c: Cursor,
+    count: usize,
+    sizes: &[u8],
+    variables: usize,
+    conditions: &mut [u8],
+    effects: &mut [u8],
+    base: usize,
+) -> Cursor
+    requires { ⌜ EffectInside (now s) (c .at) (now sizes) variables (now conditions) (now effects) base ⌝ }
+    ensures { λ r. ⌜ EffectsRead (now (s .entry)) c count (now (sizes .entry)) variables (now (conditions .entry)) (now (effects .entry)) base r (now (conditions .exit)) (now (effects .exit)) ⌝ }
+{
+    decode::clear_row(effects, base);
+    let mut here = c;
+    let mut left = count;
+    while 0 < left {
+        here = effect(s, here, sizes, variables, conditions, effects, base);
+        left -= 1;
+    }
+    here
+}
