@@ -1,24 +1,25 @@
 -- Names for the parts of what functions ask and ensure.
-use Prim.Native.Nat.{ℕ, _+_, _%_, _≤_, _<_}
+use Prim.Native.Nat.{ℕ, _+_, _*_, _%_, _≤_, _<_}
 use mathlib.Core.Path.{_≡_}
 use mathlib.Core.Bool.{Bool, true, not, cond, _&&_}
-use mathlib.Core.List.{List, [], _∷_, map}
+use mathlib.Core.List.{List, [], _∷_, _++_, map}
 use mathlib.Core.Option.{Option, none, some}
 use lib.Dec.{eqb, leb, ltb}
-use lib.ListN.{length, getD, take, drop}
+use lib.ListN.{length, getD, take, drop, set}
 use Rattle.files.specs.Below.{anyOf}
 use Rattle.files.specs.Bytes.{placed}
 use Rattle.files.specs.Outcome.{refusal}
-use Rattle.files.specs.Rows.{cleared, stored, filled}
+use Rattle.files.specs.Rows.{cleared, stored, filled, filledRows}
+use Rattle.files.specs.Task.{Pair}
 use Rattle.digits.specs.Decimal.{numberOf}
 use Rattle.translator.specs.declared.fields.Cursor.{Cursor}
 use Rattle.translator.specs.declared.fields.Found.{Found}
 use Rattle.translator.specs.declared.fields.ReadNumber.{ReadNumber}
 use Rattle.translator.specs.Fields.{number, signed, digitsLength, numeralLength, numeralValue, fieldValue}
 use Rattle.translator.specs.Format.{unsupported, outOfRange, unless, Format, gives, field, isOpen, cursorRefused, fieldAfter, stepAfter, after, valueAfter}
-use Rattle.translator.specs.Sas.{Declaration, Started, Separator, blank, lineFeed, byteOf}
+use Rattle.translator.specs.Sas.{Declaration, Started, Operator, Separator, blank, lineFeed, byteOf}
 use Rattle.translator.specs.Stated.{sizesOf, variablesOf, oldPairs, newPairs}
-use Rattle.translator.specs.Text.{any, each, layerFault, declaration, group, start, starts, variableFault, condition, conditions, effect}
+use Rattle.translator.specs.Text.{any, each, layerFault, declaration, group, start, starts, variableFault, condition, conditions, effect, operator}
 use Rattle.translator.specs.Text as Text
 
 -- an offset of a text that is within the limit
@@ -234,3 +235,47 @@ pub record EffectsRead (s : List ℕ) (c : Cursor) (count : ℕ) (sizes : List �
   pub inside : Inside s (r .at)
   pub is : (given : List ℕ) → (isOpen c ≡ true → Given conditions conditions base given)
       → EffectsStored s c count (take variables sizes) given conditions effects base r conditionsNow effectsNow
+
+-- metric 0: every operator costs 1
+unfoldable pub costBy : ℕ → ℕ → ℕ
+costBy metric cost = cond (eqb metric 0) 1 cost
+
+-- rooms for action a, and for the first `count` actions
+pub record OperatorInside (s : List ℕ) (at : ℕ) (sizes : List ℕ) (variables : ℕ) (costs conditions effects : List ℕ) (a : ℕ) : Type 0 where
+  pub inside : Inside s at
+  pub sizesRoom : 64 ≤ length sizes
+  pub few : variables ≤ 64
+  pub known : a < 512
+  pub costsRoom : 512 ≤ length costs
+  pub conditionsRoom : 32768 ≤ length conditions
+  pub effectsRoom : 32768 ≤ length effects
+
+pub record OperatorsInside (s : List ℕ) (at count : ℕ) (sizes : List ℕ) (variables : ℕ) (costs conditions effects : List ℕ) : Type 0 where
+  pub inside : Inside s at
+  pub sizesRoom : 64 ≤ length sizes
+  pub few : variables ≤ 64
+  pub fewActions : count ≤ 512
+  pub costsRoom : 512 ≤ length costs
+  pub conditionsRoom : 32768 ≤ length conditions
+  pub effectsRoom : 32768 ≤ length effects
+
+-- the conditions and effects of an operator, in the text's order
+abbrev pub conditionsOf : Operator → List Pair
+conditionsOf o = o .prevail ++ oldPairs (o .effects)
+
+abbrev pub effectsOf : Operator → List Pair
+effectsOf o = newPairs (o .effects)
+
+-- an operator, and arrays before and after it is stored as action a, where nothing is refused
+pub record OperatorRead (s : List ℕ) (c : Cursor) (sizes : List ℕ) (metric : ℕ) (costs conditions effects : List ℕ) (a : ℕ) (r : Cursor) (costsNow conditionsNow effectsNow : List ℕ) : Type 0 where
+  pub cursor : r ≡ after (operator sizes) s c
+  pub cost : isOpen r ≡ true → costsNow ≡ set costs a (costBy metric (valueAfter (operator sizes) s c .cost))
+  pub conditionsRow : isOpen r ≡ true → conditionsNow ≡ filled (cleared conditions (64 * a) 64) (64 * a) (conditionsOf (valueAfter (operator sizes) s c))
+  pub effectsRow : isOpen r ≡ true → effectsNow ≡ filled (cleared effects (64 * a) 64) (64 * a) (effectsOf (valueAfter (operator sizes) s c))
+
+-- operators, as the actions from 0 on
+pub record OperatorsRead (s : List ℕ) (c : Cursor) (count : ℕ) (sizes : List ℕ) (metric : ℕ) (costs conditions effects : List ℕ) (r : Cursor) (costsNow conditionsNow effectsNow : List ℕ) : Type 0 where
+  pub cursor : r ≡ after (each (operator sizes) count) s c
+  pub costsRead : isOpen r ≡ true → costsNow ≡ placed costs 0 (map (λ o. costBy metric (o .cost)) (valueAfter (each (operator sizes) count) s c))
+  pub conditionsRead : isOpen r ≡ true → conditionsNow ≡ filledRows conditions 0 (map conditionsOf (valueAfter (each (operator sizes) count) s c))
+  pub effectsRead : isOpen r ≡ true → effectsNow ≡ filledRows effects 0 (map effectsOf (valueAfter (each (operator sizes) count) s c))

@@ -5,5 +5,6 @@ pub mod Fields
 pub mod Format
 pub mod Text
 pub mod Contracts
+pub mod Translate
 pub mod Right
 pub mod Examples

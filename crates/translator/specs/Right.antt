@@ -1,16 +1,18 @@
--- What is promised of the check: it passes just the texts that state a supported task, and 31 stands at the first byte with
--- which no text goes on.
-use Prim.Native.Nat.{ℕ, _+_, _*_, _≤_}
+-- What is promised of the call: the check passes just the texts that state a supported task, 31 stands at the first byte with
+-- which no text goes on, and the file written means the task that the text states.
+use Prim.Native.Nat.{ℕ, _+_, _*_, _^_, _≤_, _<_}
 use mathlib.Core.Path.{_≡_}
 use mathlib.Core.Bool.{true}
 use mathlib.Core.List.{List}
 use lib.ListN.{length, take}
 use Rattle.files.specs.Accepted.{acceptedTask}
 use Rattle.files.specs.Outcome.{done, refusal}
+use Rattle.files.specs.Reading.{readTask, under}
 use Rattle.files.specs.TaskFile.{taskFile}
 use Rattle.translator.specs.Sas.{Sas, printed, named}
 use Rattle.translator.specs.Stated.{supported, textual, stated, Means}
 use Rattle.translator.specs.Text.{checkText, textTask}
+use Rattle.translator.specs.Translate.{translateOutcome, translateAnswer, translatedFile}
 
 -- a text that is the printing of what it states, which is supported
 pub record States (s : List ℕ) (x : Sas) : Type 0 where
@@ -42,3 +44,12 @@ TextsRight = (s : List ℕ) → length s ≤ 65536 → TextRight s
 
 abbrev pub PlacesRight : Type 0
 PlacesRight = (s : List ℕ) (p : ℕ) → length s ≤ 65536 → checkText s ≡ refusal 31 p → PlaceRight s p
+
+-- where the call is done, the file that stands at the buffer's front reads back as the task stated, under the signer given
+pub record FileRight (text : List ℕ) (signer : ℕ) (file : List ℕ) (x : Sas) : Type 0 where
+  pub front : take (translateAnswer text signer file .file) (translatedFile text signer file) ≡ taskFile (stated x) signer
+  pub reads : readTask (taskFile (stated x) signer) ≡ under (stated x) signer
+
+abbrev pub FilesRight : Type 0
+FilesRight =
+    (text : List ℕ) (signer : ℕ) (file : List ℕ) (x : Sas) → signer < 2 ^ 32 → translateOutcome text signer file ≡ done → States text x → FileRight text signer file x

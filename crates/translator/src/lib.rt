@@ -4,3 +4,11 @@ pub mod groups;
 pub mod lists;
 pub mod operators;
 pub mod variables;
+
+use files::Outcome;
+
+// What the call answers: the bytes of the task file; 0 beside a refusal.
+pub struct Translated {
+    pub outcome: Outcome,
+    pub file: usize,
+}

@@ -1,12 +1,15 @@
 // Operators: their costs, and their conditions and effects in rows of 64 cells.
 ghost use mathlib.Core.Path.{_≡_};
-ghost use Rattle.translator.specs.Contracts.{Inside, CountInside, coded, numberBy, plainAfter, oldBelow, isOld, RowInside, storedOld, EffectInside, EffectRead, EffectsRead};
+ghost use Prim.Native.Nat.{_≤_};
+ghost use lib.ListN.{take};
+ghost use Rattle.translator.specs.Contracts.{Inside, CountInside, coded, numberBy, plainAfter, oldBelow, isOld, RowInside, storedOld, EffectInside, EffectRead, EffectsRead, costBy, OperatorInside, OperatorRead, OperatorsInside, OperatorsRead};
 use crate::fields;
 use crate::fields::Cursor;
 use crate::fields::ReadNumber;
 use crate::lists;
 use files::bytes;
 use files::decode;
+use files::limits;
 use files::outcomes;
 
 // The count of an effect's conditions, which is to be 0.
@@ -95,6 +98,95 @@ fn effects_of(
     while 0 < left {
         here = effect(s, here, sizes, variables, conditions, effects, base);
         left -= 1;
+    }
+    here
+}
+
+// What an operator costs: as written, or 1 where the metric is 0.
+fn cost_by(metric: usize, cost: usize) -> u32
+    requires { ⌜ cost ≤ 1000000 ⌝ }
+    ensures { λ r. ⌜ r ≡ costBy metric cost ⌝ }
+{
+    if metric == 0 {
+        return 1;
+    }
+    cost as u32
+}
+
+// An operator, as action `a`.
+fn operator(
+    s: &[u8],
+    c: Cursor,
+    sizes: &[u8],
+    variables: usize,
+    metric: usize,
+    costs: &mut [u32],
+    conditions: &mut [u8],
+    effects: &mut [u8],
+    a: usize,
+) -> Cursor
+    requires { ⌜ OperatorInside (now s) (c .at) (now sizes) variables (now costs) (now conditions) (now effects) a ⌝ }
+    ensures { λ r. ⌜ OperatorRead (now (s .entry)) c (take variables (now (sizes .entry))) metric (now (costs .entry)) (now (conditions .entry)) (now (effects .entry)) a r (now (costs .exit)) (now (conditions .exit)) (now (effects .exit)) ⌝ }
+{
+    let base = limits::ROW * a;
+    let begun = fields::word(s, c, b"begin_operator\n");
+    let named = fields::name(s, begun);
+    let asked = fields::count(s, named, limits::MOST_PAIRS);
+    let prevail = lists::conditions(
+        s,
+        asked.cursor,
+        asked.value,
+        sizes,
+        variables,
+        conditions,
+        base,
+    );
+    let set = fields::count(s, prevail, limits::MOST_PAIRS);
+    let changed = effects_of(
+        s,
+        set.cursor,
+        set.value,
+        sizes,
+        variables,
+        conditions,
+        effects,
+        base,
+    );
+    let cost = fields::count(s, changed, limits::MOST_COST);
+    costs[a] = cost_by(metric, cost.value);
+    fields::word(s, cost.cursor, b"end_operator\n")
+}
+
+// `count` operators, as the actions from 0 on.
+pub fn operators(
+    s: &[u8],
+    c: Cursor,
+    count: usize,
+    sizes: &[u8],
+    variables: usize,
+    metric: usize,
+    costs: &mut [u32],
+    conditions: &mut [u8],
+    effects: &mut [u8],
+) -> Cursor
+    requires { ⌜ OperatorsInside (now s) (c .at) count (now sizes) variables (now costs) (now conditions) (now effects) ⌝ }
+    ensures { λ r. ⌜ OperatorsRead (now (s .entry)) c count (take variables (now (sizes .entry))) metric (now (costs .entry)) (now (conditions .entry)) (now (effects .entry)) r (now (costs .exit)) (now (conditions .exit)) (now (effects .exit)) ⌝ }
+{
+    let mut here = c;
+    let mut a: usize = 0;
+    while a < count {
+        here = operator(
+            s,
+            here,
+            sizes,
+            variables,
+            metric,
+            costs,
+            conditions,
+            effects,
+            a,
+        );
+        a += 1;
     }
     here
 }
