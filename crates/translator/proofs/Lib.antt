@@ -41,5 +41,7 @@ pub mod ListReading
 pub mod ConditionsReading
 pub mod EffectReading
 pub mod EffectsReading
+pub mod OperatorReading
+pub mod OperatorsReading
 pub mod Computes
 pub mod Examples

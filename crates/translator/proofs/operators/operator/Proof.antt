@@ -1,86 +1,67 @@
+-- The fields of an operator, one behind another; then its cost is stored.
+use mathlib.Core.Path.{refl}
+use native.Mathlib.Omega.{arith}
+use Rattle.digits.specs.Decimal.{ascii}
+use Rattle.translator.proofs.VariableReading.{inside, after-inside, field-inside, number-inside, word-inside}
+use Rattle.translator.proofs.OperatorReading.{count-most, operator-read}
 use borrow.Author.Needs.{needs}
 use Rattle.translator.proofs.operators.operator.Statement.{statement}
 use Rattle.translator.proofs.operators.operator.Tie as tie
-use Rattle.translator.proofs.operators.operator.Reads as reads
-use Rattle.translator.proofs.operators.operator.Lts as lts
-use Rattle.translator.proofs.fields.count.Reads as count-reads
-use Rattle.translator.proofs.fields.name.Reads as name-reads
-use Rattle.translator.proofs.fields.word.Reads as word-reads
-use Rattle.translator.proofs.lists.conditions.Reads as conditions-reads
-use Rattle.translator.proofs.operators.cost_by.Reads as cost-by-reads
-use Rattle.translator.proofs.operators.effects_of.Reads as effects-of-reads
 
--- src/operators.rt:131:16
 mul-base : tie.Need-mul-base
-mul-base c = search needs
+mul-base c = let known = c .before .before .before .before .before .pre .known in search needs
 
--- src/operators.rt:132:36
 slice-aggregate-word : tie.Need-slice-aggregate-word
 slice-aggregate-word c = search needs
 
--- src/operators.rt:132:9
 word-requires : tie.Need-word-requires
 word-requires c κs = search needs
 
--- src/operators.rt:133:9
 name-requires : tie.Need-name-requires
-name-requires c κs = ?
+name-requires c κs = field-inside _ _ _ _ (c .before .before .before .before .before .before .before .pre .inside) (c .word .ensures)
 
--- src/operators.rt:134:9
 count-requires : tie.Need-count-requires
-count-requires c κs = ?
+count-requires c κs = record { inside = (field-inside _ _ _ _ (field-inside _ _ _ _ (c .before .before .before .before .before .before .before .before .pre .inside) (c .before .word .ensures)) (c .name .ensures)); low = omega arith }
 
--- src/operators.rt:135:9
 conditions-requires : tie.Need-conditions-requires
-conditions-requires c κs = ?
+conditions-requires c κs = record { inside = (number-inside _ _ _ _ _ (field-inside _ _ _ _ (field-inside _ _ _ _ (c .before .before .before .before .before .before .before .before .before .before .pre .inside) (c .before .before .before .word .ensures)) (c .before .before .name .ensures)) (c .before .count .ensures)); sizesRoom = c .before .before .before .before .before .before .before .before .before .before .pre .sizesRoom; few = c .before .before .before .before .before .before .before .before .before .before .pre .few; room = record { room = omega (arith, c .before .before .before .before .before .before .before .before .before .before .pre .known, c .before .before .before .before .before .before .before .before .before .before .pre .conditionsRoom) } }
 
--- src/operators.rt:144:9
 count-requires-2 : tie.Need-count-requires-2
-count-requires-2 c κs = ?
+count-requires-2 c κs = record { inside = (after-inside _ _ _ _ (number-inside _ _ _ _ _ (field-inside _ _ _ _ (field-inside _ _ _ _ (c .before .before .before .before .before .before .before .before .before .before .before .before .before .pre .inside) (c .before .before .before .before .before .before .word .ensures)) (c .before .before .before .before .before .name .ensures)) (c .before .before .before .before .count .ensures)) (c .before .before .conditions .ensures .cursor)); low = omega arith }
 
--- src/operators.rt:145:9
 effects-of-requires : tie.Need-effects-of-requires
-effects-of-requires c κs = ?
+effects-of-requires c κs = record { inside = (number-inside _ _ _ _ _ (after-inside _ _ _ _ (number-inside _ _ _ _ _ (field-inside _ _ _ _ (field-inside _ _ _ _ (c .before .before .before .before .before .before .before .before .before .before .before .before .before .before .before .before .pre .inside) (c .before .before .before .before .before .before .before .before .before .word .ensures)) (c .before .before .before .before .before .before .before .before .name .ensures)) (c .before .before .before .before .before .before .before .count .ensures)) (c .before .before .before .before .before .conditions .ensures .cursor)) (c .before .before .count2 .ensures)); sizesRoom = c .before .before .before .before .before .before .before .before .before .before .before .before .before .before .before .before .pre .sizesRoom; few = c .before .before .before .before .before .before .before .before .before .before .before .before .before .before .before .before .pre .few; conditionsRoom = record { room = omega (arith, c .before .before .before .before .before .before .before .before .before .before .before .before .before .before .before .before .pre .known, c .before .before .before .before .before .before .before .before .before .before .before .before .before .before .before .before .pre .conditionsRoom) }; effectsRoom = record { room = omega (arith, c .before .before .before .before .before .before .before .before .before .before .before .before .before .before .before .before .pre .known, c .before .before .before .before .before .before .before .before .before .before .before .before .before .before .before .before .pre .effectsRoom) } }
 
--- src/operators.rt:155:9
 count-requires-3 : tie.Need-count-requires-3
-count-requires-3 c κs = search needs
+count-requires-3 c κs = record { inside = c .before .before .before .before .effects-of .ensures .inside; low = omega arith }
 
--- src/operators.rt:156:16
 cost-by-requires : tie.Need-cost-by-requires
-cost-by-requires c κs = ?
+cost-by-requires c κs = count-most _ _ _ _ (c .count3 .ensures)
 
--- src/operators.rt:156:5
 mul-costs : tie.Need-mul-costs
-mul-costs c = ?
+mul-costs c = let known = c .before .before .before .before .before .before .before .before .before .before .before .before .before .before .before .before .before .before .before .before .before .before .before .pre .known in search needs
 
--- src/operators.rt:156:5
 slice-write-costs : tie.Need-slice-write-costs
-slice-write-costs c = ?
+slice-write-costs c = let known = c .before .before .before .before .before .before .before .before .before .before .before .before .before .before .before .before .before .before .before .before .before .before .before .pre .known in let room = c .before .before .before .before .before .before .before .before .before .before .before .before .before .before .before .before .before .before .before .before .before .before .before .pre .costsRoom in search needs
 
--- src/operators.rt:157:34
 slice-aggregate-word-2 : tie.Need-slice-aggregate-word-2
 slice-aggregate-word-2 c = search needs
 
--- src/operators.rt:157:5
 word-requires-2 : tie.Need-word-requires-2
-word-requires-2 c κs = ?
+word-requires-2 c κs = let moved = number-inside _ _ _ _ _ (c .before .before .before .before .before .before .before .effects-of .ensures .inside) (c .before .before .count3 .ensures) in search (needs, moved)
 
--- src/operators.rt:117:1
 same-length : tie.Need-same-length
 same-length c = search needs
 
--- src/operators.rt:117:1
 same-length-2 : tie.Need-same-length-2
 same-length-2 c = search needs
 
--- src/operators.rt:117:1
 same-length-3 : tie.Need-same-length-3
 same-length-3 c = search needs
 
--- src/operators.rt:117:1
 returns : tie.Need-returns
-returns c = ?
+unfolding ascii
+returns c = operator-read _ _ _ _ _ _ _ _ _ _ _ _ _ _ _ _ _ _ _ _ _ _ (c .before .before .before .before .before .before .before .before .before .before .before .before .before .before .before .before .before .before .word .ensures) (c .before .before .before .before .before .before .before .before .before .before .before .before .before .before .before .before .before .name .ensures) (c .before .before .before .before .before .before .before .before .before .before .before .before .before .before .before .before .count .ensures) (c .before .before .before .before .before .before .before .before .before .before .before .before .before .before .conditions .ensures) (c .before .before .before .before .before .before .before .before .before .before .before .count2 .ensures) (c .before .before .before .before .before .before .before .before .effects-of .ensures) (c .before .before .before .count3 .ensures) (c .word2 .ensures) (c .before .before .cost-by .ensures) refl
 
 pub operator-spec : {M : Type 1} → statement M
 operator-spec =
