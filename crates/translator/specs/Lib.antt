@@ -5,6 +5,7 @@ pub mod Fields
 pub mod Format
 pub mod Text
 pub mod Contracts
+pub mod Parts
 pub mod Translate
 pub mod Right
 pub mod Examples

@@ -3,6 +3,7 @@ pub mod fields;
 pub mod groups;
 pub mod lists;
 pub mod operators;
+pub mod text;
 pub mod variables;
 
 use files::Outcome;
