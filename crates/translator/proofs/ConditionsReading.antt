@@ -1,7 +1,7 @@
 -- The loop over a list of pairs: what is left to be read and stored makes of the row what all pairs make of it.
 use Prim.Native.Nat.{ℕ, zero, suc, _+_, _-_, _≤_, _<_}
 use mathlib.Core.Path.{_≡_, refl, sym, ap, ap₂, _∙_}
-use mathlib.Core.Bool.{Bool, true, false, not, _&&_, _||_}
+use mathlib.Core.Bool.{Bool, true, false, not, _||_}
 use mathlib.Core.List.{List, [], _∷_}
 use native.Mathlib.Omega.{arith}
 use lib.Dec.{eqb}
@@ -13,7 +13,7 @@ use Rattle.files.specs.Rows.{cleared, filled}
 use Rattle.files.specs.Task.{Pair}
 use Rattle.translator.specs.declared.fields.Cursor.{Cursor}
 use Rattle.translator.specs.Contracts.{isNew, Given, PairStored, ListRead}
-use Rattle.translator.specs.Format.{Format, gives, repeat, isOpen, after, valueAfter}
+use Rattle.translator.specs.Format.{Format, repeat, isOpen, after, valueAfter}
 use Rattle.translator.specs.Stated.{variablesOf}
 use Rattle.translator.specs.Text.{condition, conditions}
 use Rattle.translator.proofs.OrderLaws.{none-some}

@@ -1,7 +1,6 @@
 -- How a cursor moves, from the code's own tests: words and lines byte by byte, then one field behind another.
 use Prim.Native.Nat.{ℕ, suc, _+_, _≤_, _<_}
 use mathlib.Core.Path.{_≡_, refl, sym, ap, ap₂, _∙_}
-use mathlib.Core.Bool.{Bool, true, false, cond}
 use mathlib.Core.List.{List, [], _∷_}
 use native.Mathlib.Nat.{add-zero}
 use native.Mathlib.Omega.{arith}
@@ -15,7 +14,7 @@ use Rattle.files.specs.declared.Outcome.{Outcome}
 use Rattle.files.specs.Outcome.{done, refusal, isDone, guard, andThen}
 use Rattle.translator.specs.declared.fields.Cursor.{Cursor}
 use Rattle.translator.specs.Fields.{Field, word, name, byteAt, wordAt, lineLength, fieldAt, fieldLength}
-use Rattle.translator.specs.Format.{cursorAt, cursorRefused, isOpen, reached, fieldAfter}
+use Rattle.translator.specs.Format.{cursorRefused, isOpen, reached, fieldAfter}
 
 pub reached-end : (o x : Outcome) (end : ℕ) → o .number ≡ 0 → x ≡ done → record { outcome = x; at = end } ≡ reached o end
 unfolding reached

@@ -9,12 +9,12 @@ use native.Mathlib.Nat.{add-zero}
 use native.Mathlib.Omega.{arith}
 use lib.Dec.{eqb, leb}
 use lib.ListN.{length, getD, take, drop, length-drop, List·getD-eq-default}
-use lib.Seq.{drop-drop, getD-drop, take-nil}
-use borrow.Author.Tests.{eq-eqb, ne-eqb, le-leb, lt-leb, leb-true, leb-false}
+use lib.Seq.{drop-drop, getD-drop}
+use borrow.Author.Tests.{eq-eqb, ne-eqb, le-leb, lt-leb}
 use Rattle.files.proofs.Guards.{is-done, is-refused, guard-passes, guard-refuses}
 use Rattle.files.proofs.Logic.{split, split-le, cond-case}
 use Rattle.files.specs.declared.Outcome.{Outcome}
-use Rattle.files.specs.Outcome.{done, refusal, guard}
+use Rattle.files.specs.Outcome.{refusal}
 use Rattle.digits.specs.Decimal.{ascii, numberFrom, numberOf}
 use Rattle.translator.specs.declared.fields.Cursor.{Cursor}
 use Rattle.translator.specs.declared.fields.Found.{Found}

@@ -1,14 +1,14 @@
 -- Rows while pairs are stored in them: which variables have a pair, and numbers that name a variable or a value.
 use Prim.Native.Nat.{ℕ, _+_, _%_, _≤_, _<_}
-use mathlib.Core.Path.{_≡_, refl, sym, ap, ap₂, _∙_}
-use mathlib.Core.Bool.{Bool, true, false, not, cond, _&&_, _||_}
-use mathlib.Core.List.{List, [], _∷_}
+use mathlib.Core.Path.{_≡_, refl, sym, ap, _∙_}
+use mathlib.Core.Bool.{Bool, true, false, not, _&&_}
+use mathlib.Core.List.{List}
 use mathlib.Core.Option.{none}
 use native.Mathlib.Omega.{arith}
-use lib.Dec.{eqb, leb, ltb}
-use lib.ListN.{length, getD, take, drop, set}
-use lib.Seq.{getD-set-same, getD-set-other, getD-take, length-take-le}
-use borrow.Author.Tests.{le-leb, lt-leb, lt-ltb, eq-eqb, ne-eqb, eqb-true, eqb-false, ltb-true, leb-true, leb-false}
+use lib.Dec.{eqb, ltb}
+use lib.ListN.{length, getD, drop, set}
+use lib.Seq.{getD-set-same, getD-set-other}
+use borrow.Author.Tests.{le-leb, lt-leb, lt-ltb, ne-eqb, eqb-true, eqb-false, ltb-true}
 use Rattle.files.proofs.Logic.{split, split-le}
 use Rattle.files.specs.Below.{anyOf}
 use Rattle.files.specs.Rows.{stored}
@@ -22,7 +22,7 @@ use Rattle.translator.specs.Text.{variableFault}
 use Rattle.translator.proofs.NumberReading.{capped-small, capped-large}
 use Rattle.translator.proofs.ReadingLaws.{fault-refused}
 use Rattle.translator.proofs.VariableReading.{field-before}
-use Rattle.translator.proofs.StepReading.{ltb-capped, fault-judged, fault-then, fault-both, fault-before, step-fine, step-field, unless-none, settled-same, number-is, read-cursor, read-value, read-tested}
+use Rattle.translator.proofs.StepReading.{ltb-capped, fault-judged, fault-then, fault-both, fault-before, step-fine, step-field, unless-none, settled-same, number-is, read-value, read-tested}
 
 -- which variables are new
 pub new-beyond : (row : List ℕ) (base v : ℕ) → 64 ≤ v → true ≡ isNew row base v

@@ -1,13 +1,13 @@
 -- A number and the tests on it, from the code's own tests: the cursor is the one behind the field and its faults.
 use Prim.Native.Nat.{ℕ, _≤_, _<_}
-use mathlib.Core.Path.{_≡_, refl, sym, ap, ap₂, _∙_}
+use mathlib.Core.Path.{_≡_, refl, sym, ap, _∙_}
 use mathlib.Core.Bool.{Bool, true, false, cond, _&&_}
 use mathlib.Core.List.{List}
 use mathlib.Core.Option.{Option, none, some}
 use native.Mathlib.Omega.{arith}
 use lib.Dec.{eqb, leb, ltb}
 use lib.ListN.{drop}
-use borrow.Author.Tests.{le-leb, lt-leb, lt-ltb, le-ltb, leb-true, ltb-true, eq-eqb, ne-eqb}
+use borrow.Author.Tests.{le-leb, lt-leb, le-ltb, ne-eqb}
 use Rattle.files.proofs.Logic.{clash, split, split-le}
 use Rattle.files.specs.Outcome.{refusal, isDone}
 use Rattle.translator.specs.declared.fields.Cursor.{Cursor}
@@ -17,7 +17,6 @@ use Rattle.translator.specs.Fields.{Field, Value, number, signed, fieldV
 use Rattle.translator.specs.Format.{Fault, unsupported, givenTwice, outsideLimits, outOfRange, faultNumber, unless, gives, field, isOpen, cursorRefused, fieldAfter, faultAfter, stepAfter, after, valueAfter}
 use Rattle.translator.specs.Sas.{Separator}
 use Rattle.translator.specs.Stated.{isNone}
-use Rattle.translator.specs.Text.{any}
 use Rattle.translator.proofs.NumberReading.{capped-small, capped-large, capped-most}
 use Rattle.translator.proofs.ReadingLaws.{fault-refused}
 

@@ -3,7 +3,7 @@ use Prim.Native.Nat.{ℕ, zero, suc, _-_, _≤_, _<_}
 use mathlib.Core.Path.{_≡_, refl, sym, ap, ap₂, subst, _∙_}
 use mathlib.Core.Bool.{Bool, true, false, cond}
 use mathlib.Core.List.{List, _∷_}
-use mathlib.Core.Option.{Option, none, some}
+use mathlib.Core.Option.{Option, none}
 use native.Mathlib.Omega.{arith}
 use lib.Dec.{eqb, leb}
 use lib.ListN.{length, drop}
@@ -14,15 +14,15 @@ use Rattle.translator.specs.declared.fields.Cursor.{Cursor}
 use Rattle.translator.specs.declared.fields.ReadNumber.{ReadNumber}
 use Rattle.translator.specs.Contracts.{Inside, WordInside, capped, coded, settled, numberAfter, signedAfter, judged, numberBy, same, sizeOf, layerAfter}
 use Rattle.translator.specs.Fields.{Field, word, name, number, signed, fieldValue}
-use Rattle.translator.specs.Format.{unsupported, outsideLimits, faultNumber, unless, Format, gives, field, bind, repeat, isOpen, fieldAfter, faultAfter, stepAfter, after, valueAfter}
-use Rattle.translator.specs.Sas.{Separator, lineFeed, Declaration}
+use Rattle.translator.specs.Format.{unsupported, outsideLimits, unless, Format, gives, field, repeat, isOpen, fieldAfter, faultAfter, stepAfter, after, valueAfter}
+use Rattle.translator.specs.Sas.{Separator, lineFeed}
 use Rattle.translator.specs.Stated.{isNone}
 use Rattle.translator.specs.Text.{any, layerFault, says, each, count, size, nameLines, declaration}
 use Rattle.translator.proofs.FieldLaws.{field-right}
 use Rattle.translator.proofs.NumberReading.{capped-small}
 use Rattle.translator.proofs.ReadingLaws.{after-refused, after-bind, value-bind, open-before}
 use Rattle.translator.proofs.ReadingListed.{after-within}
-use Rattle.translator.proofs.StepReading.{leb-capped, least-capped, step-fine, step-field, unless-none, settled-same, number-is, signed-is, none-coded, read-cursor, read-value, read-tested, read-tested-twice}
+use Rattle.translator.proofs.StepReading.{leb-capped, least-capped, step-fine, step-field, unless-none, settled-same, number-is, signed-is, none-coded, read-value, read-tested, read-tested-twice}
 
 -- every cursor stands in the text
 pub after-inside : {A : Type 0} (f : Format A) (s : List ℕ) (c r : Cursor) → Inside s (c .at) → r ≡ after f s c → Inside s (r .at)

@@ -19,7 +19,7 @@ use Rattle.translator.specs.Fields.{number, signed, digitsLength, numera
 use Rattle.translator.specs.Format.{unsupported, outOfRange, unless, Format, gives, field, isOpen, cursorRefused, fieldAfter, stepAfter, after, valueAfter}
 use Rattle.translator.specs.Sas.{Declaration, Started, Operator, Separator, blank, lineFeed, byteOf}
 use Rattle.translator.specs.Stated.{sizesOf, variablesOf, oldPairs, newPairs}
-use Rattle.translator.specs.Text.{any, each, layerFault, declaration, group, start, starts, variableFault, condition, conditions, effect, operator}
+use Rattle.translator.specs.Text.{any, each, layerFault, declaration, group, starts, variableFault, condition, conditions, effect, operator}
 use Rattle.translator.specs.Text as Text
 
 -- an offset of a text that is within the limit
@@ -119,11 +119,7 @@ pub record DeclarationsRead (s : List ℕ) (c : Cursor) (count : ℕ) (before : 
   pub cursor : r ≡ after (each declaration count) s c
   pub stored : isOpen r ≡ true → now ≡ placed before 0 (storedSizes (valueAfter (each declaration count) s c))
 
--- a start value, of any declaration of so many values
-abbrev pub StartRead : List ℕ → Cursor → ℕ → ReadNumber → Type 0
-StartRead s c size r = (d : Declaration) → sizeOf d ≡ size → r ≡ numberBy (start d) (λ v. v .start) s c
-
--- and start values, of any declarations that have the sizes
+-- start values, of any declarations that have the sizes
 pub record StartsStored (s : List ℕ) (c : Cursor) (declarations : List Declaration) (before : List ℕ) (r : Cursor) (now : List ℕ) : Type 0 where
   pub cursor : r ≡ after (starts declarations) s c
   pub stored : isOpen r ≡ true → now ≡ placed before 0 (storedStarts (valueAfter (starts declarations) s c))
