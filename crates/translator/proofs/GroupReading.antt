@@ -1,12 +1,12 @@
 -- Mutex groups, from the code's own steps: a format that takes a byte at least is read no more often than the text has bytes.
-use Prim.Native.Nat.{ℕ, zero, suc, _+_, _-_, _≤_, _<_}
+use Prim.Native.Nat.{ℕ, zero, suc, _+_, _≤_, _<_}
 use mathlib.Core.Path.{_≡_, refl, sym, ap, _∙_}
 use mathlib.Core.Bool.{true}
 use mathlib.Core.List.{List}
 use mathlib.Core.Option.{Option}
 use native.Mathlib.Omega.{arith}
 use lib.ListN.{length, drop}
-use Rattle.files.proofs.Guards.{is-refused, done-number}
+use Rattle.files.proofs.Guards.{done-number}
 use Rattle.files.proofs.Logic.{clash, split, split-le}
 use Rattle.files.specs.declared.Outcome.{Outcome}
 use Rattle.files.specs.Outcome.{isDone}
@@ -24,7 +24,8 @@ use Rattle.translator.proofs.NumberReading.{capped-small, capped-large}
 use Rattle.translator.proofs.ReadingLaws.{after-refused, after-bind, open-before}
 use Rattle.translator.proofs.ReadingListed.{after-within}
 use Rattle.translator.proofs.StepReading.{step-fine, step-field, number-is, read-cursor}
-use Rattle.translator.proofs.VariableReading.{field-inside, field-before, each-more, each-next, each-refused, after-settled}
+use Rattle.translator.proofs.VariableReading.{field-inside, field-before, after-settled}
+use Rattle.translator.proofs.RepeatReading.{each-more}
 
 -- where a field ends that is read
 reached-at : (o : Outcome) (end : ℕ) → isOpen (reached o end) ≡ true → reached o end .at ≡ end
@@ -110,12 +111,6 @@ module _ {A : Type 0} (f : Format A) (s : List ℕ) (onward : Onward f s) where
       q
       ∙ after-settled (each f) s counted (capped v) n (number-is lineFeed s c n e)
       ∙ each-capped v counted (field-inside (number lineFeed) s c counted h refl)
-
--- a loop that ends at a refusal
-pub each-stops : {A : Type 0} (f : Format A) (s : List ℕ) (left : ℕ) (here whole : Cursor) → after (each f left) s here ≡ whole
-    → (next : Cursor) → 0 < left → next ≡ after f s here → (next .outcome .number ≡ 0 → ⊥) → next ≡ whole
-unfolding isOpen
-each-stops f s left here whole is next h e d = each-refused f s (left - 1) next whole (each-next f s left here whole is next h e) (is-refused (next .outcome) d)
 
 -- a number that was read
 pub number-cursor : (separator : Separator) (s : List ℕ) (c : Cursor) (n : ReadNumber) → n ≡ numberAfter separator s c → n .cursor ≡ fieldAfter (number separator) s c

@@ -17,6 +17,7 @@ pub mod ReadingSteps
 pub mod ReadingTraces
 pub mod ReadingListed
 pub mod ReadingPlaces
+pub mod RepeatReading
 pub mod StepReading
 pub mod VariableReading
 pub mod RowReading

@@ -11,25 +11,13 @@ use Rattle.files.specs.Bytes.{placed}
 use Rattle.translator.specs.declared.fields.Cursor.{Cursor}
 use Rattle.translator.specs.declared.fields.ReadNumber.{ReadNumber}
 use Rattle.translator.specs.Contracts.{Inside, settled, numberBy, same, sizeOf, valueBelow, DeclarationsRead, StartsRead}
-use Rattle.translator.specs.Format.{Format, gives, bind, repeat, isOpen, after, valueAfter}
+use Rattle.translator.specs.Format.{Format, gives, isOpen, after, valueAfter}
 use Rattle.translator.specs.Sas.{Declaration}
 use Rattle.translator.specs.Stated.{sizesOf}
 use Rattle.translator.specs.Text.{each, declaration, start, starts}
-use Rattle.translator.proofs.ReadingLaws.{after-bind, value-bind, open-before}
+use Rattle.translator.proofs.ReadingLaws.{open-before}
 use Rattle.translator.proofs.VariableReading.{number-inside, settled-value}
-
--- an element, then the others
-abbrev first : {A : Type 0} → Format A → Format (List A) → Format (List A)
-first f rest = bind f (λ a. bind rest (λ others. gives (a ∷ others)))
-
-module _ {A : Type 0} (f : Format A) (rest : Format (List A)) (s : List ℕ) (c : Cursor) where
-  first-after : after (first f rest) s c ≡ after rest s (after f s c)
-  unfolding after
-  first-after = after-bind f _ s c ∙ after-bind rest _ s (after f s c)
-
-  first-value : valueAfter (first f rest) s c ≡ valueAfter f s c ∷ valueAfter rest s (after f s c)
-  unfolding valueAfter
-  first-value = value-bind f _ s c ∙ value-bind rest _ s (after f s c)
+use Rattle.translator.proofs.RepeatReading.{first, first-after, first-value, each-empty, each-first}
 
 -- what is left to be read and stored gives the whole
 pub record Storing {A : Type 0} (cell : A → ℕ) (s : List ℕ) (all : Format (List A)) (from : Cursor) (before : List ℕ) (left : Format (List A)) (here : Cursor) (v : ℕ) (cells : List ℕ) : Type 0 where
@@ -46,13 +34,13 @@ module _ {A : Type 0} (cell : A → ℕ) (s : List ℕ) (all : Format (List A)) 
       }
 
   module _ (left : Format (List A)) (here : Cursor) (v : ℕ) (cells : List ℕ) (inv : Storing cell s all from before left here v cells) where
-    storing-next : (f : Format A) (rest : Format (List A)) (one : ReadNumber) → left ≡ first f rest → one ≡ numberBy f cell s here
+    storing-next : (f : Format A) (rest : Format (List A)) (one : ReadNumber) → left ≡ first f (λ a. rest) → one ≡ numberBy f cell s here
         → Storing cell s all from before rest (one .cursor) (v + 1) (set cells v (one .value % 256))
     unfolding numberBy settled placed
     storing-next f rest one e q =
         let moved : one .cursor ≡ after f s here = ap (λ (x : ReadNumber). x .cursor) q in
-        let onward : after rest s (after f s here) ≡ after all s from = sym (first-after f rest s here) ∙ sym (ap (λ (x : Format (List A)). after x s here) e) ∙ inv .onward in
-        let values : valueAfter left s here ≡ valueAfter f s here ∷ valueAfter rest s (after f s here) = ap (λ (x : Format (List A)). valueAfter x s here) e ∙ first-value f rest s here in
+        let onward : after rest s (after f s here) ≡ after all s from = sym (first-after f (λ a. rest) s here) ∙ sym (ap (λ (x : Format (List A)). after x s here) e) ∙ inv .onward in
+        let values : valueAfter left s here ≡ valueAfter f s here ∷ valueAfter rest s (after f s here) = ap (λ (x : Format (List A)). valueAfter x s here) e ∙ first-value f (λ a. rest) s here in
         record {
           onward = ap (after rest s) moved ∙ onward;
           stored =
@@ -74,14 +62,6 @@ module _ {A : Type 0} (cell : A → ℕ) (s : List ℕ) (all : Format (List A)) 
         ∙ inv .stored (sym (ap isOpen (storing-cursor e)) ∙ o)
 
 -- declarations
-each-empty : {A : Type 0} (f : Format A) (n : ℕ) → n ≡ 0 → each f n ≡ gives []
-unfolding each repeat
-each-empty f n e = ap (each f) e
-
-each-first : {A : Type 0} (f : Format A) (n k : ℕ) → n ≡ suc k → each f n ≡ first f (each f k)
-unfolding each repeat
-each-first f n k e = ap (each f) e
-
 abbrev pub DeclarationsFrom : List ℕ → Cursor → ℕ → List ℕ → Cursor → ℕ → List ℕ → Type 0
 DeclarationsFrom s c count before here v cells =
     Storing sizeOf s (each declaration count) c before (each declaration (count - v)) here v cells
@@ -114,7 +94,7 @@ starts-empty : (ds : List Declaration) → ds ≡ [] → starts ds ≡ gives []
 unfolding starts
 starts-empty ds e = ap starts e
 
-starts-first : (ds : List Declaration) (d : Declaration) (others : List Declaration) → ds ≡ d ∷ others → starts ds ≡ first (start d) (starts others)
+starts-first : (ds : List Declaration) (d : Declaration) (others : List Declaration) → ds ≡ d ∷ others → starts ds ≡ first (start d) (λ a. starts others)
 unfolding starts
 starts-first ds d others e = ap starts e
 

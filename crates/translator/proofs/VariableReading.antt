@@ -1,8 +1,8 @@
 -- Counts, layers, sizes and declarations, from the code's own steps.
-use Prim.Native.Nat.{ℕ, zero, suc, _-_, _≤_, _<_}
+use Prim.Native.Nat.{ℕ, _-_, _≤_, _<_}
 use mathlib.Core.Path.{_≡_, refl, sym, ap, ap₂, subst, _∙_}
-use mathlib.Core.Bool.{Bool, true, false, cond}
-use mathlib.Core.List.{List, _∷_}
+use mathlib.Core.Bool.{Bool, true, cond}
+use mathlib.Core.List.{List}
 use mathlib.Core.Option.{Option, none}
 use native.Mathlib.Omega.{arith}
 use lib.Dec.{eqb, leb}
@@ -14,15 +14,16 @@ use Rattle.translator.specs.declared.fields.Cursor.{Cursor}
 use Rattle.translator.specs.declared.fields.ReadNumber.{ReadNumber}
 use Rattle.translator.specs.Contracts.{Inside, WordInside, capped, coded, settled, numberAfter, signedAfter, judged, numberBy, same, sizeOf, layerAfter}
 use Rattle.translator.specs.Fields.{Field, word, name, number, signed, fieldValue}
-use Rattle.translator.specs.Format.{unsupported, outsideLimits, unless, Format, gives, field, repeat, isOpen, fieldAfter, faultAfter, stepAfter, after, valueAfter}
+use Rattle.translator.specs.Format.{unsupported, outsideLimits, unless, Format, gives, field, isOpen, fieldAfter, faultAfter, stepAfter, after, valueAfter}
 use Rattle.translator.specs.Sas.{Separator, lineFeed}
 use Rattle.translator.specs.Stated.{isNone}
-use Rattle.translator.specs.Text.{any, layerFault, says, each, count, size, nameLines, declaration}
+use Rattle.translator.specs.Text.{any, layerFault, says, count, size, nameLines, declaration}
 use Rattle.translator.proofs.FieldLaws.{field-right}
 use Rattle.translator.proofs.NumberReading.{capped-small}
 use Rattle.translator.proofs.ReadingLaws.{after-refused, after-bind, value-bind, open-before}
 use Rattle.translator.proofs.ReadingListed.{after-within}
 use Rattle.translator.proofs.StepReading.{leb-capped, least-capped, step-fine, step-field, unless-none, settled-same, number-is, signed-is, none-coded, read-value, read-tested, read-tested-twice}
+use Rattle.translator.proofs.RepeatReading.{each-length, each-next, each-end}
 
 -- every cursor stands in the text
 pub after-inside : {A : Type 0} (f : Format A) (s : List ℕ) (c r : Cursor) → Inside s (c .at) → r ≡ after f s c → Inside s (r .at)
@@ -111,39 +112,6 @@ layer-read s c n j is e =
     let v : Option ℕ = fieldValue (signed lineFeed) (drop (c .at) s) in
     read-tested (signed lineFeed) s c n (coded v) (signed-is lineFeed s c n is) unsupported isNone (eqb (n .value) 1048577) j
     (λ o. ap (λ (x : ℕ). eqb x 1048577) (read-value (signed lineFeed) s c n (coded v) (signed-is lineFeed s c n is) o) ∙ none-coded v) e
-
--- one element, then the others
-module _ {A : Type 0} (f : Format A) (s : List ℕ) where
-  pub each-none : (c : Cursor) → after (each f zero) s c ≡ c
-  unfolding each repeat after
-  each-none c = refl
-
-  pub each-more : (n : ℕ) (c : Cursor) → after (each f (suc n)) s c ≡ after (each f n) s (after f s c)
-  unfolding each repeat after
-  each-more n c = after-bind f _ s c ∙ after-bind (each f n) _ s (after f s c)
-
-  pub each-value : (n : ℕ) (c : Cursor) → valueAfter (each f (suc n)) s c ≡ valueAfter f s c ∷ valueAfter (each f n) s (after f s c)
-  unfolding each repeat valueAfter
-  each-value n c = value-bind f _ s c ∙ value-bind (each f n) _ s (after f s c)
-
-  pub each-length : (n : ℕ) (c : Cursor) → length (valueAfter (each f n) s c) ≡ n
-  unfolding each repeat valueAfter
-  each-length zero c = refl
-  each-length (suc n) c = ap length (each-value n c) ∙ ap suc (each-length n (after f s c))
-
--- a loop that counts down
-module _ {A : Type 0} (f : Format A) (s : List ℕ) (left : ℕ) (here whole : Cursor) (is : after (each f left) s here ≡ whole) where
-  pub each-end : left ≤ 0 → here ≡ whole
-  each-end h = let z : left ≡ 0 = omega arith in sym (each-none f s here) ∙ sym (ap (λ (n : ℕ). after (each f n) s here) z) ∙ is
-
-  pub each-next : (next : Cursor) → 0 < left → next ≡ after f s here → after (each f (left - 1)) s next ≡ whole
-  each-next next h e =
-      let more : suc (left - 1) ≡ left = omega arith in
-      ap (after (each f (left - 1)) s) e ∙ sym (each-more f s (left - 1) here) ∙ ap (λ (n : ℕ). after (each f n) s here) more ∙ is
-
-  -- what is left does not matter behind a refusal
-  pub each-refused : isOpen here ≡ false → here ≡ whole
-  each-refused e = sym (after-refused (each f left) s here e) ∙ is
 
 -- a number that was read, where it is: behind a refusal it does not matter
 pub after-settled : {A : Type 0} (F : ℕ → Format A) (s : List ℕ) (c : Cursor) (n : ℕ) (r : ReadNumber) → r ≡ settled c n → after (F (r .value)) s (r .cursor) ≡ after (F n) s c
