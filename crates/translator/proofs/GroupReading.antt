@@ -23,7 +23,7 @@ use Rattle.translator.proofs.FieldLaws.{field-right}
 use Rattle.translator.proofs.NumberReading.{capped-small, capped-large}
 use Rattle.translator.proofs.ReadingLaws.{after-refused, after-bind, open-before}
 use Rattle.translator.proofs.ReadingListed.{after-within}
-use Rattle.translator.proofs.StepReading.{step-fine, step-field, number-is, read-cursor}
+use Rattle.translator.proofs.StepReading.{settled-cursor, step-fine, step-field, number-is}
 use Rattle.translator.proofs.VariableReading.{field-inside, field-before, after-settled}
 use Rattle.translator.proofs.RepeatReading.{each-more}
 
@@ -112,17 +112,10 @@ module _ {A : Type 0} (f : Format A) (s : List ℕ) (onward : Onward f s) where
       ∙ after-settled (each f) s counted (capped v) n (number-is lineFeed s c n e)
       ∙ each-capped v counted (field-inside (number lineFeed) s c counted h refl)
 
--- a number that was read
-pub number-cursor : (separator : Separator) (s : List ℕ) (c : Cursor) (n : ReadNumber) → n ≡ numberAfter separator s c → n .cursor ≡ fieldAfter (number separator) s c
-number-cursor separator s c n e = read-cursor (number separator) s c n _ (number-is separator s c n e)
-
-pub number-stands : (separator : Separator) (s : List ℕ) (c : Cursor) (n : ReadNumber) → Inside s (c .at) → n ≡ numberAfter separator s c → Inside s (n .cursor .at)
-number-stands separator s c n h e = field-inside (number separator) s c (n .cursor) h (number-cursor separator s c n e)
-
 -- a pair, a group and all groups
 pub pair-read : (s : List ℕ) (c : Cursor) (variable value : ReadNumber) → variable ≡ numberAfter blank s c → value ≡ numberAfter lineFeed s (variable .cursor) → value .cursor ≡ after (freePair lineFeed) s c
-unfolding freePair after stepAfter faultAfter
-pair-read s c variable value e q = number-cursor lineFeed s (variable .cursor) value q ∙ ap (fieldAfter (number lineFeed) s) (number-cursor blank s c variable e)
+unfolding freePair numberAfter after stepAfter faultAfter
+pair-read s c variable value e q = settled-cursor _ _ value q ∙ ap (fieldAfter (number lineFeed) s) (settled-cursor _ _ variable e)
 
 pub group-read : (s : List ℕ) (c begun : Cursor) (count : ReadNumber) (read r : Cursor) → Inside s (c .at)
     → begun ≡ fieldAfter (word (ascii "begin_mutex_group\n")) s c

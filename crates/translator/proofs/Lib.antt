@@ -19,6 +19,7 @@ pub mod ReadingListed
 pub mod ReadingPlaces
 pub mod RepeatReading
 pub mod StepReading
+pub mod CountReading
 pub mod VariableReading
 pub mod RowReading
 pub mod GroupReading

@@ -15,15 +15,14 @@ use Rattle.files.specs.Rows.{stored, filled}
 use Rattle.files.specs.Task.{Pair, pair}
 use Rattle.translator.specs.declared.fields.Cursor.{Cursor}
 use Rattle.translator.specs.declared.fields.ReadNumber.{ReadNumber}
-use Rattle.translator.specs.Contracts.{settled, numberBy, same, isNew, Given, variableOf, valueBelow, PairStored}
+use Rattle.translator.specs.Contracts.{numberBy, same, isNew, Given, variableOf, valueBelow, PairStored}
 use Rattle.translator.specs.Fields.{Field, Value, number, fieldValue}
 use Rattle.translator.specs.Format.{Fault, givenTwice, outOfRange, unless, Format, gives, field, isOpen, fieldAfter, faultAfter, stepAfter, after, valueAfter}
 use Rattle.translator.specs.Sas.{blank, lineFeed}
 use Rattle.translator.specs.Stated.{isValue}
 use Rattle.translator.specs.Text.{variableFault, valueFault, condition}
 use Rattle.translator.proofs.ReadingLaws.{after-refused, open-before}
-use Rattle.translator.proofs.StepReading.{step-fine, unless-none}
-use Rattle.translator.proofs.VariableReading.{settled-value}
+use Rattle.translator.proofs.StepReading.{settled-cursor, settled-value, step-fine, unless-none}
 use Rattle.translator.proofs.RowReading.{new-stored}
 
 -- faults that are the same where something is read
@@ -36,8 +35,8 @@ step-same f first second s c h =
     (λ e. after-refused (field f first gives) s c e ∙ sym (after-refused (field f second gives) s c e))
 
 pub number-cursor : {A : Type 0} (f : Format A) (g : A → ℕ) (s : List ℕ) (c : Cursor) (r : ReadNumber) → r ≡ numberBy f g s c → r .cursor ≡ after f s c
-unfolding numberBy settled
-number-cursor f g s c r e = ap (λ (x : ReadNumber). x .cursor) e
+unfolding numberBy
+number-cursor f g s c r e = settled-cursor (after f s c) (g (valueAfter f s c)) r e
 
 pub number-value : {A : Type 0} (f : Format A) (g : A → ℕ) (s : List ℕ) (c : Cursor) (r : ReadNumber) → r ≡ numberBy f g s c → isOpen (after f s c) ≡ true → r .value ≡ g (valueAfter f s c)
 unfolding numberBy

@@ -16,8 +16,9 @@ use Rattle.translator.specs.Sas.{Declaration}
 use Rattle.translator.specs.Stated.{sizesOf}
 use Rattle.translator.specs.Text.{each, declaration, start, starts}
 use Rattle.translator.proofs.ReadingLaws.{open-before}
-use Rattle.translator.proofs.VariableReading.{number-inside, settled-value}
+use Rattle.translator.proofs.VariableReading.{number-inside}
 use Rattle.translator.proofs.RepeatReading.{first, first-after, first-value, each-empty, each-first}
+use Rattle.translator.proofs.StepReading.{settled-value}
 
 -- what is left to be read and stored gives the whole
 pub record Storing {A : Type 0} (cell : A → ℕ) (s : List ℕ) (all : Format (List A)) (from : Cursor) (before : List ℕ) (left : Format (List A)) (here : Cursor) (v : ℕ) (cells : List ℕ) : Type 0 where

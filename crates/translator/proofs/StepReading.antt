@@ -119,25 +119,30 @@ unless-none false f others e = absurd (some-none f e)
         number none = 0
         number (some f) = 1
 
+-- a number that is settled
+module _ (c : Cursor) (n : ℕ) (r : ReadNumber) (is : r ≡ settled c n) where
+  pub settled-cursor : r .cursor ≡ c
+  unfolding settled
+  settled-cursor = ap (λ (x : ReadNumber). x .cursor) is
+
+  pub settled-value : isOpen c ≡ true → r .value ≡ n
+  unfolding settled
+  settled-value o = ap (λ (x : ReadNumber). x .value) is ∙ rw o refl
+
 pub settled-same : (c : Cursor) (a b : ℕ) → (isOpen c ≡ true → a ≡ b) → settled c a ≡ settled c b
 unfolding settled
 settled-same c a b h = split (isOpen c) (λ e. rw (e, h e) refl) (λ e. rw e refl)
 
 module _ (f : Field) (s : List ℕ) (c : Cursor) (n : ReadNumber) (v : ℕ) (is : n ≡ settled (fieldAfter f s c) v) where
-  pub read-cursor : n .cursor ≡ fieldAfter f s c
-  unfolding settled
-  read-cursor = ap (λ (x : ReadNumber). x .cursor) is
-
   pub read-value : isOpen (fieldAfter f s c) ≡ true → n .value ≡ v
-  unfolding settled
-  read-value e = ap (λ (x : ReadNumber). x .value) is ∙ rw e refl
+  read-value = settled-value (fieldAfter f s c) v n is
 
   pub read-tested : (x : Fault) (t : Value f → Bool) (b : Bool) (j : Cursor) → (isOpen (fieldAfter f s c) ≡ true → b ≡ t (fieldValue f (drop (c .at) s)))
       → j ≡ judged (n .cursor) b (faultNumber x) (c .at) → j ≡ stepAfter f (λ u. unless (t u) x none) s c
   unfolding stepAfter
   read-tested x t b j h e =
       e
-      ∙ ap (λ (d : Cursor). judged d b (faultNumber x) (c .at)) read-cursor
+      ∙ ap (λ (d : Cursor). judged d b (faultNumber x) (c .at)) (settled-cursor (fieldAfter f s c) v n is)
       ∙ fault-judged (fieldAfter f s c) b (t (fieldValue f (drop (c .at) s))) x (c .at) h
 
   pub read-tested-twice : (x y : Fault) (t u : Value f → Bool) (b d : Bool) (j k : Cursor)
@@ -170,17 +175,23 @@ pub none-coded : (o : Option ℕ) → eqb (coded o) 1048577 ≡ isNone o
 none-coded none = refl
 none-coded (some n) = ne-eqb (capped n) 1048577 (λ e. omega (arith, capped-most n))
 
--- a field, the test on its value, and the number that stands for the value where it passes
+-- a field whose value no fault refuses, and the number that stands for the value
 module _ (f : Field) (s : List ℕ) (c : Cursor) (n : ReadNumber) (code : Value f → ℕ) (is : n ≡ settled (fieldAfter f s c) (code (fieldValue f (drop (c .at) s)))) where
+  pub read-fine : (fault : Value f → Option Fault) (g : Value f → ℕ) (j : Cursor) (r : ReadNumber)
+      → (fault (fieldValue f (drop (c .at) s)) ≡ none → code (fieldValue f (drop (c .at) s)) ≡ g (fieldValue f (drop (c .at) s)))
+      → j ≡ stepAfter f fault s c → r ≡ settled j (n .value) → r ≡ numberBy (field f fault gives) g s c
+  unfolding numberBy after valueAfter
+  read-fine fault g j r k e q =
+      let u : Value f = fieldValue f (drop (c .at) s) in
+      q
+      ∙ ap (λ (y : Cursor). settled y (n .value)) e
+      ∙ settled-same (stepAfter f fault s c) (n .value) (g u) (λ o. read-value f s c n (code u) is (step-field f fault s c o) ∙ k (step-fine f fault s c o))
+
+  -- by a test on it
   pub read-settled : (x : Fault) (t : Value f → Bool) (g : Value f → ℕ) (b : Bool) (j : Cursor) (r : ReadNumber)
       → (isOpen (fieldAfter f s c) ≡ true → b ≡ t (fieldValue f (drop (c .at) s)))
       → (t (fieldValue f (drop (c .at) s)) ≡ true → code (fieldValue f (drop (c .at) s)) ≡ g (fieldValue f (drop (c .at) s)))
       → j ≡ judged (n .cursor) b (faultNumber x) (c .at) → r ≡ settled j (n .value) → r ≡ numberBy (field f (λ u. unless (t u) x none) gives) g s c
-  unfolding numberBy after valueAfter
   read-settled x t g b j r h k e q =
       let u : Value f = fieldValue f (drop (c .at) s) in
-      let fault : Value f → Option Fault = λ u. unless (t u) x none in
-      q
-      ∙ ap (λ (y : Cursor). settled y (n .value)) (read-tested f s c n (code u) is x t b j h e)
-      ∙ settled-same (stepAfter f fault s c) (n .value) (g u)
-      (λ o. read-value f s c n (code u) is (step-field f fault s c o) ∙ k (unless-none (t u) x none (step-fine f fault s c o) .0))
+      read-fine (λ u. unless (t u) x none) g j r (λ o. k (unless-none (t u) x none o .0)) (read-tested f s c n (code u) is x t b j h e) q
