@@ -18,7 +18,7 @@ use Rattle.translator.specs.Fields.{Field, Value, word, number, fieldLen
 use Rattle.translator.specs.Format.{Fault, Format, gives, field, isOpen, reached, fieldAfter, faultAfter, stepAfter, after}
 use Rattle.translator.specs.Sas.{Separator, blank, lineFeed}
 use Rattle.translator.specs.Text.{says, each, freePair, group}
-use Rattle.translator.proofs.CursorLaws.{field-open}
+use Rattle.translator.proofs.CursorLaws.{field-reached}
 use Rattle.translator.proofs.FieldLaws.{field-right}
 use Rattle.translator.proofs.NumberReading.{capped-small, capped-large}
 use Rattle.translator.proofs.ReadingLaws.{after-refused, after-bind, open-before}
@@ -35,7 +35,7 @@ reached-at o end e = split (isDone o) (λ d. rw d refl) (λ d. clash e (rw d d))
 field-at : (f : Field) (s : List ℕ) (c : Cursor) → isOpen (fieldAfter f s c) ≡ true → fieldAfter f s c .at ≡ c .at + fieldLength f (drop (c .at) s)
 unfolding isOpen
 field-at f s c e =
-    let is = field-open f s c (done-number (c .outcome) (field-before f s c e)) in
+    let is = field-reached f s c (done-number (c .outcome) (field-before f s c e)) in
     sym (ap (λ (x : Cursor). x .at) is) ∙ reached-at _ _ (ap isOpen is ∙ e)
 
 step-at : (f : Field) (fault : Value f → Option Fault) (s : List ℕ) (c : Cursor) → isOpen (stepAfter f fault s c) ≡ true

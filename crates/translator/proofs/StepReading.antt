@@ -9,16 +9,17 @@ use lib.Dec.{eqb, leb, ltb}
 use lib.ListN.{drop}
 use borrow.Author.Tests.{le-leb, lt-leb, le-ltb, ne-eqb}
 use Rattle.files.proofs.Logic.{clash, split, split-le}
-use Rattle.files.specs.Outcome.{refusal, isDone}
+use Rattle.files.specs.Outcome.{refusal}
 use Rattle.translator.specs.declared.fields.Cursor.{Cursor}
 use Rattle.translator.specs.declared.fields.ReadNumber.{ReadNumber}
 use Rattle.translator.specs.Contracts.{capped, coded, settled, numberAfter, signedAfter, judged, numberBy}
 use Rattle.translator.specs.Fields.{Field, Value, number, signed, fieldValue}
-use Rattle.translator.specs.Format.{Fault, unsupported, givenTwice, outsideLimits, outOfRange, faultNumber, unless, gives, field, isOpen, cursorRefused, fieldAfter, faultAfter, stepAfter, after, valueAfter}
+use Rattle.translator.specs.Format.{Fault, faultNumber, unless, gives, field, isOpen, cursorRefused, fieldAfter, faultAfter, stepAfter, after, valueAfter}
 use Rattle.translator.specs.Sas.{Separator}
 use Rattle.translator.specs.Stated.{isNone}
 use Rattle.translator.proofs.NumberReading.{capped-small, capped-large, capped-most}
 use Rattle.translator.proofs.ReadingLaws.{fault-refused}
+use Rattle.translator.proofs.ReadingSteps.{fault-closed}
 
 -- tests that capping does not change
 module _ (n k : ℕ) where
@@ -46,17 +47,10 @@ module _ (n k : ℕ) where
       (λ l. ap (λ (x : ℕ). eqb x k) (sym (capped-small n l)))
       (λ l. let c = capped-large n l in ne-eqb (capped n) k (λ e. omega arith) ∙ sym (ne-eqb n k (λ e. omega arith)))
 
--- a refusal is not open
-refused-closed : (f : Fault) (place : ℕ) → isOpen (cursorRefused (refusal (faultNumber f) place)) ≡ false
-unfolding isOpen isDone
-refused-closed unsupported place = refl
-refused-closed givenTwice place = refl
-refused-closed outsideLimits place = refl
-refused-closed outOfRange place = refl
-
-fault-closed : (f : Fault) (place : ℕ) (c : Cursor) → isOpen (faultAfter (some f) place c) ≡ false
+-- behind a fault nothing is open
+faultAfter-closed : (f : Fault) (place : ℕ) (c : Cursor) → isOpen (faultAfter (some f) place c) ≡ false
 unfolding faultAfter
-fault-closed f place c = split (isOpen c) (λ e. rw e (refused-closed f place)) (λ e. rw e e)
+faultAfter-closed f place c = split (isOpen c) (λ e. rw e (fault-closed f place)) (λ e. rw e e)
 
 pub fault-judged : (c : Cursor) (b t : Bool) (f : Fault) (place : ℕ) → (isOpen c ≡ true → b ≡ t) → judged c b (faultNumber f) place ≡ faultAfter (unless t f none) place c
 unfolding judged faultAfter
@@ -73,7 +67,7 @@ fault-judged c b t f place h =
 pub fault-then : (t : Bool) (f : Fault) (others : Option Fault) (place : ℕ) (c : Cursor) → faultAfter others place (faultAfter (unless t f none) place c) ≡ faultAfter (unless t f others) place c
 unfolding faultAfter
 fault-then true f others place c = refl
-fault-then false f others place c = fault-refused others place (faultAfter (some f) place c) (fault-closed f place c)
+fault-then false f others place c = fault-refused others place (faultAfter (some f) place c) (faultAfter-closed f place c)
 
 pub fault-both : (a b : Bool) (f : Fault) (place : ℕ) (c : Cursor) → faultAfter (unless b f none) place (faultAfter (unless a f none) place c) ≡ faultAfter (unless (a && b) f none) place c
 fault-both a b f place c = fault-then a f (unless b f none) place c ∙ ap (λ (o : Option Fault). faultAfter o place c) (joined a)
@@ -85,19 +79,12 @@ fault-both a b f place c = fault-then a f (unless b f none) place c ∙ ap (λ (
 pub fault-before : (o : Option Fault) (place : ℕ) (c : Cursor) → isOpen (faultAfter o place c) ≡ true → isOpen c ≡ true
 fault-before o place c e = split (isOpen c) (λ p. p) (λ p. clash e (ap isOpen (fault-refused o place c p) ∙ p))
 
-pub judged-before : (c : Cursor) (b : Bool) (fault place : ℕ) → isOpen (judged c b fault place) ≡ true → isOpen c ≡ true
-unfolding judged
-judged-before c b fault place e = split (isOpen c) (λ o. o) (λ o. clash e (ap isOpen (closed o) ∙ o))
-  where
-    closed : isOpen c ≡ false → judged c b fault place ≡ c
-    closed o = rw o refl
-
 -- a step that is open has no fault
 module _ (f : Field) (fault : Value f → Option Fault) (s : List ℕ) (c : Cursor) (open′ : isOpen (stepAfter f fault s c) ≡ true) where
   step-cases : (o : Option Fault) → isOpen (faultAfter o (c .at) (fieldAfter f s c)) ≡ true → (o ≡ none) × (isOpen (fieldAfter f s c) ≡ true)
   unfolding faultAfter
   step-cases none e = (refl, e)
-  step-cases (some x) e = clash e (fault-closed x (c .at) (fieldAfter f s c))
+  step-cases (some x) e = clash e (faultAfter-closed x (c .at) (fieldAfter f s c))
 
   pub step-fine : fault (fieldValue f (drop (c .at) s)) ≡ none
   unfolding stepAfter
