@@ -75,7 +75,7 @@ module _ (s sizes : List ℕ) (base : ℕ) (whole : Cursor) (pairs : List Pair) 
       record {
         given = p .variable ∷ given;
         cursor = moved;
-        cells = one .given′;
+        cells = one .gives;
         rest = λ o.
             let l : List Pair = valueAfter (conditions sizes (p .variable ∷ given) (left - 1)) s next in
             ap (λ (x : List ℕ). filled x base l) (one .row (open-before (conditions sizes (p .variable ∷ given) (left - 1)) s next (ap isOpen moved ∙ o)))
@@ -104,7 +104,7 @@ module _ (s sizes : List ℕ) (base : ℕ) (whole : Cursor) (pairs : List Pair) 
       record {
         cursor = moved ∙ e ∙ ap (λ (l : List ℕ). after (conditions l [] count) s c) z;
         row = λ o. sym (ap (filled row base) empty) ∙ inv .rest (sym (ap isOpen moved) ∙ o) ∙ ap₂ (λ (l : List ℕ) (ps : List Pair). filled l base ps) g listed;
-        given′ = λ o v.
+        gives = λ o v.
             inv .cells o v
             ∙ ap not (sym (or-false (anyOf (eqb v) (inv .given))) ∙ sym (ap (λ (l : List Pair). anyOf (eqb v) (inv .given) || anyOf (eqb v) (variablesOf l)) empty) ∙ inv .members v)
             ∙ ap (λ (l : List Pair). not (anyOf (eqb v) (variablesOf l))) listed;

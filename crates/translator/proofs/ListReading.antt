@@ -121,7 +121,7 @@ module _ (s : List ℕ) (c : Cursor) (sizes : List ℕ) (variables : ℕ) (given
       record {
         cursor = after-is;
         row = λ o. e ∙ ap (λ (p : Pair). stored row base (p .variable) (p .value)) (pair-is o);
-        given′ = λ o v.
+        gives = λ o v.
             let k : n .value < 64 = omega (arith, is (opened o), known (opened o)) in
             let new : isNew now base v ≡ not (eqb v (n .value)) && isNew row base v =
             ap (λ (l : List ℕ). isNew l base v) e ∙ new-stored row base (n .value) (d .value) v k (omega (arith, bounded o)) long in

@@ -75,7 +75,7 @@ module _ (s : List ℕ) (c : Cursor) (n : ReadNumber) (is : n ≡ numberAfter bl
       → j ≡ judged (n .cursor) b 33 (c .at) → k ≡ judged j d 33 (c .at) → l ≡ judged k (ltb (n .value) variables) 5 (c .at) → r ≡ settled l (n .value)
       → r ≡ numberBy (variableOf sizes given) same s c
   unfolding stepAfter v
-  variable-read first second base variables j k l r b d few count given′ x y e f g q =
+  variable-read first second base variables j k l r b d few count rows x y e f g q =
       let F : Cursor = fieldAfter (number blank) s c in
       let new : ℕ → Bool = λ x. not (anyOf (eqb x) given) in
       let once : j ≡ faultAfter (unless (isNew first base v) givenTwice none) (c .at) F =
@@ -86,7 +86,7 @@ module _ (s : List ℕ) (c : Cursor) (n : ReadNumber) (is : n ≡ numberAfter bl
       (λ o. y ∙ ap (isNew second base) (value-is (fault-before (unless (isNew first base v) givenTwice none) (c .at) F o)) ∙ new-capped second base v)
       ∙ fault-both (isNew first base v) (isNew second base v) givenTwice (c .at) F
       ∙ split (isOpen F)
-      (λ o. ap (λ (t : Bool). faultAfter (unless t givenTwice none) (c .at) F) (given′ (field-before (number blank) s c o) v))
+      (λ o. ap (λ (t : Bool). faultAfter (unless t givenTwice none) (c .at) F) (rows (field-before (number blank) s c o) v))
       (λ o. fault-refused _ (c .at) F o ∙ sym (fault-refused _ (c .at) F o)) in
       let moved : l ≡ stepAfter (number blank) (variableFault sizes given) s c =
       g ∙ ap (λ (x : Cursor). judged x (ltb (n .value) variables) 5 (c .at)) twice

@@ -171,7 +171,7 @@ pub record PairInside (s : List ℕ) (at : ℕ) (sizes : List ℕ) (variables : 
 pub record PairStored (s : List ℕ) (c : Cursor) (sizes given before : List ℕ) (base : ℕ) (r : Cursor) (now : List ℕ) : Type 0 where
   pub cursor : r ≡ after (condition sizes given) s c
   pub row : isOpen r ≡ true → now ≡ filled before base (valueAfter (condition sizes given) s c ∷ [])
-  pub given′ : isOpen r ≡ true → Given now now base (valueAfter (condition sizes given) s c .variable ∷ given)
+  pub gives : isOpen r ≡ true → Given now now base (valueAfter (condition sizes given) s c .variable ∷ given)
 
 abbrev pub PairRead : List ℕ → Cursor → List ℕ → ℕ → List ℕ → ℕ → Cursor → List ℕ → Type 0
 PairRead s c sizes variables before base r now =
@@ -181,7 +181,7 @@ PairRead s c sizes variables before base r now =
 pub record ListRead (s : List ℕ) (c : Cursor) (count : ℕ) (sizes : List ℕ) (variables : ℕ) (before : List ℕ) (base : ℕ) (r : Cursor) (now : List ℕ) : Type 0 where
   pub cursor : r ≡ after (conditions (take variables sizes) [] count) s c
   pub row : isOpen r ≡ true → now ≡ filled (cleared before base 64) base (valueAfter (conditions (take variables sizes) [] count) s c)
-  pub given′ : isOpen r ≡ true → Given now now base (variablesOf (valueAfter (conditions (take variables sizes) [] count) s c))
+  pub gives : isOpen r ≡ true → Given now now base (variablesOf (valueAfter (conditions (take variables sizes) [] count) s c))
 
 -- a cursor behind the count of an effect's conditions
 unfoldable pub plainAfter : List ℕ → Cursor → Cursor
@@ -214,7 +214,7 @@ pub record EffectStored (s : List ℕ) (c : Cursor) (sizes given conditions effe
   pub cursor : r ≡ after (effect sizes given) s c
   pub conditionsRow : isOpen r ≡ true → conditionsNow ≡ filled conditions base (oldPairs (valueAfter (effect sizes given) s c ∷ []))
   pub effectsRow : isOpen r ≡ true → effectsNow ≡ filled effects base (newPairs (valueAfter (effect sizes given) s c ∷ []))
-  pub given′ : isOpen r ≡ true → Given conditionsNow effectsNow base (valueAfter (effect sizes given) s c .variable ∷ given)
+  pub gives : isOpen r ≡ true → Given conditionsNow effectsNow base (valueAfter (effect sizes given) s c .variable ∷ given)
 
 pub record EffectRead (s : List ℕ) (c : Cursor) (sizes : List ℕ) (variables : ℕ) (conditions effects : List ℕ) (base : ℕ) (r : Cursor) (conditionsNow effectsNow : List ℕ) : Type 0 where
   pub inside : Inside s (r .at)
