@@ -1,7 +1,7 @@
 -- The loop over a list of pairs: what is left to be read and stored makes of the row what all pairs make of it.
-use Prim.Native.Nat.{ℕ, zero, suc, _+_, _-_, _≤_, _<_}
+use Prim.Native.Nat.{ℕ, suc, _+_, _-_, _≤_, _<_}
 use mathlib.Core.Path.{_≡_, refl, sym, ap, ap₂, _∙_}
-use mathlib.Core.Bool.{Bool, true, false, not, _&&_, _||_}
+use mathlib.Core.Bool.{Bool, true, false, not, _||_}
 use mathlib.Core.List.{List, [], _∷_}
 use native.Mathlib.Omega.{arith}
 use lib.Dec.{eqb}
@@ -13,27 +13,13 @@ use Rattle.files.specs.Rows.{cleared, filled}
 use Rattle.files.specs.Task.{Pair}
 use Rattle.translator.specs.declared.fields.Cursor.{Cursor}
 use Rattle.translator.specs.Contracts.{isNew, Given, PairStored, ListRead}
-use Rattle.translator.specs.Format.{Format, gives, repeat, isOpen, after, valueAfter}
+use Rattle.translator.specs.Format.{repeat, isOpen, after, valueAfter}
 use Rattle.translator.specs.Stated.{variablesOf}
 use Rattle.translator.specs.Text.{condition, conditions}
 use Rattle.translator.proofs.OrderLaws.{none-some}
 use Rattle.translator.proofs.RowsInOrder.{filled-cell}
-use Rattle.translator.proofs.ReadingLaws.{after-bind, value-bind, open-before}
-
--- elements by a state: one, then the others
-module _ {S A : Type 0} (item : S → Format A) (onward : S → A → S) (s : List ℕ) (state : S) where
-  pub repeat-none : (c : Cursor) → after (repeat item onward state zero) s c ≡ c
-  unfolding repeat after
-  repeat-none c = refl
-
-  pub repeat-more : (n : ℕ) (c : Cursor) → after (repeat item onward state (suc n)) s c ≡ after (repeat item onward (onward state (valueAfter (item state) s c)) n) s (after (item state) s c)
-  unfolding repeat after
-  repeat-more n c = after-bind (item state) _ s c ∙ after-bind (repeat item onward (onward state (valueAfter (item state) s c)) n) _ s (after (item state) s c)
-
-  pub repeat-value : (n : ℕ) (c : Cursor)
-      → valueAfter (repeat item onward state (suc n)) s c ≡ valueAfter (item state) s c ∷ valueAfter (repeat item onward (onward state (valueAfter (item state) s c)) n) s (after (item state) s c)
-  unfolding repeat valueAfter
-  repeat-value n c = value-bind (item state) _ s c ∙ value-bind (repeat item onward (onward state (valueAfter (item state) s c)) n) _ s (after (item state) s c)
+use Rattle.translator.proofs.ReadingLaws.{open-before}
+pub use Rattle.translator.proofs.RepeatReading.{repeat-more, repeat-value}
 
 -- a row that is cleared gives no variable
 pub cleared-given : (row : List ℕ) (base : ℕ) → base + 64 ≤ length row → Given (cleared row base 64) (cleared row base 64) base []
@@ -89,7 +75,7 @@ module _ (s sizes : List ℕ) (base : ℕ) (whole : Cursor) (pairs : List Pair) 
       record {
         given = p .variable ∷ given;
         cursor = moved;
-        cells = one .given′;
+        cells = one .gives;
         rest = λ o.
             let l : List Pair = valueAfter (conditions sizes (p .variable ∷ given) (left - 1)) s next in
             ap (λ (x : List ℕ). filled x base l) (one .row (open-before (conditions sizes (p .variable ∷ given) (left - 1)) s next (ap isOpen moved ∙ o)))
@@ -118,7 +104,7 @@ module _ (s sizes : List ℕ) (base : ℕ) (whole : Cursor) (pairs : List Pair) 
       record {
         cursor = moved ∙ e ∙ ap (λ (l : List ℕ). after (conditions l [] count) s c) z;
         row = λ o. sym (ap (filled row base) empty) ∙ inv .rest (sym (ap isOpen moved) ∙ o) ∙ ap₂ (λ (l : List ℕ) (ps : List Pair). filled l base ps) g listed;
-        given′ = λ o v.
+        gives = λ o v.
             inv .cells o v
             ∙ ap not (sym (or-false (anyOf (eqb v) (inv .given))) ∙ sym (ap (λ (l : List Pair). anyOf (eqb v) (inv .given) || anyOf (eqb v) (variablesOf l)) empty) ∙ inv .members v)
             ∙ ap (λ (l : List Pair). not (anyOf (eqb v) (variablesOf l))) listed;

@@ -1,7 +1,6 @@
 -- How a cursor moves, from the code's own tests: words and lines byte by byte, then one field behind another.
 use Prim.Native.Nat.{ℕ, suc, _+_, _≤_, _<_}
 use mathlib.Core.Path.{_≡_, refl, sym, ap, ap₂, _∙_}
-use mathlib.Core.Bool.{Bool, true, false, cond}
 use mathlib.Core.List.{List, [], _∷_}
 use native.Mathlib.Nat.{add-zero}
 use native.Mathlib.Omega.{arith}
@@ -10,12 +9,14 @@ use lib.ListN.{length, getD, drop, length-drop, drop-of-length-le}
 use lib.Seq.{drop-cons, drop-drop}
 use borrow.Author.Tests.{eq-eqb, ne-eqb}
 use Rattle.files.proofs.Guards.{is-done, is-refused, goes-on, stops}
-use Rattle.files.proofs.Logic.{split, split-le, cond-case}
+use Rattle.files.proofs.Logic.{split, split-le}
 use Rattle.files.specs.declared.Outcome.{Outcome}
 use Rattle.files.specs.Outcome.{done, refusal, isDone, guard, andThen}
 use Rattle.translator.specs.declared.fields.Cursor.{Cursor}
 use Rattle.translator.specs.Fields.{Field, word, name, byteAt, wordAt, lineLength, fieldAt, fieldLength}
-use Rattle.translator.specs.Format.{cursorAt, cursorRefused, isOpen, reached, fieldAfter}
+use Rattle.translator.specs.Format.{cursorRefused, isOpen, reached, fieldAfter}
+use Rattle.translator.proofs.LineLaws.{line-within}
+use Rattle.translator.proofs.ReadingLaws.{field-closed}
 
 pub reached-end : (o x : Outcome) (end : ℕ) → o .number ≡ 0 → x ≡ done → record { outcome = x; at = end } ≡ reached o end
 unfolding reached
@@ -101,30 +102,23 @@ module _ (s : List ℕ) (here whole : ℕ) (is : here + lineLength (drop here s)
       let e : lineLength (drop here s) ≡ lineLength (drop (here + 1) s) + 1 = rw (rest-more s here h, ne-eqb (getD s here 0) 10 d) refl in
       omega arith
 
-lineLength-within : (r : List ℕ) → lineLength r ≤ length r
-unfolding lineLength
-lineLength-within [] = omega arith
-lineLength-within (b ∷ r) =
-    let h : lineLength r ≤ length r = lineLength-within r in
-    cond-case (λ (n : ℕ). n ≤ suc (length r)) (eqb b 10) 0 (lineLength r + 1) (λ e. omega arith) (λ e. omega arith)
-
-pub line-within : (s : List ℕ) (at : ℕ) → at ≤ length s → at + lineLength (drop at s) ≤ length s
-line-within s at h = omega (arith, lineLength-within (drop at s), length-drop at s)
+pub line-reaches : (s : List ℕ) (at : ℕ) → at ≤ length s → at + lineLength (drop at s) ≤ length s
+line-reaches s at h = omega (arith, line-within (drop at s), length-drop at s)
 
 -- a field behind a cursor
 pub field-refused : (f : Field) (s : List ℕ) (c : Cursor) → (c .outcome .number ≡ 0 → ⊥) → c ≡ fieldAfter f s c
-unfolding fieldAfter isOpen
-field-refused f s c d = rw (is-refused (c .outcome) d) refl
+unfolding isOpen
+field-refused f s c d = sym (field-closed f s c (is-refused (c .outcome) d))
 
-pub field-open : (f : Field) (s : List ℕ) (c : Cursor) → c .outcome .number ≡ 0
+pub field-reached : (f : Field) (s : List ℕ) (c : Cursor) → c .outcome .number ≡ 0
     → reached (fieldAt f (drop (c .at) s) (c .at)) (c .at + fieldLength f (drop (c .at) s)) ≡ fieldAfter f s c
 unfolding fieldAfter isOpen
-field-open f s c z = rw (is-done (c .outcome) z) refl
+field-reached f s c z = rw (is-done (c .outcome) z) refl
 
 pub word-open : (w s : List ℕ) (c r : Cursor) (o : Outcome) → c .outcome .number ≡ 0 → o ≡ wordAt w (drop (c .at) s) (c .at) → r ≡ reached o (c .at + length w)
     → r ≡ fieldAfter (word w) s c
 unfolding fieldAt fieldLength
-word-open w s c r o z e q = q ∙ ap (λ (x : Outcome). reached x (c .at + length w)) e ∙ field-open (word w) s c z
+word-open w s c r o z e q = q ∙ ap (λ (x : Outcome). reached x (c .at + length w)) e ∙ field-reached (word w) s c z
 
 pub name-open : (s : List ℕ) (c r : Cursor) (end : ℕ) (o : Outcome) → c .outcome .number ≡ 0 → end ≡ c .at + lineLength (drop (c .at) s) → o ≡ byteAt 10 (drop end s) end → r ≡ reached o (end + 1)
     → r ≡ fieldAfter name s c
@@ -134,4 +128,4 @@ name-open s c r end o z n e q =
     let further : drop (lineLength rest) rest ≡ drop end s = drop-drop (lineLength rest) (c .at) s ∙ ap (λ (i : ℕ). drop i s) (sym n) in
     let here : o ≡ byteAt 10 (drop (lineLength rest) rest) (c .at + lineLength rest) = e ∙ ap₂ (byteAt 10) (sym further) n in
     let ends : end + 1 ≡ c .at + (lineLength rest + 1) = omega arith in
-    q ∙ ap₂ reached here ends ∙ field-open name s c z
+    q ∙ ap₂ reached here ends ∙ field-reached name s c z

@@ -238,7 +238,7 @@ module _ (s : List ℕ) (c : Cursor) (sizes : List ℕ) (variables : ℕ) (given
         cursor = cursor-is;
         conditionsRow = λ q. let k = opened q in conditions-are k ∙ old-row o′ (old-fits (O-open k)) ∙ ap (λ (x : Effect). filled conditions base (oldPairs (x ∷ []))) (value-is k);
         effectsRow = λ q. let k = opened q in effects-are k ∙ ap (λ (x : Effect). filled effects base (newPairs (x ∷ []))) (value-is k);
-        given′ = λ q v.
+        gives = λ q v.
             let k = opened q in
             let open′ : isOpen K ≡ true = K-open (O-open k) in
             let second : isNew effectsNow base v ≡ not (eqb v w) && isNew effects base v =

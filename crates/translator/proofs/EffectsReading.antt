@@ -88,7 +88,7 @@ module _ (s sizes first : List ℕ) (base : ℕ) (c : Cursor) (count : ℕ) (con
       record {
         given = e .variable ∷ given;
         cursor = moved;
-        cells = one .given′;
+        cells = one .gives;
         conditionsRest = λ o.
             ap (λ (x : List ℕ). filled x base (oldPairs es)) (one .conditionsRow (open-before (effects sizes (e .variable ∷ given) (left - 1)) s next (ap isOpen moved ∙ o)))
             ∙ filled-old conditionsNow base e es

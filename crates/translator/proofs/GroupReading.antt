@@ -1,12 +1,12 @@
 -- Mutex groups, from the code's own steps: a format that takes a byte at least is read no more often than the text has bytes.
-use Prim.Native.Nat.{ℕ, zero, suc, _+_, _-_, _≤_, _<_}
+use Prim.Native.Nat.{ℕ, zero, suc, _+_, _≤_, _<_}
 use mathlib.Core.Path.{_≡_, refl, sym, ap, _∙_}
 use mathlib.Core.Bool.{true}
 use mathlib.Core.List.{List}
 use mathlib.Core.Option.{Option}
 use native.Mathlib.Omega.{arith}
 use lib.ListN.{length, drop}
-use Rattle.files.proofs.Guards.{is-refused, done-number}
+use Rattle.files.proofs.Guards.{done-number}
 use Rattle.files.proofs.Logic.{clash, split, split-le}
 use Rattle.files.specs.declared.Outcome.{Outcome}
 use Rattle.files.specs.Outcome.{isDone}
@@ -18,13 +18,14 @@ use Rattle.translator.specs.Fields.{Field, Value, word, number, fieldLen
 use Rattle.translator.specs.Format.{Fault, Format, gives, field, isOpen, reached, fieldAfter, faultAfter, stepAfter, after}
 use Rattle.translator.specs.Sas.{Separator, blank, lineFeed}
 use Rattle.translator.specs.Text.{says, each, freePair, group}
-use Rattle.translator.proofs.CursorLaws.{field-open}
+use Rattle.translator.proofs.CursorLaws.{field-reached}
 use Rattle.translator.proofs.FieldLaws.{field-right}
 use Rattle.translator.proofs.NumberReading.{capped-small, capped-large}
 use Rattle.translator.proofs.ReadingLaws.{after-refused, after-bind, open-before}
 use Rattle.translator.proofs.ReadingListed.{after-within}
-use Rattle.translator.proofs.StepReading.{step-fine, step-field, number-is, read-cursor}
-use Rattle.translator.proofs.VariableReading.{field-inside, field-before, each-more, each-next, each-refused, after-settled}
+use Rattle.translator.proofs.StepReading.{settled-cursor, step-fine, step-field, number-is}
+use Rattle.translator.proofs.VariableReading.{field-inside, field-before, after-settled}
+use Rattle.translator.proofs.RepeatReading.{each-more}
 
 -- where a field ends that is read
 reached-at : (o : Outcome) (end : ℕ) → isOpen (reached o end) ≡ true → reached o end .at ≡ end
@@ -34,7 +35,7 @@ reached-at o end e = split (isDone o) (λ d. rw d refl) (λ d. clash e (rw d d))
 field-at : (f : Field) (s : List ℕ) (c : Cursor) → isOpen (fieldAfter f s c) ≡ true → fieldAfter f s c .at ≡ c .at + fieldLength f (drop (c .at) s)
 unfolding isOpen
 field-at f s c e =
-    let is = field-open f s c (done-number (c .outcome) (field-before f s c e)) in
+    let is = field-reached f s c (done-number (c .outcome) (field-before f s c e)) in
     sym (ap (λ (x : Cursor). x .at) is) ∙ reached-at _ _ (ap isOpen is ∙ e)
 
 step-at : (f : Field) (fault : Value f → Option Fault) (s : List ℕ) (c : Cursor) → isOpen (stepAfter f fault s c) ≡ true
@@ -111,23 +112,10 @@ module _ {A : Type 0} (f : Format A) (s : List ℕ) (onward : Onward f s) where
       ∙ after-settled (each f) s counted (capped v) n (number-is lineFeed s c n e)
       ∙ each-capped v counted (field-inside (number lineFeed) s c counted h refl)
 
--- a loop that ends at a refusal
-pub each-stops : {A : Type 0} (f : Format A) (s : List ℕ) (left : ℕ) (here whole : Cursor) → after (each f left) s here ≡ whole
-    → (next : Cursor) → 0 < left → next ≡ after f s here → (next .outcome .number ≡ 0 → ⊥) → next ≡ whole
-unfolding isOpen
-each-stops f s left here whole is next h e d = each-refused f s (left - 1) next whole (each-next f s left here whole is next h e) (is-refused (next .outcome) d)
-
--- a number that was read
-pub number-cursor : (separator : Separator) (s : List ℕ) (c : Cursor) (n : ReadNumber) → n ≡ numberAfter separator s c → n .cursor ≡ fieldAfter (number separator) s c
-number-cursor separator s c n e = read-cursor (number separator) s c n _ (number-is separator s c n e)
-
-pub number-stands : (separator : Separator) (s : List ℕ) (c : Cursor) (n : ReadNumber) → Inside s (c .at) → n ≡ numberAfter separator s c → Inside s (n .cursor .at)
-number-stands separator s c n h e = field-inside (number separator) s c (n .cursor) h (number-cursor separator s c n e)
-
 -- a pair, a group and all groups
 pub pair-read : (s : List ℕ) (c : Cursor) (variable value : ReadNumber) → variable ≡ numberAfter blank s c → value ≡ numberAfter lineFeed s (variable .cursor) → value .cursor ≡ after (freePair lineFeed) s c
-unfolding freePair after stepAfter faultAfter
-pair-read s c variable value e q = number-cursor lineFeed s (variable .cursor) value q ∙ ap (fieldAfter (number lineFeed) s) (number-cursor blank s c variable e)
+unfolding freePair numberAfter after stepAfter faultAfter
+pair-read s c variable value e q = settled-cursor _ _ value q ∙ ap (fieldAfter (number lineFeed) s) (settled-cursor _ _ variable e)
 
 pub group-read : (s : List ℕ) (c begun : Cursor) (count : ReadNumber) (read r : Cursor) → Inside s (c .at)
     → begun ≡ fieldAfter (word (ascii "begin_mutex_group\n")) s c

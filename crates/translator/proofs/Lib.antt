@@ -1,8 +1,6 @@
 -- Laws about the crate's definitions.
 pub mod Written
 pub mod Traces
-pub mod CursorLaws
-pub mod NumberReading
 pub mod FrontLaws
 pub mod WordLaws
 pub mod NumeralLaws
@@ -17,7 +15,11 @@ pub mod ReadingSteps
 pub mod ReadingTraces
 pub mod ReadingListed
 pub mod ReadingPlaces
+pub mod CursorLaws
+pub mod NumberReading
+pub mod RepeatReading
 pub mod StepReading
+pub mod CountReading
 pub mod VariableReading
 pub mod RowReading
 pub mod GroupReading

@@ -1,8 +1,8 @@
 -- A list of pairs, from the code's own steps: each pair is read, tested and stored, and the row gives the variables of all.
-use Prim.Native.Nat.{ℕ, zero, suc, _+_, _-_, _≤_, _<_}
+use Prim.Native.Nat.{ℕ, _+_, _≤_, _<_}
 use mathlib.Core.Path.{_≡_, refl, sym, ap, ap₂, _∙_}
-use mathlib.Core.Bool.{Bool, true, false, not, cond, _&&_, _||_}
-use mathlib.Core.List.{List, [], _∷_}
+use mathlib.Core.Bool.{Bool, true, false, not, _&&_, _||_}
+use mathlib.Core.List.{List, _∷_}
 use mathlib.Core.Option.{Option, none}
 use native.Mathlib.Omega.{arith}
 use lib.Dec.{eqb, ltb}
@@ -11,19 +11,18 @@ use lib.Seq.{getD-take, length-take-le}
 use borrow.Author.Tests.{ltb-true}
 use Rattle.files.proofs.Logic.{split}
 use Rattle.files.specs.Below.{anyOf}
-use Rattle.files.specs.Rows.{cleared, stored, filled}
+use Rattle.files.specs.Rows.{stored, filled}
 use Rattle.files.specs.Task.{Pair, pair}
 use Rattle.translator.specs.declared.fields.Cursor.{Cursor}
 use Rattle.translator.specs.declared.fields.ReadNumber.{ReadNumber}
-use Rattle.translator.specs.Contracts.{settled, numberBy, same, isNew, Given, variableOf, valueBelow, PairStored, ListRead}
+use Rattle.translator.specs.Contracts.{numberBy, same, isNew, Given, variableOf, valueBelow, PairStored}
 use Rattle.translator.specs.Fields.{Field, Value, number, fieldValue}
-use Rattle.translator.specs.Format.{Fault, givenTwice, outOfRange, unless, Format, gives, field, repeat, isOpen, fieldAfter, faultAfter, stepAfter, after, valueAfter}
+use Rattle.translator.specs.Format.{Fault, givenTwice, outOfRange, unless, Format, gives, field, isOpen, fieldAfter, faultAfter, stepAfter, after, valueAfter}
 use Rattle.translator.specs.Sas.{blank, lineFeed}
-use Rattle.translator.specs.Stated.{variablesOf, isValue}
-use Rattle.translator.specs.Text.{variableFault, valueFault, condition, conditions}
-use Rattle.translator.proofs.ReadingLaws.{after-refused, after-bind, value-bind, open-before}
-use Rattle.translator.proofs.StepReading.{step-fine, unless-none}
-use Rattle.translator.proofs.VariableReading.{settled-value}
+use Rattle.translator.specs.Stated.{isValue}
+use Rattle.translator.specs.Text.{variableFault, valueFault, condition}
+use Rattle.translator.proofs.ReadingLaws.{after-refused, open-before}
+use Rattle.translator.proofs.StepReading.{settled-cursor, settled-value, step-fine, unless-none}
 use Rattle.translator.proofs.RowReading.{new-stored}
 
 -- faults that are the same where something is read
@@ -36,8 +35,8 @@ step-same f first second s c h =
     (λ e. after-refused (field f first gives) s c e ∙ sym (after-refused (field f second gives) s c e))
 
 pub number-cursor : {A : Type 0} (f : Format A) (g : A → ℕ) (s : List ℕ) (c : Cursor) (r : ReadNumber) → r ≡ numberBy f g s c → r .cursor ≡ after f s c
-unfolding numberBy settled
-number-cursor f g s c r e = ap (λ (x : ReadNumber). x .cursor) e
+unfolding numberBy
+number-cursor f g s c r e = settled-cursor (after f s c) (g (valueAfter f s c)) r e
 
 pub number-value : {A : Type 0} (f : Format A) (g : A → ℕ) (s : List ℕ) (c : Cursor) (r : ReadNumber) → r ≡ numberBy f g s c → isOpen (after f s c) ≡ true → r .value ≡ g (valueAfter f s c)
 unfolding numberBy
@@ -122,7 +121,7 @@ module _ (s : List ℕ) (c : Cursor) (sizes : List ℕ) (variables : ℕ) (given
       record {
         cursor = after-is;
         row = λ o. e ∙ ap (λ (p : Pair). stored row base (p .variable) (p .value)) (pair-is o);
-        given′ = λ o v.
+        gives = λ o v.
             let k : n .value < 64 = omega (arith, is (opened o), known (opened o)) in
             let new : isNew now base v ≡ not (eqb v (n .value)) && isNew row base v =
             ap (λ (l : List ℕ). isNew l base v) e ∙ new-stored row base (n .value) (d .value) v k (omega (arith, bounded o)) long in

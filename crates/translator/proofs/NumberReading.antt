@@ -9,12 +9,12 @@ use native.Mathlib.Nat.{add-zero}
 use native.Mathlib.Omega.{arith}
 use lib.Dec.{eqb, leb}
 use lib.ListN.{length, getD, take, drop, length-drop, List·getD-eq-default}
-use lib.Seq.{drop-drop, getD-drop, take-nil}
-use borrow.Author.Tests.{eq-eqb, ne-eqb, le-leb, lt-leb, leb-true, leb-false}
+use lib.Seq.{drop-drop, getD-drop}
+use borrow.Author.Tests.{eq-eqb, ne-eqb, le-leb, lt-leb}
 use Rattle.files.proofs.Guards.{is-done, is-refused, guard-passes, guard-refuses}
-use Rattle.files.proofs.Logic.{split, split-le, cond-case}
+use Rattle.files.proofs.Logic.{split, split-le}
 use Rattle.files.specs.declared.Outcome.{Outcome}
-use Rattle.files.specs.Outcome.{done, refusal, guard}
+use Rattle.files.specs.Outcome.{refusal}
 use Rattle.digits.specs.Decimal.{ascii, numberFrom, numberOf}
 use Rattle.translator.specs.declared.fields.Cursor.{Cursor}
 use Rattle.translator.specs.declared.fields.Found.{Found}
@@ -23,7 +23,8 @@ use Rattle.translator.specs.Contracts.{capped, digitsFound, numeralFound
 use Rattle.translator.specs.Fields.{number, signed, byteAt, wordAt, isDigit, digitsLength, numeralLength, numeralAt, isMinus, minusOne, signedAt, fieldAt, fieldLength, numeralValue, fieldValue}
 use Rattle.translator.specs.Format.{isOpen, cursorRefused, reached, fieldAfter}
 use Rattle.translator.specs.Sas.{Separator, byteOf}
-use Rattle.translator.proofs.CursorLaws.{rest-none, rest-more, field-open, field-refused}
+use Rattle.translator.proofs.CursorLaws.{rest-none, rest-more, field-reached, field-refused}
+use Rattle.translator.proofs.NumberLaws.{numeral-within}
 
 -- capping
 pub capped-small : (n : ℕ) → n ≤ 1048576 → n ≡ capped n
@@ -45,11 +46,6 @@ digit-capped n d =
     (λ h.
     let c : 1048576 ≡ capped n = capped-large n h in
     sym (capped-large (10 * capped n + d) (omega arith)) ∙ capped-large (10 * n + d) (omega arith))
-
-from-large : (n : ℕ) (ds : List ℕ) → n ≤ numberFrom n ds
-unfolding numberFrom
-from-large n [] = omega arith
-from-large n (d ∷ ds) = omega (arith, from-large (10 * n + (d - 48)) ds)
 
 from-capped : (n : ℕ) (ds : List ℕ) → capped (numberFrom (capped n) ds) ≡ capped (numberFrom n ds)
 unfolding numberFrom
@@ -78,10 +74,6 @@ below-digits b h = rw (lt-leb 48 b h) refl
 pub above-digits : (b : ℕ) → 57 < b → isDigit b ≡ false
 unfolding isDigit
 above-digits b h = split (leb 48 b) (λ e. rw (e, lt-leb b 57 h) refl) (λ e. rw e refl)
-
-pub digit-between : (b : ℕ) → 48 ≤ b → b ≤ 57 → isDigit b ≡ true
-unfolding isDigit
-digit-between b l h = rw (le-leb 48 b l, le-leb b 57 h) refl
 
 module _ (s : List ℕ) (here : ℕ) (h : here < length s) (e : isDigit (getD s here 0) ≡ true) where
   digits-more : digitsLength (drop here s) ≡ suc (digitsLength (drop (here + 1) s))
@@ -155,20 +147,8 @@ pub numeral-count : (r : List ℕ) (found : Found) → found ≡ numeralFound r 
 unfolding numeralFound
 numeral-count r found e = ap (λ (x : Found). x .count) e
 
-digitsLength-within : (r : List ℕ) → digitsLength r ≤ length r
-unfolding digitsLength
-digitsLength-within [] = omega arith
-digitsLength-within (b ∷ r) =
-    let h : digitsLength r ≤ length r = digitsLength-within r in
-    cond-case (λ (n : ℕ). n ≤ suc (length r)) (isDigit b) (digitsLength r + 1) 0 (λ e. omega arith) (λ e. omega arith)
-
-numeralLength-within : (r : List ℕ) → numeralLength r ≤ length r
-unfolding numeralLength
-numeralLength-within [] = digitsLength-within []
-numeralLength-within (b ∷ r) = cond-case (λ (n : ℕ). n ≤ suc (length r)) (eqb b 48) 1 (digitsLength (b ∷ r)) (λ e. omega arith) (λ e. digitsLength-within (b ∷ r))
-
-pub numeral-within : (s : List ℕ) (at count : ℕ) → at ≤ length s → count ≡ numeralLength (drop at s) → at + count ≤ length s
-numeral-within s at count h e = omega (arith, numeralLength-within (drop at s), length-drop at s)
+pub numeral-reaches : (s : List ℕ) (at count : ℕ) → at ≤ length s → count ≡ numeralLength (drop at s) → at + count ≤ length s
+numeral-reaches s at count h e = omega (arith, numeral-within (drop at s), length-drop at s)
 
 -- with its separator
 pub numeral-missing : (separator : ℕ) (s : List ℕ) (at count : ℕ) (r : Outcome) → count ≡ numeralLength (drop at s) → count < 1 → r ≡ refusal 31 at → r ≡ numeralAt separator (drop at s) at
@@ -203,7 +183,7 @@ number-open s c byte r found o moved z f e m q separator b =
     let rest : List ℕ = drop (c .at) s in
     let ends : c .at + found .count + 1 ≡ c .at + (numeralLength rest + 1) = omega (arith, ap (λ (x : Found). x .count) f) in
     let here : o ≡ numeralAt (byteOf separator) rest (c .at) = e ∙ ap (λ (n : ℕ). numeralAt n rest (c .at)) (sym b) in
-    q ∙ ap₂ settled (m ∙ ap₂ reached here ends ∙ field-open (number separator) s c z) (ap (λ (x : Found). x .value) f)
+    q ∙ ap₂ settled (m ∙ ap₂ reached here ends ∙ field-reached (number separator) s c z) (ap (λ (x : Found). x .value) f)
 
 pub signed-refused : (s : List ℕ) (c : Cursor) (byte : ℕ) (r : ReadNumber) → (c .outcome .number ≡ 0 → ⊥) → r ≡ settled c 0 → (separator : Separator) → byteOf separator ≡ byte → r ≡ signedAfter separator s c
 unfolding signedAfter
@@ -226,7 +206,7 @@ signed-minus s c byte b r o moved z e m w q t separator x =
     ∙ ap₂ settled
     (q ∙ ap₂ reached (w ∙ ap (λ (n : ℕ). wordAt (45 ∷ 49 ∷ n ∷ []) (drop (c .at) s) (c .at)) (sym x) ∙ sym (ap (λ (t : Bool). cond t (wordAt (45 ∷ 49 ∷ byteOf separator ∷ []) (drop (c .at) s) (c .at)) (numeralAt (byteOf separator) (drop (c .at) s) (c .at))) first))
     (sym (ap (λ (t : Bool). c .at + cond t 3 (numeralLength (drop (c .at) s) + 1)) first))
-    ∙ field-open (signed separator) s c z)
+    ∙ field-reached (signed separator) s c z)
     (sym (ap (λ (t : Bool). coded (cond t none (some (numeralValue (drop (c .at) s))))) first))
 
 -- a test

@@ -29,7 +29,7 @@ pub prints : {A : Type 0} {f : Format A} {good : A → Type 0} {print : A → Li
 prints always reaches =
     record {
       text = λ t. always .holds t .text;
-      good′ = λ t. always .holds t .fits;
+      fits = λ t. always .holds t .fits;
       passes = λ t. always .holds t .passes;
       trace = λ a g. reaches a g .trace;
       value = λ a g. reaches a g .value;
@@ -84,7 +84,7 @@ bind-always {f} k {P} all always =
           subst₂ (λ s b. P (valueOf (k (valueOf f t)) u) (s ++ textOf (k (valueOf f t)) u) (b && passed (k (valueOf f t)) u))
           (sym (all .text t))
           (sym (all .passes t))
-          (always (valueOf f t) (all .good′ t) .holds u);
+          (always (valueOf f t) (all .fits t) .holds u);
     })
 
 bind-joins : {A B : Type 0} (f : Format A) (k : A → Format B) {c : B} (t : Trace f) → Reaches (k (valueOf f t)) c → Reaches (bind f k) c

@@ -11,9 +11,9 @@ use Rattle.translator.specs.Fields.{Field, Value, fieldValue}
 use Rattle.translator.specs.Format.{Fault, Format, gives, field, bind, isOpen, fieldAfter, faultAfter, stepAfter, after, valueAfter}
 
 -- a refusal ends the reading
-field-refused : (f : Field) (s : List ℕ) (c : Cursor) → isOpen c ≡ false → fieldAfter f s c ≡ c
+pub field-closed : (f : Field) (s : List ℕ) (c : Cursor) → isOpen c ≡ false → fieldAfter f s c ≡ c
 unfolding fieldAfter
-field-refused f s c e = rw e refl
+field-closed f s c e = rw e refl
 
 pub fault-refused : (o : Option Fault) (place : ℕ) (c : Cursor) → isOpen c ≡ false → faultAfter o place c ≡ c
 unfolding faultAfter
@@ -23,7 +23,7 @@ fault-refused (some fault) place c e = rw e refl
 step-refused : (f : Field) (fault : Value f → Option Fault) (s : List ℕ) (c : Cursor) → isOpen c ≡ false → stepAfter f fault s c ≡ c
 unfolding stepAfter
 step-refused f fault s c e =
-    ap (faultAfter (fault (fieldValue f (drop (c .at) s))) (c .at)) (field-refused f s c e)
+    ap (faultAfter (fault (fieldValue f (drop (c .at) s))) (c .at)) (field-closed f s c e)
     ∙ fault-refused (fault (fieldValue f (drop (c .at) s))) (c .at) c e
 
 pub after-refused : {A : Type 0} (f : Format A) (s : List ℕ) (c : Cursor) → isOpen c ≡ false → after f s c ≡ c

@@ -9,7 +9,6 @@ use native.Mathlib.Nat.{add-zero}
 use lib.ListN.{length, drop, length-append, length-drop}
 use Rattle.files.specs.Outcome.{refusal}
 use Rattle.files.proofs.Logic.{clash, split-option, and-split, and-join}
-use Rattle.translator.specs.declared.fields.Cursor.{Cursor}
 use Rattle.translator.specs.Fields.{Field, Value}
 use Rattle.translator.specs.Format.{Fault, unsupported, givenTwice, outsideLimits, outOfRange, faultNumber, Format, gives, field, cursorAt, cursorRefused, isOpen, after, valueAfter}
 use Rattle.translator.proofs.Written.{written, FieldRight}
@@ -77,12 +76,6 @@ module _ (fields : (f : Field) → FieldRight f) where
   pub faulty-closed : {A : Type 0} (f : Format A) (t : Trace f) (s rest : List ℕ) (at : ℕ) → drop at s ≡ textOf f t ++ rest → passed f t ≡ false
       → isOpen (after f s (cursorAt at)) ≡ false
   faulty-closed f t s rest at e p = let found = faulty f t s rest at e p in ap isOpen (found .2) ∙ fault-closed (found .0) (found .1)
-
-  pub faulty-number : {A : Type 0} (f : Format A) (t : Trace f) (s rest : List ℕ) (at : ℕ) → drop at s ≡ textOf f t ++ rest → passed f t ≡ false
-      → after f s (cursorAt at) .outcome .number ≡ 31 → ⊥
-  faulty-number f t s rest at e p n =
-      let found = faulty f t s rest at e p in
-      fault-number (found .0) (sym (ap (λ (c : Cursor). c .outcome .number) (found .2)) ∙ n)
 
   -- what is read is a trace
   pub back : {A : Type 0} (f : Format A) (s : List ℕ) (at : ℕ) → at ≤ length s → isOpen (after f s (cursorAt at)) ≡ true

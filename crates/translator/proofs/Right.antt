@@ -112,7 +112,7 @@ module _ (fields : (f : Field) → FieldRight f) (prints : Prints text (λ x. na
       (λ l. (
         valueOf text t,
         record {
-          names = prints .good′ t;
+          names = prints .fits t;
           within = sym (prints .passes t) ∙ read .1;
           text =
               sym (prints .text t)
@@ -128,7 +128,7 @@ module _ (fields : (f : Field) → FieldRight f) (prints : Prints text (λ x. na
   begun-right s p b =
       record {
         within = b .within;
-        begun = (valueOf text (b .trace), prints .good′ (b .trace), ap (take p) (sym (prints .text (b .trace))) ∙ b .begun);
+        begun = (valueOf text (b .trace), prints .fits (b .trace), ap (take p) (sym (prints .text (b .trace))) ∙ b .begun);
         stops = λ x names e.
             b .stops (prints .trace x names) [] (ap (take (p + 1)) (append-nil (textOf text (prints .trace x names)) ∙ trace-text x names) ∙ e);
       }
@@ -142,7 +142,7 @@ module _ (fields : (f : Field) → FieldRight f) (prints : Prints text (λ x. na
       let behind : List ℕ = drop end s in
       record {
         within = omega arith;
-        begun = (valueOf text t, prints .good′ t, ap (take end) (sym (prints .text t)) ∙ take-length piece ∙ sym (ap (take end) e ∙ take-append-seam piece behind));
+        begun = (valueOf text t, prints .fits t, ap (take end) (sym (prints .text t)) ∙ take-length piece ∙ sym (ap (take end) e ∙ take-append-seam piece behind));
         stops = λ x names q.
             let u : Trace text = prints .trace x names in
             let rest : List ℕ = drop (end + 1) (textOf text u) in

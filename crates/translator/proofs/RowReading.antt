@@ -1,28 +1,28 @@
 -- Rows while pairs are stored in them: which variables have a pair, and numbers that name a variable or a value.
 use Prim.Native.Nat.{ℕ, _+_, _%_, _≤_, _<_}
-use mathlib.Core.Path.{_≡_, refl, sym, ap, ap₂, _∙_}
-use mathlib.Core.Bool.{Bool, true, false, not, cond, _&&_, _||_}
-use mathlib.Core.List.{List, [], _∷_}
+use mathlib.Core.Path.{_≡_, refl, sym, ap, _∙_}
+use mathlib.Core.Bool.{Bool, true, false, not, _&&_}
+use mathlib.Core.List.{List}
 use mathlib.Core.Option.{none}
 use native.Mathlib.Omega.{arith}
-use lib.Dec.{eqb, leb, ltb}
-use lib.ListN.{length, getD, take, drop, set}
-use lib.Seq.{getD-set-same, getD-set-other, getD-take, length-take-le}
-use borrow.Author.Tests.{le-leb, lt-leb, lt-ltb, eq-eqb, ne-eqb, eqb-true, eqb-false, ltb-true, leb-true, leb-false}
+use lib.Dec.{eqb, ltb}
+use lib.ListN.{length, getD, drop, set}
+use lib.Seq.{getD-set-same, getD-set-other}
+use borrow.Author.Tests.{le-leb, lt-leb, lt-ltb, ne-eqb, eqb-true, eqb-false, ltb-true}
 use Rattle.files.proofs.Logic.{split, split-le}
 use Rattle.files.specs.Below.{anyOf}
 use Rattle.files.specs.Rows.{stored}
 use Rattle.translator.specs.declared.fields.Cursor.{Cursor}
 use Rattle.translator.specs.declared.fields.ReadNumber.{ReadNumber}
-use Rattle.translator.specs.Contracts.{capped, settled, numberAfter, judged, numberBy, same, isNew, Given, variableOf, valueBelow}
+use Rattle.translator.specs.Contracts.{capped, settled, numberAfter, judged, numberBy, same, isNew, Given, variableOf}
 use Rattle.translator.specs.Fields.{number, fieldValue}
-use Rattle.translator.specs.Format.{givenTwice, outOfRange, unless, isOpen, fieldAfter, faultAfter, stepAfter, after, valueAfter}
-use Rattle.translator.specs.Sas.{blank, lineFeed}
+use Rattle.translator.specs.Format.{givenTwice, outOfRange, unless, isOpen, fieldAfter, faultAfter, stepAfter}
+use Rattle.translator.specs.Sas.{blank}
 use Rattle.translator.specs.Text.{variableFault}
 use Rattle.translator.proofs.NumberReading.{capped-small, capped-large}
 use Rattle.translator.proofs.ReadingLaws.{fault-refused}
 use Rattle.translator.proofs.VariableReading.{field-before}
-use Rattle.translator.proofs.StepReading.{ltb-capped, fault-judged, fault-then, fault-both, fault-before, step-fine, step-field, unless-none, settled-same, number-is, read-cursor, read-value, read-tested}
+use Rattle.translator.proofs.StepReading.{ltb-capped, fault-judged, fault-then, fault-both, fault-before, unless-none, number-is, read-fine, read-value, read-tested}
 
 -- which variables are new
 pub new-beyond : (row : List ℕ) (base v : ℕ) → 64 ≤ v → true ≡ isNew row base v
@@ -74,8 +74,8 @@ module _ (s : List ℕ) (c : Cursor) (n : ReadNumber) (is : n ≡ numberAfter bl
       (b d : Bool) → variables ≤ 64 → length sizes ≡ variables → (isOpen c ≡ true → Given first second base given) → b ≡ isNew first base (n .value) → d ≡ isNew second base (n .value)
       → j ≡ judged (n .cursor) b 33 (c .at) → k ≡ judged j d 33 (c .at) → l ≡ judged k (ltb (n .value) variables) 5 (c .at) → r ≡ settled l (n .value)
       → r ≡ numberBy (variableOf sizes given) same s c
-  unfolding numberBy after valueAfter stepAfter v
-  variable-read first second base variables j k l r b d few count given′ x y e f g q =
+  unfolding stepAfter v
+  variable-read first second base variables j k l r b d few count rows x y e f g q =
       let F : Cursor = fieldAfter (number blank) s c in
       let new : ℕ → Bool = λ x. not (anyOf (eqb x) given) in
       let once : j ≡ faultAfter (unless (isNew first base v) givenTwice none) (c .at) F =
@@ -86,32 +86,16 @@ module _ (s : List ℕ) (c : Cursor) (n : ReadNumber) (is : n ≡ numberAfter bl
       (λ o. y ∙ ap (isNew second base) (value-is (fault-before (unless (isNew first base v) givenTwice none) (c .at) F o)) ∙ new-capped second base v)
       ∙ fault-both (isNew first base v) (isNew second base v) givenTwice (c .at) F
       ∙ split (isOpen F)
-      (λ o. ap (λ (t : Bool). faultAfter (unless t givenTwice none) (c .at) F) (given′ (field-before (number blank) s c o) v))
+      (λ o. ap (λ (t : Bool). faultAfter (unless t givenTwice none) (c .at) F) (rows (field-before (number blank) s c o) v))
       (λ o. fault-refused _ (c .at) F o ∙ sym (fault-refused _ (c .at) F o)) in
       let moved : l ≡ stepAfter (number blank) (variableFault sizes given) s c =
       g ∙ ap (λ (x : Cursor). judged x (ltb (n .value) variables) 5 (c .at)) twice
       ∙ fault-judged _ (ltb (n .value) variables) (ltb v (length sizes)) outOfRange (c .at)
       (λ o. ap (λ (x : ℕ). ltb x variables) (value-is (fault-before (unless (new v) givenTwice none) (c .at) F o)) ∙ ltb-capped v variables (omega arith) ∙ ap (ltb v) (sym count))
       ∙ fault-then (new v) givenTwice (unless (ltb v (length sizes)) outOfRange none) (c .at) F in
-      q ∙ ap (λ (x : Cursor). settled x (n .value)) moved
-      ∙ settled-same _ (n .value) v
+      read-fine (number blank) s c n capped (number-is blank s c n is) (variableFault sizes given) same l r
       (λ o.
-      let fine = unless-none (new v) givenTwice (unless (ltb v (length sizes)) outOfRange none) (step-fine (number blank) (variableFault sizes given) s c o) .1 in
+      let fine = unless-none (new v) givenTwice (unless (ltb v (length sizes)) outOfRange none) o .1 in
       let known : ltb v (length sizes) ≡ true = unless-none (ltb v (length sizes)) outOfRange none fine .0 in
-      value-is (step-field (number blank) (variableFault sizes given) s c o) ∙ sym (capped-small v (omega (arith, ltb-true v (length sizes) known))))
-
--- a value, by the test on it
-pub value-read : (s : List ℕ) (c : Cursor) (n : ReadNumber) (size : ℕ) (j : Cursor) (r : ReadNumber) → n ≡ numberAfter lineFeed s c → size < 1048576 → j ≡ judged (n .cursor) (ltb (n .value) size) 5 (c .at) → r ≡ settled j (n .value)
-    → r ≡ numberBy (valueBelow size) same s c
-unfolding numberBy after valueAfter
-value-read s c n size j r is h e q =
-    let v : ℕ = fieldValue (number lineFeed) (drop (c .at) s) in
-    let value-is : isOpen (fieldAfter (number lineFeed) s c) ≡ true → n .value ≡ capped v = read-value (number lineFeed) s c n (capped v) (number-is lineFeed s c n is) in
-    let moved : j ≡ stepAfter (number lineFeed) (λ x. unless (ltb x size) outOfRange none) s c =
-    read-tested (number lineFeed) s c n (capped v) (number-is lineFeed s c n is) outOfRange (λ x. ltb x size) (ltb (n .value) size) j
-    (λ o. ap (λ (x : ℕ). ltb x size) (value-is o) ∙ ltb-capped v size (omega arith)) e in
-    q ∙ ap (λ (x : Cursor). settled x (n .value)) moved
-    ∙ settled-same _ (n .value) v
-    (λ o.
-    let fine : ltb v size ≡ true = unless-none (ltb v size) outOfRange none (step-fine (number lineFeed) (λ x. unless (ltb x size) outOfRange none) s c o) .0 in
-    value-is (step-field (number lineFeed) (λ x. unless (ltb x size) outOfRange none) s c o) ∙ sym (capped-small v (omega (arith, ltb-true v size fine))))
+      sym (capped-small v (omega (arith, ltb-true v (length sizes) known))))
+      moved q

@@ -3,60 +3,22 @@ use Prim.Native.Nat.{ℕ, suc, _+_, _-_, _%_, _≤_, _<_}
 use mathlib.Core.Path.{_≡_, refl, sym, ap, ap₂, _∙_}
 use mathlib.Core.Bool.{true}
 use mathlib.Core.List.{List, [], _∷_, map}
-use mathlib.Core.Option.{Option, none}
+use mathlib.Core.Option.{none}
 use native.Mathlib.Omega.{arith}
-use lib.Dec.{ltb}
-use lib.ListN.{length, getD, take, drop, set, replicate, length-map, length-set, length-replicate, drop-of-length-le, List·getD-map}
+use lib.ListN.{length, getD, take, drop, set, length-map, length-set, drop-of-length-le, List·getD-map}
 use lib.Seq.{length-take-le, drop-cons, getD-take}
-use borrow.Author.Tests.{ltb-true}
 use Rattle.files.specs.Bytes.{placed}
 use Rattle.translator.specs.declared.fields.Cursor.{Cursor}
 use Rattle.translator.specs.declared.fields.ReadNumber.{ReadNumber}
-use Rattle.translator.specs.Contracts.{Inside, capped, settled, numberAfter, judged, numberBy, sizeOf, StartRead, DeclarationsRead, StartsRead}
-use Rattle.translator.specs.Fields.{number, fieldValue}
-use Rattle.translator.specs.Format.{Fault, outOfRange, unless, Format, gives, bind, repeat, isOpen, fieldAfter, stepAfter, after, valueAfter}
-use Rattle.translator.specs.Sas.{Declaration, lineFeed}
+use Rattle.translator.specs.Contracts.{Inside, settled, numberBy, same, sizeOf, valueBelow, DeclarationsRead, StartsRead}
+use Rattle.translator.specs.Format.{Format, gives, isOpen, after, valueAfter}
+use Rattle.translator.specs.Sas.{Declaration}
 use Rattle.translator.specs.Stated.{sizesOf}
 use Rattle.translator.specs.Text.{each, declaration, start, starts}
-use Rattle.translator.proofs.NumberReading.{capped-small}
-use Rattle.translator.proofs.ReadingLaws.{after-bind, value-bind, open-before}
-use Rattle.translator.proofs.StepReading.{ltb-capped, step-fine, step-field, unless-none, settled-same, number-is, read-value, read-tested}
-use Rattle.translator.proofs.VariableReading.{number-inside, settled-value}
-
--- a start value
-pub start-read : (s : List ℕ) (c : Cursor) (n : ReadNumber) (j : Cursor) (r : ReadNumber) (size : ℕ) → n ≡ numberAfter lineFeed s c → size < 1048576 → j ≡ judged (n .cursor) (ltb (n .value) size) 5 (c .at) → r ≡ settled j (n .value) → StartRead s c size r
-unfolding numberBy start after valueAfter
-start-read s c n j r size is h e q d f =
-    let v : ℕ = fieldValue (number lineFeed) (drop (c .at) s) in
-    let fault : ℕ → Option Fault = λ x. unless (ltb x (sizeOf d)) outOfRange none in
-    let value : isOpen (fieldAfter (number lineFeed) s c) ≡ true → n .value ≡ capped v = read-value (number lineFeed) s c n (capped v) (number-is lineFeed s c n is) in
-    let moved : j ≡ stepAfter (number lineFeed) fault s c =
-    read-tested (number lineFeed) s c n (capped v) (number-is lineFeed s c n is) outOfRange (λ x. ltb x (sizeOf d)) (ltb (n .value) size) j
-    (λ o. ap (λ (x : ℕ). ltb x size) (value o) ∙ ltb-capped v size (omega arith) ∙ ap (ltb v) (sym f)) e in
-    q ∙ ap (λ (x : Cursor). settled x (n .value)) moved
-    ∙ settled-same _ (n .value) v
-    (λ o.
-    let fine : ltb v (sizeOf d) ≡ true = unless-none (ltb v (sizeOf d)) outOfRange none (step-fine (number lineFeed) fault s c o) .0 in
-    value (step-field (number lineFeed) fault s c o) ∙ sym (capped-small v (omega (arith, ltb-true v (sizeOf d) fine))))
-
--- some declaration has the size
-start-inside : (s : List ℕ) (c : Cursor) (size : ℕ) (r : ReadNumber) → Inside s (c .at) → StartRead s c size r → Inside s (r .cursor .at)
-start-inside s c size r h e =
-    let d : Declaration = record { name = []; layer = none; values = replicate size [] } in
-    number-inside (start d) (λ v. v .start) s c r h (e d (length-replicate size []))
-
--- an element, then the others
-abbrev first : {A : Type 0} → Format A → Format (List A) → Format (List A)
-first f rest = bind f (λ a. bind rest (λ others. gives (a ∷ others)))
-
-module _ {A : Type 0} (f : Format A) (rest : Format (List A)) (s : List ℕ) (c : Cursor) where
-  first-after : after (first f rest) s c ≡ after rest s (after f s c)
-  unfolding after
-  first-after = after-bind f _ s c ∙ after-bind rest _ s (after f s c)
-
-  first-value : valueAfter (first f rest) s c ≡ valueAfter f s c ∷ valueAfter rest s (after f s c)
-  unfolding valueAfter
-  first-value = value-bind f _ s c ∙ value-bind rest _ s (after f s c)
+use Rattle.translator.proofs.ReadingLaws.{open-before}
+use Rattle.translator.proofs.VariableReading.{number-inside}
+use Rattle.translator.proofs.RepeatReading.{first, first-after, first-value, each-empty, each-first}
+use Rattle.translator.proofs.StepReading.{settled-value}
 
 -- what is left to be read and stored gives the whole
 pub record Storing {A : Type 0} (cell : A → ℕ) (s : List ℕ) (all : Format (List A)) (from : Cursor) (before : List ℕ) (left : Format (List A)) (here : Cursor) (v : ℕ) (cells : List ℕ) : Type 0 where
@@ -73,13 +35,13 @@ module _ {A : Type 0} (cell : A → ℕ) (s : List ℕ) (all : Format (List A)) 
       }
 
   module _ (left : Format (List A)) (here : Cursor) (v : ℕ) (cells : List ℕ) (inv : Storing cell s all from before left here v cells) where
-    storing-next : (f : Format A) (rest : Format (List A)) (one : ReadNumber) → left ≡ first f rest → one ≡ numberBy f cell s here
+    storing-next : (f : Format A) (rest : Format (List A)) (one : ReadNumber) → left ≡ first f (λ a. rest) → one ≡ numberBy f cell s here
         → Storing cell s all from before rest (one .cursor) (v + 1) (set cells v (one .value % 256))
     unfolding numberBy settled placed
     storing-next f rest one e q =
         let moved : one .cursor ≡ after f s here = ap (λ (x : ReadNumber). x .cursor) q in
-        let onward : after rest s (after f s here) ≡ after all s from = sym (first-after f rest s here) ∙ sym (ap (λ (x : Format (List A)). after x s here) e) ∙ inv .onward in
-        let values : valueAfter left s here ≡ valueAfter f s here ∷ valueAfter rest s (after f s here) = ap (λ (x : Format (List A)). valueAfter x s here) e ∙ first-value f rest s here in
+        let onward : after rest s (after f s here) ≡ after all s from = sym (first-after f (λ a. rest) s here) ∙ sym (ap (λ (x : Format (List A)). after x s here) e) ∙ inv .onward in
+        let values : valueAfter left s here ≡ valueAfter f s here ∷ valueAfter rest s (after f s here) = ap (λ (x : Format (List A)). valueAfter x s here) e ∙ first-value f (λ a. rest) s here in
         record {
           onward = ap (after rest s) moved ∙ onward;
           stored =
@@ -101,14 +63,6 @@ module _ {A : Type 0} (cell : A → ℕ) (s : List ℕ) (all : Format (List A)) 
         ∙ inv .stored (sym (ap isOpen (storing-cursor e)) ∙ o)
 
 -- declarations
-each-empty : {A : Type 0} (f : Format A) (n : ℕ) → n ≡ 0 → each f n ≡ gives []
-unfolding each repeat
-each-empty f n e = ap (each f) e
-
-each-first : {A : Type 0} (f : Format A) (n k : ℕ) → n ≡ suc k → each f n ≡ first f (each f k)
-unfolding each repeat
-each-first f n k e = ap (each f) e
-
 abbrev pub DeclarationsFrom : List ℕ → Cursor → ℕ → List ℕ → Cursor → ℕ → List ℕ → Type 0
 DeclarationsFrom s c count before here v cells =
     Storing sizeOf s (each declaration count) c before (each declaration (count - v)) here v cells
@@ -141,9 +95,14 @@ starts-empty : (ds : List Declaration) → ds ≡ [] → starts ds ≡ gives []
 unfolding starts
 starts-empty ds e = ap starts e
 
-starts-first : (ds : List Declaration) (d : Declaration) (others : List Declaration) → ds ≡ d ∷ others → starts ds ≡ first (start d) (starts others)
+starts-first : (ds : List Declaration) (d : Declaration) (others : List Declaration) → ds ≡ d ∷ others → starts ds ≡ first (start d) (λ a. starts others)
 unfolding starts
 starts-first ds d others e = ap starts e
+
+-- a start value is a value below the size
+start-is : (d : Declaration) (size : ℕ) (s : List ℕ) (c : Cursor) (r : ReadNumber) → sizeOf d ≡ size → r ≡ numberBy (valueBelow size) same s c → r ≡ numberBy (start d) (λ v. v .start) s c
+unfolding numberBy start after valueAfter
+start-is d size s c r e q = q ∙ sym (ap (λ (n : ℕ). numberBy (valueBelow n) same s c) e)
 
 undeclared : Declaration
 undeclared = record { name = []; layer = none; values = [] }
@@ -174,14 +133,14 @@ pub starts-start : (s : List ℕ) (c : Cursor) (count : ℕ) (sizes before : Lis
 starts-start s c count sizes before h = (λ ds e. storing-begin (λ x. x .start) s (starts ds) c before _ refl, h, refl, omega arith)
 
 module _ (s : List ℕ) (c : Cursor) (count : ℕ) (sizes before : List ℕ) (here : Cursor) (v : ℕ) (cells : List ℕ) (room : count ≤ length sizes) (inv : StartsFrom s c count sizes before here v cells) where
-  pub starts-next : (one : ReadNumber) → v < count → StartRead s here (getD sizes v 0) one → StartsFrom s c count sizes before (one .cursor) (v + 1) (set cells v (one .value % 256))
+  pub starts-next : (one : ReadNumber) → v < count → one ≡ numberBy (valueBelow (getD sizes v 0)) same s here → StartsFrom s c count sizes before (one .cursor) (v + 1) (set cells v (one .value % 256))
   starts-next one h q = (
     λ ds e.
         let d : Declaration = getD ds v undeclared in
         storing-next (λ x. x .start) s (starts ds) c before _ here v cells (inv .0 ds e) (start d) (starts (drop (v + 1) ds)) one
         (starts-first (drop v ds) d (drop (v + 1) ds) (declared-first ds count sizes e room v h))
-        (q d (declared-size ds count sizes e room v h)),
-    start-inside s here (getD sizes v 0) one (inv .1) q,
+        (start-is d (getD sizes v 0) s here one (declared-size ds count sizes e room v h) q),
+    number-inside (valueBelow (getD sizes v 0)) same s here one (inv .1) q,
     length-set cells v (one .value % 256) ∙ inv .2,
     omega arith,
   )

@@ -1,25 +1,25 @@
 -- A number and the tests on it, from the code's own tests: the cursor is the one behind the field and its faults.
 use Prim.Native.Nat.{ℕ, _≤_, _<_}
-use mathlib.Core.Path.{_≡_, refl, sym, ap, ap₂, _∙_}
+use mathlib.Core.Path.{_≡_, refl, sym, ap, _∙_}
 use mathlib.Core.Bool.{Bool, true, false, cond, _&&_}
 use mathlib.Core.List.{List}
 use mathlib.Core.Option.{Option, none, some}
 use native.Mathlib.Omega.{arith}
 use lib.Dec.{eqb, leb, ltb}
 use lib.ListN.{drop}
-use borrow.Author.Tests.{le-leb, lt-leb, lt-ltb, le-ltb, leb-true, ltb-true, eq-eqb, ne-eqb}
+use borrow.Author.Tests.{le-leb, lt-leb, le-ltb, ne-eqb}
 use Rattle.files.proofs.Logic.{clash, split, split-le}
-use Rattle.files.specs.Outcome.{refusal, isDone}
+use Rattle.files.specs.Outcome.{refusal}
 use Rattle.translator.specs.declared.fields.Cursor.{Cursor}
 use Rattle.translator.specs.declared.fields.ReadNumber.{ReadNumber}
 use Rattle.translator.specs.Contracts.{capped, coded, settled, numberAfter, signedAfter, judged, numberBy}
 use Rattle.translator.specs.Fields.{Field, Value, number, signed, fieldValue}
-use Rattle.translator.specs.Format.{Fault, unsupported, givenTwice, outsideLimits, outOfRange, faultNumber, unless, gives, field, isOpen, cursorRefused, fieldAfter, faultAfter, stepAfter, after, valueAfter}
+use Rattle.translator.specs.Format.{Fault, faultNumber, unless, gives, field, isOpen, cursorRefused, fieldAfter, faultAfter, stepAfter, after, valueAfter}
 use Rattle.translator.specs.Sas.{Separator}
 use Rattle.translator.specs.Stated.{isNone}
-use Rattle.translator.specs.Text.{any}
 use Rattle.translator.proofs.NumberReading.{capped-small, capped-large, capped-most}
 use Rattle.translator.proofs.ReadingLaws.{fault-refused}
+use Rattle.translator.proofs.ReadingSteps.{fault-closed}
 
 -- tests that capping does not change
 module _ (n k : ℕ) where
@@ -47,17 +47,10 @@ module _ (n k : ℕ) where
       (λ l. ap (λ (x : ℕ). eqb x k) (sym (capped-small n l)))
       (λ l. let c = capped-large n l in ne-eqb (capped n) k (λ e. omega arith) ∙ sym (ne-eqb n k (λ e. omega arith)))
 
--- a refusal is not open
-refused-closed : (f : Fault) (place : ℕ) → isOpen (cursorRefused (refusal (faultNumber f) place)) ≡ false
-unfolding isOpen isDone
-refused-closed unsupported place = refl
-refused-closed givenTwice place = refl
-refused-closed outsideLimits place = refl
-refused-closed outOfRange place = refl
-
-fault-closed : (f : Fault) (place : ℕ) (c : Cursor) → isOpen (faultAfter (some f) place c) ≡ false
+-- behind a fault nothing is open
+faultAfter-closed : (f : Fault) (place : ℕ) (c : Cursor) → isOpen (faultAfter (some f) place c) ≡ false
 unfolding faultAfter
-fault-closed f place c = split (isOpen c) (λ e. rw e (refused-closed f place)) (λ e. rw e e)
+faultAfter-closed f place c = split (isOpen c) (λ e. rw e (fault-closed f place)) (λ e. rw e e)
 
 pub fault-judged : (c : Cursor) (b t : Bool) (f : Fault) (place : ℕ) → (isOpen c ≡ true → b ≡ t) → judged c b (faultNumber f) place ≡ faultAfter (unless t f none) place c
 unfolding judged faultAfter
@@ -74,7 +67,7 @@ fault-judged c b t f place h =
 pub fault-then : (t : Bool) (f : Fault) (others : Option Fault) (place : ℕ) (c : Cursor) → faultAfter others place (faultAfter (unless t f none) place c) ≡ faultAfter (unless t f others) place c
 unfolding faultAfter
 fault-then true f others place c = refl
-fault-then false f others place c = fault-refused others place (faultAfter (some f) place c) (fault-closed f place c)
+fault-then false f others place c = fault-refused others place (faultAfter (some f) place c) (faultAfter-closed f place c)
 
 pub fault-both : (a b : Bool) (f : Fault) (place : ℕ) (c : Cursor) → faultAfter (unless b f none) place (faultAfter (unless a f none) place c) ≡ faultAfter (unless (a && b) f none) place c
 fault-both a b f place c = fault-then a f (unless b f none) place c ∙ ap (λ (o : Option Fault). faultAfter o place c) (joined a)
@@ -86,19 +79,12 @@ fault-both a b f place c = fault-then a f (unless b f none) place c ∙ ap (λ (
 pub fault-before : (o : Option Fault) (place : ℕ) (c : Cursor) → isOpen (faultAfter o place c) ≡ true → isOpen c ≡ true
 fault-before o place c e = split (isOpen c) (λ p. p) (λ p. clash e (ap isOpen (fault-refused o place c p) ∙ p))
 
-pub judged-before : (c : Cursor) (b : Bool) (fault place : ℕ) → isOpen (judged c b fault place) ≡ true → isOpen c ≡ true
-unfolding judged
-judged-before c b fault place e = split (isOpen c) (λ o. o) (λ o. clash e (ap isOpen (closed o) ∙ o))
-  where
-    closed : isOpen c ≡ false → judged c b fault place ≡ c
-    closed o = rw o refl
-
 -- a step that is open has no fault
 module _ (f : Field) (fault : Value f → Option Fault) (s : List ℕ) (c : Cursor) (open′ : isOpen (stepAfter f fault s c) ≡ true) where
   step-cases : (o : Option Fault) → isOpen (faultAfter o (c .at) (fieldAfter f s c)) ≡ true → (o ≡ none) × (isOpen (fieldAfter f s c) ≡ true)
   unfolding faultAfter
   step-cases none e = (refl, e)
-  step-cases (some x) e = clash e (fault-closed x (c .at) (fieldAfter f s c))
+  step-cases (some x) e = clash e (faultAfter-closed x (c .at) (fieldAfter f s c))
 
   pub step-fine : fault (fieldValue f (drop (c .at) s)) ≡ none
   unfolding stepAfter
@@ -120,25 +106,30 @@ unless-none false f others e = absurd (some-none f e)
         number none = 0
         number (some f) = 1
 
+-- a number that is settled
+module _ (c : Cursor) (n : ℕ) (r : ReadNumber) (is : r ≡ settled c n) where
+  pub settled-cursor : r .cursor ≡ c
+  unfolding settled
+  settled-cursor = ap (λ (x : ReadNumber). x .cursor) is
+
+  pub settled-value : isOpen c ≡ true → r .value ≡ n
+  unfolding settled
+  settled-value o = ap (λ (x : ReadNumber). x .value) is ∙ rw o refl
+
 pub settled-same : (c : Cursor) (a b : ℕ) → (isOpen c ≡ true → a ≡ b) → settled c a ≡ settled c b
 unfolding settled
 settled-same c a b h = split (isOpen c) (λ e. rw (e, h e) refl) (λ e. rw e refl)
 
 module _ (f : Field) (s : List ℕ) (c : Cursor) (n : ReadNumber) (v : ℕ) (is : n ≡ settled (fieldAfter f s c) v) where
-  pub read-cursor : n .cursor ≡ fieldAfter f s c
-  unfolding settled
-  read-cursor = ap (λ (x : ReadNumber). x .cursor) is
-
   pub read-value : isOpen (fieldAfter f s c) ≡ true → n .value ≡ v
-  unfolding settled
-  read-value e = ap (λ (x : ReadNumber). x .value) is ∙ rw e refl
+  read-value = settled-value (fieldAfter f s c) v n is
 
   pub read-tested : (x : Fault) (t : Value f → Bool) (b : Bool) (j : Cursor) → (isOpen (fieldAfter f s c) ≡ true → b ≡ t (fieldValue f (drop (c .at) s)))
       → j ≡ judged (n .cursor) b (faultNumber x) (c .at) → j ≡ stepAfter f (λ u. unless (t u) x none) s c
   unfolding stepAfter
   read-tested x t b j h e =
       e
-      ∙ ap (λ (d : Cursor). judged d b (faultNumber x) (c .at)) read-cursor
+      ∙ ap (λ (d : Cursor). judged d b (faultNumber x) (c .at)) (settled-cursor (fieldAfter f s c) v n is)
       ∙ fault-judged (fieldAfter f s c) b (t (fieldValue f (drop (c .at) s))) x (c .at) h
 
   pub read-tested-twice : (x y : Fault) (t u : Value f → Bool) (b d : Bool) (j k : Cursor)
@@ -171,17 +162,23 @@ pub none-coded : (o : Option ℕ) → eqb (coded o) 1048577 ≡ isNone o
 none-coded none = refl
 none-coded (some n) = ne-eqb (capped n) 1048577 (λ e. omega (arith, capped-most n))
 
--- a field, the test on its value, and the number that stands for the value where it passes
+-- a field whose value no fault refuses, and the number that stands for the value
 module _ (f : Field) (s : List ℕ) (c : Cursor) (n : ReadNumber) (code : Value f → ℕ) (is : n ≡ settled (fieldAfter f s c) (code (fieldValue f (drop (c .at) s)))) where
+  pub read-fine : (fault : Value f → Option Fault) (g : Value f → ℕ) (j : Cursor) (r : ReadNumber)
+      → (fault (fieldValue f (drop (c .at) s)) ≡ none → code (fieldValue f (drop (c .at) s)) ≡ g (fieldValue f (drop (c .at) s)))
+      → j ≡ stepAfter f fault s c → r ≡ settled j (n .value) → r ≡ numberBy (field f fault gives) g s c
+  unfolding numberBy after valueAfter
+  read-fine fault g j r k e q =
+      let u : Value f = fieldValue f (drop (c .at) s) in
+      q
+      ∙ ap (λ (y : Cursor). settled y (n .value)) e
+      ∙ settled-same (stepAfter f fault s c) (n .value) (g u) (λ o. read-value f s c n (code u) is (step-field f fault s c o) ∙ k (step-fine f fault s c o))
+
+  -- by a test on it
   pub read-settled : (x : Fault) (t : Value f → Bool) (g : Value f → ℕ) (b : Bool) (j : Cursor) (r : ReadNumber)
       → (isOpen (fieldAfter f s c) ≡ true → b ≡ t (fieldValue f (drop (c .at) s)))
       → (t (fieldValue f (drop (c .at) s)) ≡ true → code (fieldValue f (drop (c .at) s)) ≡ g (fieldValue f (drop (c .at) s)))
       → j ≡ judged (n .cursor) b (faultNumber x) (c .at) → r ≡ settled j (n .value) → r ≡ numberBy (field f (λ u. unless (t u) x none) gives) g s c
-  unfolding numberBy after valueAfter
   read-settled x t g b j r h k e q =
       let u : Value f = fieldValue f (drop (c .at) s) in
-      let fault : Value f → Option Fault = λ u. unless (t u) x none in
-      q
-      ∙ ap (λ (y : Cursor). settled y (n .value)) (read-tested f s c n (code u) is x t b j h e)
-      ∙ settled-same (stepAfter f fault s c) (n .value) (g u)
-      (λ o. read-value f s c n (code u) is (step-field f fault s c o) ∙ k (unless-none (t u) x none (step-fine f fault s c o) .0))
+      read-fine (λ u. unless (t u) x none) g j r (λ o. k (unless-none (t u) x none o .0)) (read-tested f s c n (code u) is x t b j h e) q

@@ -5,7 +5,6 @@ use mathlib.Core.Bool.{Bool, true, false, _||_}
 use mathlib.Core.List.{List, [], _∷_, _++_, map}
 use mathlib.Core.Logic.{_⊎_, inl, inr, ⊎-elim}
 use mathlib.Core.Option.{none, some}
-use native.Mathlib.Omega.{arith}
 use lib.Dec.{eqb}
 use lib.ListN.{length, getD, length-map}
 use borrow.Author.Tests.{not-true, eq-eqb}
@@ -15,7 +14,7 @@ use Rattle.files.proofs.Distinct.{split-eq}
 use Rattle.files.proofs.Done.{facts}
 use Rattle.files.proofs.Logic.{clash, split-option, or-left, or-right}
 use Rattle.files.proofs.RowLaws.{valueIn-here, valueIn-past}
-use Rattle.translator.specs.Sas.{Declaration, Started, Effect, Operator, Sas}
+use Rattle.translator.specs.Sas.{Started, Effect, Operator, Sas}
 use Rattle.translator.specs.Stated.{sizesOf, declaredIn, variablesOf, newVariable, isValue, isOldValue, supportedDeclaration, supportedPair, supportedPairs, supportedEffect, supportedEffects, supportedOperator, supportedStart, supported, oldPairs, newPairs, operatorAction, startedVariable, textual, orderedAction, ordered, stated}
 use Rattle.translator.proofs.OrderLaws.{Apart, none-some, value-cases}
 
@@ -190,13 +189,3 @@ module _ (x : Sas) where
 
   pub text-inside : (given : List ℕ) (ps : List Pair) → Fits (sizesOf (declaredIn x)) given ps → (v y : ℕ) → valueIn ps v ≡ some y → y < sizeOf (stated x) v
   text-inside given ps f v y e = subst (λ (n : ℕ). y < n) (size-is x v) (f .inside v y e)
-
--- values that a cell can hold
-pub sizes-few : (ds : List Declaration) (v : ℕ) → allOf supportedDeclaration ds ≡ true → getD (sizesOf ds) v 0 ≤ 32
-unfolding supportedDeclaration
-sizes-few [] v h = omega arith
-sizes-few (d ∷ ds) zero h = simp facts at h .0 .1 .1
-sizes-few (d ∷ ds) (suc v) h = sizes-few ds v (simp facts at h .1)
-
-pub fits-few : (ds : List Declaration) (given : List ℕ) (ps : List Pair) → allOf supportedDeclaration ds ≡ true → Fits (sizesOf ds) given ps → (v x : ℕ) → valueIn ps v ≡ some x → x < 255
-fits-few ds given ps h f v x e = omega (arith, sizes-few ds v h, f .inside v x e)

@@ -38,7 +38,7 @@ passed (field f fault next) t = isFine (fault (t .value)) && passed (next (t .va
 -- the traces of a format are the printings of what it gives: `good` is what can be printed, `ok` what nothing refuses
 pub record Prints {A : Type 0} (f : Format A) (good : A → Type 0) (print : A → List ℕ) (ok : A → Bool) : Type 0 where
   pub text : (t : Trace f) → textOf f t ≡ print (valueOf f t)
-  pub good′ : (t : Trace f) → good (valueOf f t)
+  pub fits : (t : Trace f) → good (valueOf f t)
   pub passes : (t : Trace f) → passed f t ≡ ok (valueOf f t)
   pub trace : (a : A) → good a → Trace f
   pub value : (a : A) (g : good a) → valueOf f (trace a g) ≡ a

@@ -1,28 +1,27 @@
 -- Counts, layers, sizes and declarations, from the code's own steps.
-use Prim.Native.Nat.{ℕ, zero, suc, _-_, _≤_, _<_}
+use Prim.Native.Nat.{ℕ, _-_, _≤_, _<_}
 use mathlib.Core.Path.{_≡_, refl, sym, ap, ap₂, subst, _∙_}
-use mathlib.Core.Bool.{Bool, true, false, cond}
-use mathlib.Core.List.{List, _∷_}
-use mathlib.Core.Option.{Option, none, some}
+use mathlib.Core.Bool.{Bool, true, cond}
+use mathlib.Core.List.{List}
+use mathlib.Core.Option.{Option}
 use native.Mathlib.Omega.{arith}
-use lib.Dec.{eqb, leb}
+use lib.Dec.{eqb}
 use lib.ListN.{length, drop}
-use borrow.Author.Tests.{leb-true}
 use Rattle.files.proofs.Logic.{split, cond-case}
 use Rattle.digits.specs.Decimal.{ascii}
 use Rattle.translator.specs.declared.fields.Cursor.{Cursor}
 use Rattle.translator.specs.declared.fields.ReadNumber.{ReadNumber}
-use Rattle.translator.specs.Contracts.{Inside, WordInside, capped, coded, settled, numberAfter, signedAfter, judged, numberBy, same, sizeOf, layerAfter}
+use Rattle.translator.specs.Contracts.{Inside, WordInside, coded, settled, numberAfter, signedAfter, judged, numberBy, same, sizeOf, layerAfter}
 use Rattle.translator.specs.Fields.{Field, word, name, number, signed, fieldValue}
-use Rattle.translator.specs.Format.{unsupported, outsideLimits, faultNumber, unless, Format, gives, field, bind, repeat, isOpen, fieldAfter, faultAfter, stepAfter, after, valueAfter}
-use Rattle.translator.specs.Sas.{Separator, lineFeed, Declaration}
+use Rattle.translator.specs.Format.{unsupported, Format, gives, field, isOpen, fieldAfter, faultAfter, stepAfter, after, valueAfter}
+use Rattle.translator.specs.Sas.{Separator, lineFeed}
 use Rattle.translator.specs.Stated.{isNone}
-use Rattle.translator.specs.Text.{any, layerFault, says, each, count, size, nameLines, declaration}
+use Rattle.translator.specs.Text.{any, layerFault, says, size, nameLines, declaration}
 use Rattle.translator.proofs.FieldLaws.{field-right}
-use Rattle.translator.proofs.NumberReading.{capped-small}
 use Rattle.translator.proofs.ReadingLaws.{after-refused, after-bind, value-bind, open-before}
 use Rattle.translator.proofs.ReadingListed.{after-within}
-use Rattle.translator.proofs.StepReading.{leb-capped, least-capped, step-fine, step-field, unless-none, settled-same, number-is, signed-is, none-coded, read-cursor, read-value, read-tested, read-tested-twice}
+use Rattle.translator.proofs.StepReading.{settled-value, settled-same, signed-is, none-coded, read-value, read-tested}
+use Rattle.translator.proofs.RepeatReading.{each-length, each-next, each-end}
 
 -- every cursor stands in the text
 pub after-inside : {A : Type 0} (f : Format A) (s : List ℕ) (c r : Cursor) → Inside s (c .at) → r ≡ after f s c → Inside s (r .at)
@@ -65,85 +64,12 @@ word-inside s w at h l = record { inside = h; short = l }
 pub field-before : (f : Field) (s : List ℕ) (c : Cursor) → isOpen (fieldAfter f s c) ≡ true → isOpen c ≡ true
 field-before f s c e = open-before (field f any gives) s c (sym (ap isOpen (step-after f s c)) ∙ e)
 
-pub settled-value : (c : Cursor) (n : ℕ) (r : ReadNumber) → r ≡ settled c n → isOpen c ≡ true → r .value ≡ n
-unfolding settled
-settled-value c n r e o = ap (λ (x : ReadNumber). x .value) e ∙ rw o refl
-
--- a count
-module _ (s : List ℕ) (c : Cursor) (n : ReadNumber) (is : n ≡ numberAfter lineFeed s c) where
-  v : ℕ
-  v = fieldValue (number lineFeed) (drop (c .at) s)
-
-  value-is : isOpen (fieldAfter (number lineFeed) s c) ≡ true → n .value ≡ capped v
-  unfolding v
-  value-is = read-value (number lineFeed) s c n (capped v) (number-is lineFeed s c n is)
-
-  pub count-read : (most : ℕ) (j : Cursor) (r : ReadNumber) → most < 1048576 → j ≡ judged (n .cursor) (leb (n .value) most) 4 (c .at) → r ≡ settled j (n .value) → r ≡ numberBy (count most) same s c
-  unfolding numberBy count after valueAfter v
-  count-read most j r h e q =
-      let moved : j ≡ stepAfter (number lineFeed) (λ x. unless (leb x most) outsideLimits none) s c =
-      read-tested (number lineFeed) s c n (capped v) (number-is lineFeed s c n is) outsideLimits (λ x. leb x most) (leb (n .value) most) j
-      (λ o. ap (λ (x : ℕ). leb x most) (value-is o) ∙ leb-capped v most h) e in
-      q ∙ ap (λ (x : Cursor). settled x (n .value)) moved
-      ∙ settled-same _ (n .value) v
-      (λ o.
-      let fine : leb v most ≡ true = unless-none (leb v most) outsideLimits none (step-fine (number lineFeed) (λ x. unless (leb x most) outsideLimits none) s c o) .0 in
-      value-is (step-field (number lineFeed) (λ x. unless (leb x most) outsideLimits none) s c o) ∙ sym (capped-small v (omega (arith, leb-true v most fine))))
-
-  pub size-read : (j k : Cursor) (r : ReadNumber) → j ≡ judged (n .cursor) (leb 1 (n .value)) 4 (c .at) → k ≡ judged j (leb (n .value) 32) 4 (c .at) → r ≡ settled k (n .value) → r ≡ numberBy size same s c
-  unfolding numberBy size after valueAfter v
-  size-read j k r e f q =
-      let moved : k ≡ stepAfter (number lineFeed) (λ x. unless (leb 1 x) outsideLimits (unless (leb x 32) outsideLimits none)) s c =
-      read-tested-twice (number lineFeed) s c n (capped v) (number-is lineFeed s c n is) outsideLimits outsideLimits (leb 1) (λ x. leb x 32) (leb 1 (n .value)) (leb (n .value) 32) j k
-      (λ o. ap (leb 1) (value-is o) ∙ least-capped v 1 (omega arith))
-      (λ o. ap (λ (x : ℕ). leb x 32) (value-is o) ∙ leb-capped v 32 (omega arith))
-      e f in
-      q ∙ ap (λ (x : Cursor). settled x (n .value)) moved
-      ∙ settled-same _ (n .value) v
-      (λ o.
-      let fine = unless-none (leb 1 v) outsideLimits (unless (leb v 32) outsideLimits none) (step-fine (number lineFeed) (λ x. unless (leb 1 x) outsideLimits (unless (leb x 32) outsideLimits none)) s c o) .1 in
-      let most : leb v 32 ≡ true = unless-none (leb v 32) outsideLimits none fine .0 in
-      value-is (step-field (number lineFeed) (λ x. unless (leb 1 x) outsideLimits (unless (leb x 32) outsideLimits none)) s c o) ∙ sym (capped-small v (omega (arith, leb-true v 32 most))))
-
 pub layer-read : (s : List ℕ) (c : Cursor) (n : ReadNumber) (j : Cursor) → n ≡ signedAfter lineFeed s c → j ≡ judged (n .cursor) (eqb (n .value) 1048577) 32 (c .at) → j ≡ layerAfter s c
 unfolding layerAfter
 layer-read s c n j is e =
     let v : Option ℕ = fieldValue (signed lineFeed) (drop (c .at) s) in
     read-tested (signed lineFeed) s c n (coded v) (signed-is lineFeed s c n is) unsupported isNone (eqb (n .value) 1048577) j
     (λ o. ap (λ (x : ℕ). eqb x 1048577) (read-value (signed lineFeed) s c n (coded v) (signed-is lineFeed s c n is) o) ∙ none-coded v) e
-
--- one element, then the others
-module _ {A : Type 0} (f : Format A) (s : List ℕ) where
-  pub each-none : (c : Cursor) → after (each f zero) s c ≡ c
-  unfolding each repeat after
-  each-none c = refl
-
-  pub each-more : (n : ℕ) (c : Cursor) → after (each f (suc n)) s c ≡ after (each f n) s (after f s c)
-  unfolding each repeat after
-  each-more n c = after-bind f _ s c ∙ after-bind (each f n) _ s (after f s c)
-
-  pub each-value : (n : ℕ) (c : Cursor) → valueAfter (each f (suc n)) s c ≡ valueAfter f s c ∷ valueAfter (each f n) s (after f s c)
-  unfolding each repeat valueAfter
-  each-value n c = value-bind f _ s c ∙ value-bind (each f n) _ s (after f s c)
-
-  pub each-length : (n : ℕ) (c : Cursor) → length (valueAfter (each f n) s c) ≡ n
-  unfolding each repeat valueAfter
-  each-length zero c = refl
-  each-length (suc n) c = ap length (each-value n c) ∙ ap suc (each-length n (after f s c))
-
--- a loop that counts down
-module _ {A : Type 0} (f : Format A) (s : List ℕ) (left : ℕ) (here whole : Cursor) (is : after (each f left) s here ≡ whole) where
-  pub each-end : left ≤ 0 → here ≡ whole
-  each-end h = let z : left ≡ 0 = omega arith in sym (each-none f s here) ∙ sym (ap (λ (n : ℕ). after (each f n) s here) z) ∙ is
-
-  pub each-next : (next : Cursor) → 0 < left → next ≡ after f s here → after (each f (left - 1)) s next ≡ whole
-  each-next next h e =
-      let more : suc (left - 1) ≡ left = omega arith in
-      ap (after (each f (left - 1)) s) e ∙ sym (each-more f s (left - 1) here) ∙ ap (λ (n : ℕ). after (each f n) s here) more ∙ is
-
-  -- what is left does not matter behind a refusal
-  pub each-refused : isOpen here ≡ false → here ≡ whole
-  each-refused e = sym (after-refused (each f left) s here e) ∙ is
 
 -- a number that was read, where it is: behind a refusal it does not matter
 pub after-settled : {A : Type 0} (F : ℕ → Format A) (s : List ℕ) (c : Cursor) (n : ℕ) (r : ReadNumber) → r ≡ settled c n → after (F (r .value)) s (r .cursor) ≡ after (F n) s c

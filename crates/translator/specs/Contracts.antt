@@ -19,7 +19,7 @@ use Rattle.translator.specs.Fields.{number, signed, digitsLength, numera
 use Rattle.translator.specs.Format.{unsupported, outOfRange, unless, Format, gives, field, isOpen, cursorRefused, fieldAfter, stepAfter, after, valueAfter}
 use Rattle.translator.specs.Sas.{Declaration, Started, Operator, Separator, blank, lineFeed, byteOf}
 use Rattle.translator.specs.Stated.{sizesOf, variablesOf, oldPairs, newPairs}
-use Rattle.translator.specs.Text.{any, each, layerFault, declaration, group, start, starts, variableFault, condition, conditions, effect, operator}
+use Rattle.translator.specs.Text.{any, each, layerFault, declaration, group, starts, variableFault, condition, conditions, effect, operator}
 use Rattle.translator.specs.Text as Text
 
 -- an offset of a text that is within the limit
@@ -119,11 +119,7 @@ pub record DeclarationsRead (s : List ℕ) (c : Cursor) (count : ℕ) (before : 
   pub cursor : r ≡ after (each declaration count) s c
   pub stored : isOpen r ≡ true → now ≡ placed before 0 (storedSizes (valueAfter (each declaration count) s c))
 
--- a start value, of any declaration of so many values
-abbrev pub StartRead : List ℕ → Cursor → ℕ → ReadNumber → Type 0
-StartRead s c size r = (d : Declaration) → sizeOf d ≡ size → r ≡ numberBy (start d) (λ v. v .start) s c
-
--- and start values, of any declarations that have the sizes
+-- start values, of any declarations that have the sizes
 pub record StartsStored (s : List ℕ) (c : Cursor) (declarations : List Declaration) (before : List ℕ) (r : Cursor) (now : List ℕ) : Type 0 where
   pub cursor : r ≡ after (starts declarations) s c
   pub stored : isOpen r ≡ true → now ≡ placed before 0 (storedStarts (valueAfter (starts declarations) s c))
@@ -175,7 +171,7 @@ pub record PairInside (s : List ℕ) (at : ℕ) (sizes : List ℕ) (variables : 
 pub record PairStored (s : List ℕ) (c : Cursor) (sizes given before : List ℕ) (base : ℕ) (r : Cursor) (now : List ℕ) : Type 0 where
   pub cursor : r ≡ after (condition sizes given) s c
   pub row : isOpen r ≡ true → now ≡ filled before base (valueAfter (condition sizes given) s c ∷ [])
-  pub given′ : isOpen r ≡ true → Given now now base (valueAfter (condition sizes given) s c .variable ∷ given)
+  pub gives : isOpen r ≡ true → Given now now base (valueAfter (condition sizes given) s c .variable ∷ given)
 
 abbrev pub PairRead : List ℕ → Cursor → List ℕ → ℕ → List ℕ → ℕ → Cursor → List ℕ → Type 0
 PairRead s c sizes variables before base r now =
@@ -185,7 +181,7 @@ PairRead s c sizes variables before base r now =
 pub record ListRead (s : List ℕ) (c : Cursor) (count : ℕ) (sizes : List ℕ) (variables : ℕ) (before : List ℕ) (base : ℕ) (r : Cursor) (now : List ℕ) : Type 0 where
   pub cursor : r ≡ after (conditions (take variables sizes) [] count) s c
   pub row : isOpen r ≡ true → now ≡ filled (cleared before base 64) base (valueAfter (conditions (take variables sizes) [] count) s c)
-  pub given′ : isOpen r ≡ true → Given now now base (variablesOf (valueAfter (conditions (take variables sizes) [] count) s c))
+  pub gives : isOpen r ≡ true → Given now now base (variablesOf (valueAfter (conditions (take variables sizes) [] count) s c))
 
 -- a cursor behind the count of an effect's conditions
 unfoldable pub plainAfter : List ℕ → Cursor → Cursor
@@ -218,7 +214,7 @@ pub record EffectStored (s : List ℕ) (c : Cursor) (sizes given conditions effe
   pub cursor : r ≡ after (effect sizes given) s c
   pub conditionsRow : isOpen r ≡ true → conditionsNow ≡ filled conditions base (oldPairs (valueAfter (effect sizes given) s c ∷ []))
   pub effectsRow : isOpen r ≡ true → effectsNow ≡ filled effects base (newPairs (valueAfter (effect sizes given) s c ∷ []))
-  pub given′ : isOpen r ≡ true → Given conditionsNow effectsNow base (valueAfter (effect sizes given) s c .variable ∷ given)
+  pub gives : isOpen r ≡ true → Given conditionsNow effectsNow base (valueAfter (effect sizes given) s c .variable ∷ given)
 
 pub record EffectRead (s : List ℕ) (c : Cursor) (sizes : List ℕ) (variables : ℕ) (conditions effects : List ℕ) (base : ℕ) (r : Cursor) (conditionsNow effectsNow : List ℕ) : Type 0 where
   pub inside : Inside s (r .at)

@@ -1,12 +1,13 @@
 // The variables of a text: their declarations, of which the domain sizes are stored, and their start
 // values.
 ghost use mathlib.Core.Path.{_≡_};
-ghost use Rattle.translator.specs.Contracts.{Inside, CountInside, same, sizeOf, numberBy, layerAfter, VariablesInside, DeclarationsRead, StartRead, StartsInside, StartsRead};
+ghost use Rattle.translator.specs.Contracts.{Inside, same, sizeOf, numberBy, layerAfter, VariablesInside, DeclarationsRead, StartsInside, StartsRead};
 ghost use Rattle.translator.specs.Format.{after};
 ghost use Rattle.translator.specs.Text.{nameLines, size, declaration};
 use crate::fields;
 use crate::fields::Cursor;
 use crate::fields::ReadNumber;
+use crate::lists;
 use files::limits;
 use files::outcomes;
 
@@ -83,18 +84,6 @@ pub fn declarations(s: &[u8], c: Cursor, count: usize, sizes: &mut [u8]) -> Curs
     here
 }
 
-// The start value of a variable of `size` values.
-fn start(s: &[u8], c: Cursor, size: usize) -> ReadNumber
-    requires { ⌜ CountInside (now s) (c .at) size ⌝ }
-    ensures { λ r. ⌜ StartRead (now (s .entry)) c size r ⌝ }
-{
-    let n = fields::number(s, c, fields::LINE_FEED);
-    let value = n.value;
-    let read = n.cursor;
-    let within = fields::judged(read, value < size, outcomes::OUT_OF_RANGE, c.at);
-    fields::settled(within, value)
-}
-
 // The start values of `count` variables.
 pub fn starts(s: &[u8], c: Cursor, count: usize, sizes: &[u8], starts: &mut [u8]) -> Cursor
     requires { ⌜ StartsInside (now s) (c .at) count (now sizes) (now starts) ⌝ }
@@ -103,7 +92,7 @@ pub fn starts(s: &[u8], c: Cursor, count: usize, sizes: &[u8], starts: &mut [u8]
     let mut here = c;
     let mut v: usize = 0;
     while v < count {
-        let one = start(s, here, sizes[v] as usize);
+        let one = lists::value(s, here, sizes[v] as usize);
         starts[v] = (one.value % 256) as u8;
         here = one.cursor;
         v += 1;

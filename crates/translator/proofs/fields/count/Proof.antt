@@ -1,7 +1,7 @@
 -- A number above the limit is refused at its place.
 use mathlib.Core.Path.{refl}
 use Rattle.translator.specs.Sas.{lineFeed}
-use Rattle.translator.proofs.VariableReading.{count-read}
+use Rattle.translator.proofs.CountReading.{count-read}
 use borrow.Author.Needs.{needs}
 use Rattle.translator.proofs.fields.count.Statement.{statement}
 use Rattle.translator.proofs.fields.count.Tie as tie

@@ -2,9 +2,10 @@
 use Prim.Native.Nat.{_-_}
 use denote.Ref.{now}
 use lib.ListN.{length}
-use Rattle.translator.proofs.NumberReading.{DigitsFrom, below-digits, above-digits, digit-between, digits-start, digits-end, digits-stop, digits-next}
+use Rattle.translator.proofs.NumberReading.{DigitsFrom, below-digits, above-digits, digits-start, digits-end, digits-stop, digits-next}
 use borrow.Author.Needs.{needs}
 use Rattle.translator.proofs.fields.digits.Statement.{statement}
+use Rattle.translator.proofs.NumeralLaws.{between-digit}
 use Rattle.translator.proofs.fields.digits.Tie as tie
 
 abbrev Inv-loop : tie.InvT-loop
@@ -41,7 +42,7 @@ loop-less : tie.Need-loop-less Inv-loop μ-loop
 loop-less c = search needs
 
 loop-again : tie.Need-loop-again Inv-loop μ-loop
-loop-again c = digits-next _ _ _ _ (c .before .before .before .before .before .loop .inv) _ (c .before .before .before .before .loop-test .taken) (digit-between _ (c .before .before .if1 .left) (c .before .if2 .left)) (c .next-value .ensures)
+loop-again c = digits-next _ _ _ _ (c .before .before .before .before .before .loop .inv) _ (c .before .before .before .before .loop-test .taken) (between-digit _ (c .before .before .if1 .left) (c .before .if2 .left)) (c .next-value .ensures)
 
 sub-t12 : tie.Need-sub-t12 Inv-loop μ-loop
 sub-t12 c = search needs

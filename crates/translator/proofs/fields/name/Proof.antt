@@ -1,6 +1,6 @@
 -- The line feed behind the line.
 use denote.Ref.{now}
-use Rattle.translator.proofs.CursorLaws.{line-within, field-refused, name-open}
+use Rattle.translator.proofs.CursorLaws.{line-reaches, field-refused, name-open}
 use borrow.Author.Needs.{needs}
 use Rattle.translator.proofs.fields.name.Statement.{statement}
 use Rattle.translator.proofs.fields.name.Tie as tie
@@ -15,7 +15,7 @@ byte-due-requires : tie.Need-byte-due-requires
 byte-due-requires c κs = search needs
 
 add-reached : tie.Need-add-reached
-add-reached c = let within = line-within (now (c .before .before .before .before .before .before .args .s)) (c .before .before .before .before .before .before .args .c .at) (c .before .before .before .before .before .before .pre .within) in search needs
+add-reached c = let within = line-reaches (now (c .before .before .before .before .before .before .args .s)) (c .before .before .before .before .before .before .args .c .at) (c .before .before .before .before .before .before .pre .within) in search needs
 
 reached-requires : tie.Need-reached-requires
 reached-requires c κs = search needs

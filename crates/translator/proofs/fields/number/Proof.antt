@@ -1,6 +1,6 @@
 -- The digits, then the separator.
 use denote.Ref.{now}
-use Rattle.translator.proofs.NumberReading.{numeral-within, numeral-count, number-refused, number-open}
+use Rattle.translator.proofs.NumberReading.{numeral-reaches, numeral-count, number-refused, number-open}
 use borrow.Author.Needs.{needs}
 use Rattle.translator.proofs.fields.number.Statement.{statement}
 use Rattle.translator.proofs.fields.number.Tie as tie
@@ -18,10 +18,10 @@ numeral-due-requires : tie.Need-numeral-due-requires
 numeral-due-requires c κs = let count = numeral-count _ _ (c .numeral .ensures) in record { inside = c .before .before .before .before .before .pre; counted = count }
 
 add-reached : tie.Need-add-reached
-add-reached c = let count = numeral-count _ _ (c .before .before .before .numeral .ensures) in let within = numeral-within (now (c .before .before .before .before .before .before .before .before .args .s)) (c .before .before .before .before .before .before .before .before .args .c .at) _ (c .before .before .before .before .before .before .before .before .pre .within) count in search needs
+add-reached c = let count = numeral-count _ _ (c .before .before .before .numeral .ensures) in let within = numeral-reaches (now (c .before .before .before .before .before .before .before .before .args .s)) (c .before .before .before .before .before .before .before .before .args .c .at) _ (c .before .before .before .before .before .before .before .before .pre .within) count in search needs
 
 add-reached-2 : tie.Need-add-reached-2
-add-reached-2 c = let count = numeral-count _ _ (c .before .before .before .numeral .ensures) in let within = numeral-within (now (c .before .before .before .before .before .before .before .before .args .s)) (c .before .before .before .before .before .before .before .before .args .c .at) _ (c .before .before .before .before .before .before .before .before .pre .within) count in search needs
+add-reached-2 c = let count = numeral-count _ _ (c .before .before .before .numeral .ensures) in let within = numeral-reaches (now (c .before .before .before .before .before .before .before .before .args .s)) (c .before .before .before .before .before .before .before .before .args .c .at) _ (c .before .before .before .before .before .before .before .before .pre .within) count in search needs
 
 reached-requires : tie.Need-reached-requires
 reached-requires c κs = search needs

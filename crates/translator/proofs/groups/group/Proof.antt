@@ -2,8 +2,8 @@
 use mathlib.Core.Path.{refl}
 use Rattle.digits.specs.Decimal.{ascii}
 use Rattle.translator.specs.Sas.{lineFeed}
-use Rattle.translator.proofs.VariableReading.{inside, after-inside, field-inside}
-use Rattle.translator.proofs.GroupReading.{number-stands, group-read}
+use Rattle.translator.proofs.VariableReading.{inside, after-inside, field-inside, read-inside}
+use Rattle.translator.proofs.GroupReading.{group-read}
 use borrow.Author.Needs.{needs}
 use Rattle.translator.proofs.groups.group.Statement.{statement}
 use Rattle.translator.proofs.groups.group.Tie as tie
@@ -18,13 +18,13 @@ number-requires : tie.Need-number-requires
 number-requires c κs = search (needs, inside)
 
 pairs-requires : tie.Need-pairs-requires
-pairs-requires c κs = number-stands lineFeed _ _ _ (field-inside _ _ _ _ (c .before .before .before .before .pre) (c .before .word .ensures)) (c .number .ensures lineFeed refl)
+pairs-requires c κs = read-inside lineFeed _ _ _ (field-inside _ _ _ _ (c .before .before .before .before .pre) (c .before .word .ensures)) (c .number .ensures lineFeed refl)
 
 slice-aggregate-word-2 : tie.Need-slice-aggregate-word-2
 slice-aggregate-word-2 c = search needs
 
 word-requires-2 : tie.Need-word-requires-2
-word-requires-2 c κs = let read = after-inside _ _ _ _ (number-stands lineFeed _ _ _ (field-inside _ _ _ _ (c .before .before .before .before .before .before .pre) (c .before .before .before .word .ensures)) (c .before .before .number .ensures lineFeed refl)) (c .before .pairs .ensures) in search (needs, read)
+word-requires-2 c κs = let read = after-inside _ _ _ _ (read-inside lineFeed _ _ _ (field-inside _ _ _ _ (c .before .before .before .before .before .before .pre) (c .before .before .before .word .ensures)) (c .before .before .number .ensures lineFeed refl)) (c .before .pairs .ensures) in search (needs, read)
 
 returns : tie.Need-returns
 unfolding ascii

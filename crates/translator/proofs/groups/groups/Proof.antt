@@ -1,7 +1,8 @@
 -- A number, then as many groups.
 use mathlib.Core.Path.{refl}
 use Rattle.translator.specs.Sas.{lineFeed}
-use Rattle.translator.proofs.GroupReading.{number-stands, groups-read}
+use Rattle.translator.proofs.VariableReading.{read-inside}
+use Rattle.translator.proofs.GroupReading.{groups-read}
 use borrow.Author.Needs.{needs}
 use Rattle.translator.proofs.groups.groups.Statement.{statement}
 use Rattle.translator.proofs.groups.groups.Tie as tie
@@ -10,7 +11,7 @@ number-requires : tie.Need-number-requires
 number-requires c κs = search needs
 
 groups-of-requires : tie.Need-groups-of-requires
-groups-of-requires c κs = number-stands lineFeed _ _ _ (c .before .before .pre) (c .number .ensures lineFeed refl)
+groups-of-requires c κs = read-inside lineFeed _ _ _ (c .before .before .pre) (c .number .ensures lineFeed refl)
 
 returns : tie.Need-returns
 returns c = groups-read _ _ _ _ (c .before .before .before .pre) (c .before .number .ensures lineFeed refl) (c .groups-of .ensures)

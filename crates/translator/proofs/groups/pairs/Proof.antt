@@ -4,10 +4,10 @@ use Rattle.translator.specs.Contracts.{Inside}
 use Rattle.translator.specs.Format.{after}
 use Rattle.translator.specs.Sas.{lineFeed}
 use Rattle.translator.specs.Text.{each, freePair}
-use Rattle.translator.proofs.VariableReading.{after-inside, each-next, each-end}
-use Rattle.translator.proofs.GroupReading.{each-stops}
+use Rattle.translator.proofs.VariableReading.{after-inside}
 use borrow.Author.Needs.{needs}
 use Rattle.translator.proofs.groups.pairs.Statement.{statement}
+use Rattle.translator.proofs.RepeatReading.{each-next, each-end, each-stops}
 use Rattle.translator.proofs.groups.pairs.Tie as tie
 
 abbrev Inv-loop : tie.InvT-loop

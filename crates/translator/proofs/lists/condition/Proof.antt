@@ -1,7 +1,7 @@
 -- The variable, then a value of it; then both are stored.
 use native.Mathlib.Omega.{arith}
 use denote.Ref.{now}
-use lib.ListN.{length, take}
+use lib.ListN.{take}
 use lib.Seq.{length-take-le}
 use Rattle.translator.proofs.ListReading.{pair-stored}
 use borrow.Author.Needs.{needs}

@@ -1,7 +1,6 @@
 -- The pairs that are left make of the row what all make of it.
 use mathlib.Core.Path.{_≡_, refl}
 use mathlib.Core.List.{[]}
-use native.Mathlib.Omega.{arith}
 use denote.Ref.{now}
 use lib.ListN.{length, take}
 use Rattle.translator.specs.Contracts.{Inside}

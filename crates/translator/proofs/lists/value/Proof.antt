@@ -1,7 +1,7 @@
 -- A value that its variable does not have is refused at its place.
 use mathlib.Core.Path.{refl}
 use Rattle.translator.specs.Sas.{lineFeed}
-use Rattle.translator.proofs.RowReading.{value-read}
+use Rattle.translator.proofs.CountReading.{value-read}
 use borrow.Author.Needs.{needs}
 use Rattle.translator.proofs.lists.value.Statement.{statement}
 use Rattle.translator.proofs.lists.value.Tie as tie
@@ -16,7 +16,7 @@ settled-requires : tie.Need-settled-requires
 settled-requires c κs = search needs
 
 returns : tie.Need-returns
-returns c = value-read _ _ _ _ _ _ (c .before .before .before .number .ensures lineFeed refl) (c .before .before .before .before .before .pre .low) (c .before .judged .ensures) (c .settled .ensures)
+returns c = value-read _ _ _ (c .before .before .before .number .ensures lineFeed refl) _ _ _ (c .before .before .before .before .before .pre .low) (c .before .judged .ensures) (c .settled .ensures)
 
 pub value-spec : {M : Type 1} → statement M
 value-spec = tie.close (tie.spec number-requires judged-requires settled-requires returns)

@@ -1,7 +1,7 @@
 -- At least one value, and at most 32.
 use mathlib.Core.Path.{refl}
 use Rattle.translator.specs.Sas.{lineFeed}
-use Rattle.translator.proofs.VariableReading.{size-read}
+use Rattle.translator.proofs.CountReading.{size-read}
 use borrow.Author.Needs.{needs}
 use Rattle.translator.proofs.variables.size.Statement.{statement}
 use Rattle.translator.proofs.variables.size.Tie as tie

@@ -15,14 +15,14 @@ abbrev μ-loop : tie.MeasureT-loop
 loop-holds : tie.Need-loop-holds Inv-loop μ-loop
 loop-holds c = starts-start _ _ _ _ _ (c .before .before .before .pre .inside .inside)
 
-shared-slice-read-start : tie.Need-shared-slice-read-start Inv-loop μ-loop
-shared-slice-read-start c = search needs
+shared-slice-read-value : tie.Need-shared-slice-read-value Inv-loop μ-loop
+shared-slice-read-value c = search needs
 
-cast-start : tie.Need-cast-start Inv-loop μ-loop
-cast-start c = omega (arith, c .before .before .before .before .shared-slice-known2 .given (c .before .before .loop .v))
+cast-value : tie.Need-cast-value Inv-loop μ-loop
+cast-value c = omega (arith, c .before .before .before .before .shared-slice-known2 .given (c .before .before .loop .v))
 
-start-requires : tie.Need-start-requires Inv-loop μ-loop
-start-requires c κs = record { inside = c .before .before .loop .inv .1; low = omega (arith, c .before .before .before .before .shared-slice-known2 .given (c .before .before .loop .v)) }
+value-requires : tie.Need-value-requires Inv-loop μ-loop
+value-requires c κs = record { inside = c .before .before .loop .inv .1; low = omega (arith, c .before .before .before .before .shared-slice-known2 .given (c .before .before .loop .v)) }
 
 cast-starts : tie.Need-cast-starts Inv-loop μ-loop
 cast-starts c = search needs
@@ -37,7 +37,7 @@ loop-less : tie.Need-loop-less Inv-loop μ-loop
 loop-less c = search needs
 
 loop-again : tie.Need-loop-again Inv-loop μ-loop
-loop-again c = starts-next _ _ _ _ _ _ _ _ (omega (arith, c .before .before .before .before .before .before .before .before .before .pre .sizesRoom, c .before .before .before .before .before .before .before .before .before .pre .inside .few)) (c .before .before .before .before .before .loop .inv) _ (c .before .before .before .before .loop-test .taken) (c .before .before .start .ensures)
+loop-again c = starts-next _ _ _ _ _ _ _ _ (omega (arith, c .before .before .before .before .before .before .before .before .before .pre .sizesRoom, c .before .before .before .before .before .before .before .before .before .pre .inside .few)) (c .before .before .before .before .before .loop .inv) _ (c .before .before .before .before .loop-test .taken) (c .before .before .value .ensures)
 
 same-length : tie.Need-same-length Inv-loop μ-loop
 same-length c = search needs
@@ -52,9 +52,9 @@ starts-spec =
     Inv-loop
     μ-loop
     loop-holds
-    shared-slice-read-start
-    cast-start
-    start-requires
+    shared-slice-read-value
+    cast-value
+    value-requires
     cast-starts
     slice-write-starts
     add-v

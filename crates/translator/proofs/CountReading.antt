@@ -1,0 +1,51 @@
+-- Counts, sizes and values, from the code's own tests: a number that passes them is the one that the text has.
+use Prim.Native.Nat.{ℕ, _<_}
+use mathlib.Core.Path.{_≡_, sym, ap, _∙_}
+use mathlib.Core.Bool.{true}
+use mathlib.Core.List.{List}
+use mathlib.Core.Option.{none}
+use native.Mathlib.Omega.{arith}
+use lib.Dec.{leb, ltb}
+use lib.ListN.{drop}
+use borrow.Author.Tests.{leb-true, ltb-true}
+use Rattle.translator.specs.declared.fields.Cursor.{Cursor}
+use Rattle.translator.specs.declared.fields.ReadNumber.{ReadNumber}
+use Rattle.translator.specs.Contracts.{capped, settled, numberAfter, judged, numberBy, same, valueBelow}
+use Rattle.translator.specs.Fields.{number, fieldValue}
+use Rattle.translator.specs.Format.{outsideLimits, outOfRange, unless, isOpen, fieldAfter}
+use Rattle.translator.specs.Sas.{lineFeed}
+use Rattle.translator.specs.Text.{count, size}
+use Rattle.translator.proofs.NumberReading.{capped-small}
+use Rattle.translator.proofs.StepReading.{leb-capped, ltb-capped, least-capped, unless-none, number-is, read-value, read-tested-twice, read-fine, read-settled}
+
+module _ (s : List ℕ) (c : Cursor) (n : ReadNumber) (is : n ≡ numberAfter lineFeed s c) where
+  v : ℕ
+  v = fieldValue (number lineFeed) (drop (c .at) s)
+
+  value-is : isOpen (fieldAfter (number lineFeed) s c) ≡ true → n .value ≡ capped v
+  unfolding v
+  value-is = read-value (number lineFeed) s c n (capped v) (number-is lineFeed s c n is)
+
+  pub count-read : (most : ℕ) (j : Cursor) (r : ReadNumber) → most < 1048576 → j ≡ judged (n .cursor) (leb (n .value) most) 4 (c .at) → r ≡ settled j (n .value) → r ≡ numberBy (count most) same s c
+  unfolding count v
+  count-read most j r h =
+      read-settled (number lineFeed) s c n capped (number-is lineFeed s c n is) outsideLimits (λ x. leb x most) same (leb (n .value) most) j r
+      (λ o. ap (λ (x : ℕ). leb x most) (value-is o) ∙ leb-capped v most h)
+      (λ t. sym (capped-small v (omega (arith, leb-true v most t))))
+
+  pub value-read : (most : ℕ) (j : Cursor) (r : ReadNumber) → most < 1048576 → j ≡ judged (n .cursor) (ltb (n .value) most) 5 (c .at) → r ≡ settled j (n .value) → r ≡ numberBy (valueBelow most) same s c
+  unfolding v
+  value-read most j r h =
+      read-settled (number lineFeed) s c n capped (number-is lineFeed s c n is) outOfRange (λ x. ltb x most) same (ltb (n .value) most) j r
+      (λ o. ap (λ (x : ℕ). ltb x most) (value-is o) ∙ ltb-capped v most (omega arith))
+      (λ t. sym (capped-small v (omega (arith, ltb-true v most t))))
+
+  pub size-read : (j k : Cursor) (r : ReadNumber) → j ≡ judged (n .cursor) (leb 1 (n .value)) 4 (c .at) → k ≡ judged j (leb (n .value) 32) 4 (c .at) → r ≡ settled k (n .value) → r ≡ numberBy size same s c
+  unfolding size v
+  size-read j k r e f =
+      read-fine (number lineFeed) s c n capped (number-is lineFeed s c n is) (λ x. unless (leb 1 x) outsideLimits (unless (leb x 32) outsideLimits none)) same k r
+      (λ o. let most : leb v 32 ≡ true = unless-none (leb v 32) outsideLimits none (unless-none (leb 1 v) outsideLimits (unless (leb v 32) outsideLimits none) o .1) .0 in sym (capped-small v (omega (arith, leb-true v 32 most))))
+      (read-tested-twice (number lineFeed) s c n (capped v) (number-is lineFeed s c n is) outsideLimits outsideLimits (leb 1) (λ x. leb x 32) (leb 1 (n .value)) (leb (n .value) 32) j k
+      (λ o. ap (leb 1) (value-is o) ∙ least-capped v 1 (omega arith))
+      (λ o. ap (λ (x : ℕ). leb x 32) (value-is o) ∙ leb-capped v 32 (omega arith))
+      e f)
