@@ -45,5 +45,6 @@ pub mod EffectReading
 pub mod EffectsReading
 pub mod OperatorReading
 pub mod OperatorsReading
+pub mod FrontReading
 pub mod Computes
 pub mod Examples

@@ -21,8 +21,8 @@ use Rattle.translator.specs.Sas.{Effect, Operator, lineFeed}
 use Rattle.translator.specs.Stated.{variablesOf, oldPairs, newPairs}
 use Rattle.translator.specs.Text.{says, count, conditions, effects, operator}
 use Rattle.translator.proofs.ReadingLaws.{after-bind, value-bind, open-before}
-use Rattle.translator.proofs.StepReading.{step-fine, unless-none}
-use Rattle.translator.proofs.VariableReading.{field-before, settled-value, after-settled}
+use Rattle.translator.proofs.StepReading.{settled-value, step-fine, unless-none}
+use Rattle.translator.proofs.VariableReading.{field-before, after-settled}
 
 pub cost-one : (metric cost : ℕ) → metric ≡ 0 → 1 ≡ costBy metric cost
 unfolding costBy
@@ -130,7 +130,7 @@ module _ (s : List ℕ) (c begun named : Cursor) (asked : ReadNumber) (prevail :
   unfolding sz settled
   given o v =
       let open′ : isOpen C₂ ≡ true = C₂-open (sym (ap (λ (r : ReadNumber). isOpen (r .cursor)) setting-is) ∙ o) in
-      subst (λ (l : List Pair). Given conditions₁ conditions₁ base (variablesOf l)) (listed open′) (e₄ .given′ (ap isOpen prevail-is ∙ open′)) v
+      subst (λ (l : List Pair). Given conditions₁ conditions₁ base (variablesOf l)) (listed open′) (e₄ .gives (ap isOpen prevail-is ∙ open′)) v
 
   stored : EffectsStored s (setting .cursor) (setting .value) sz (variablesOf ps) conditions₁ effects₀ base changed conditions₂ effects₂
   unfolding sz

@@ -12,7 +12,7 @@ use Rattle.translator.specs.Format.{repeat, isOpen, after, valueAfter}
 use Rattle.translator.specs.Sas.{Operator}
 use Rattle.translator.specs.Text.{each, operator}
 use Rattle.translator.proofs.ReadingLaws.{open-before}
-use Rattle.translator.proofs.VariableReading.{each-more, each-value}
+use Rattle.translator.proofs.RepeatReading.{each-more, each-value}
 
 module _ (s : List ℕ) (c : Cursor) (count : ℕ) (sizes : List ℕ) (metric : ℕ) (costs₀ conditions₀ effects₀ : List ℕ) where
   -- what is left from action a on

@@ -1,21 +1,23 @@
 -- Lists of which a number of each element is stored, from the code's own steps: declarations with their sizes, and start values.
 use Prim.Native.Nat.{ℕ, suc, _+_, _-_, _%_, _≤_, _<_}
 use mathlib.Core.Path.{_≡_, refl, sym, ap, ap₂, _∙_}
-use mathlib.Core.Bool.{true}
+use mathlib.Core.Bool.{true, false}
 use mathlib.Core.List.{List, [], _∷_, map}
 use mathlib.Core.Option.{none}
 use native.Mathlib.Omega.{arith}
 use lib.ListN.{length, getD, take, drop, set, length-map, length-set, drop-of-length-le, List·getD-map}
 use lib.Seq.{length-take-le, drop-cons, getD-take}
 use Rattle.files.specs.Bytes.{placed}
+use Rattle.files.proofs.Logic.{clash, split}
 use Rattle.translator.specs.declared.fields.Cursor.{Cursor}
 use Rattle.translator.specs.declared.fields.ReadNumber.{ReadNumber}
-use Rattle.translator.specs.Contracts.{Inside, settled, numberBy, same, sizeOf, valueBelow, DeclarationsRead, StartsRead}
+use Rattle.translator.specs.Contracts.{Inside, settled, numberBy, same, sizeOf, valueBelow, DeclarationsRead, StartsStored, StartsRead}
 use Rattle.translator.specs.Format.{Format, gives, isOpen, after, valueAfter}
 use Rattle.translator.specs.Sas.{Declaration}
 use Rattle.translator.specs.Stated.{sizesOf}
 use Rattle.translator.specs.Text.{each, declaration, start, starts}
-use Rattle.translator.proofs.ReadingLaws.{open-before}
+use Rattle.translator.proofs.ReadingLaws.{after-refused, open-before}
+use Rattle.translator.proofs.ListReading.{number-cursor}
 use Rattle.translator.proofs.VariableReading.{number-inside}
 use Rattle.translator.proofs.RepeatReading.{first, first-after, first-value, each-empty, each-first}
 use Rattle.translator.proofs.StepReading.{settled-value}
@@ -128,9 +130,10 @@ StartsFrom s c count sizes before here v cells =
     × Inside s (here .at)
     × (length cells ≡ length before)
     × (v ≤ count)
+    × (isOpen c ≡ false → here ≡ c)
 
 pub starts-start : (s : List ℕ) (c : Cursor) (count : ℕ) (sizes before : List ℕ) → Inside s (c .at) → StartsFrom s c count sizes before c 0 before
-starts-start s c count sizes before h = (λ ds e. storing-begin (λ x. x .start) s (starts ds) c before _ refl, h, refl, omega arith)
+starts-start s c count sizes before h = (λ ds e. storing-begin (λ x. x .start) s (starts ds) c before _ refl, h, refl, omega arith, λ o. refl)
 
 module _ (s : List ℕ) (c : Cursor) (count : ℕ) (sizes before : List ℕ) (here : Cursor) (v : ℕ) (cells : List ℕ) (room : count ≤ length sizes) (inv : StartsFrom s c count sizes before here v cells) where
   pub starts-next : (one : ReadNumber) → v < count → one ≡ numberBy (valueBelow (getD sizes v 0)) same s here → StartsFrom s c count sizes before (one .cursor) (v + 1) (set cells v (one .value % 256))
@@ -143,13 +146,24 @@ module _ (s : List ℕ) (c : Cursor) (count : ℕ) (sizes before : List ℕ) (he
     number-inside (valueBelow (getD sizes v 0)) same s here one (inv .1) q,
     length-set cells v (one .value % 256) ∙ inv .2,
     omega arith,
+    λ o. number-cursor (valueBelow (getD sizes v 0)) same s here one q ∙ after-refused (valueBelow (getD sizes v 0)) s here (ap isOpen (inv .4 o) ∙ o) ∙ inv .4 o,
   )
 
-  pub starts-end : count ≤ v → StartsRead s c count sizes before here cells
-  starts-end h ds e =
+  starts-stored : count ≤ v → (ds : List Declaration) → sizesOf ds ≡ take count sizes → StartsStored s c ds before here cells
+  starts-stored h ds e =
       let short : length ds ≤ v = omega (arith, declared-count ds count sizes e room) in
       let none-left : starts (drop v ds) ≡ gives [] = starts-empty (drop v ds) (drop-of-length-le ds short) in
       record {
         cursor = storing-cursor (λ x. x .start) s (starts ds) c before _ here v cells (inv .0 ds e) none-left;
         stored = storing-cells (λ x. x .start) s (starts ds) c before _ here v cells (inv .0 ds e) none-left;
+      }
+
+  pub starts-end : count ≤ v → StartsRead s c count sizes before here cells
+  starts-end h =
+      record {
+        inside = inv .1;
+        is = λ ds e.
+            split (isOpen c)
+            (λ o. starts-stored h ds (e o))
+            (λ o. record { cursor = inv .4 o ∙ sym (after-refused (starts ds) s c o); stored = λ q. clash q (ap isOpen (inv .4 o) ∙ o) });
       }

@@ -124,8 +124,9 @@ pub record StartsStored (s : List ℕ) (c : Cursor) (declarations : List Declara
   pub cursor : r ≡ after (starts declarations) s c
   pub stored : isOpen r ≡ true → now ≡ placed before 0 (storedStarts (valueAfter (starts declarations) s c))
 
-abbrev pub StartsRead : List ℕ → Cursor → ℕ → List ℕ → List ℕ → Cursor → List ℕ → Type 0
-StartsRead s c count sizes before r now = (declarations : List Declaration) → sizesOf declarations ≡ take count sizes → StartsStored s c declarations before r now
+pub record StartsRead (s : List ℕ) (c : Cursor) (count : ℕ) (sizes before : List ℕ) (r : Cursor) (now : List ℕ) : Type 0 where
+  pub inside : Inside s (r .at)
+  pub is : (declarations : List Declaration) → (isOpen c ≡ true → sizesOf declarations ≡ take count sizes) → StartsStored s c declarations before r now
 
 -- a cursor behind the mutex groups
 unfoldable pub groupsAfter : List ℕ → Cursor → Cursor
