@@ -24,7 +24,6 @@ pub mod VariableReading
 pub mod RowReading
 pub mod GroupReading
 pub mod StartReading
-pub mod Right
 pub mod PrintsLaws
 pub mod ListPrints
 pub mod PartPrints
@@ -39,6 +38,10 @@ pub mod StatedHeld
 pub mod OrderedMeans
 pub mod StatedShorter
 pub mod StatedLaws
+pub mod Right
+pub mod Answers
+pub mod CallLaws
+pub mod FilesRight
 pub mod ListReading
 pub mod ConditionsReading
 pub mod EffectReading

@@ -2,12 +2,12 @@
 use Prim.Native.Nat.{ℕ, _+_, _≤_}
 use mathlib.Core.Path.{_≡_, refl, ap, _∙_}
 use mathlib.Core.Bool.{true}
-use mathlib.Core.List.{List, [], _∷_, map}
+use mathlib.Core.List.{List}
 use mathlib.Core.Option.{Option}
 use native.Mathlib.Omega.{arith}
 use lib.ListN.{length, drop, length-drop}
 use borrow.Author.Tests.{le-leb}
-use Rattle.files.specs.Listed.{Refusal, listed, inFile}
+use Rattle.files.specs.Listed.{listed}
 use Rattle.files.specs.Listed as files
 use Rattle.files.specs.Outcome.{done, refusal, isDone}
 use Rattle.files.proofs.Listed.{listed-done}
@@ -15,14 +15,11 @@ use Rattle.files.proofs.Logic.{split}
 use Rattle.translator.specs.declared.fields.Cursor.{Cursor}
 use Rattle.translator.specs.Fields.{Field, Value}
 use Rattle.translator.specs.Format.{Fault, unsupported, givenTwice, outsideLimits, outOfRange, faultNumber, Format, gives, field, cursorAt, isOpen, fieldAfter, stepAfter, after}
+use Rattle.translator.specs.Translate.{textRefusals}
 use Rattle.translator.proofs.Written.{written, FieldRight}
 use Rattle.translator.proofs.ReadingLaws.{after-refused}
 use Rattle.translator.proofs.ReadingSteps.{after-stopped, after-fine, after-fault, field-cases}
 use Rattle.translator.proofs.ReadingTraces.{behind-within}
-
--- the refusals of a text
-abbrev pub textRefusals : List ℕ → List Refusal
-textRefusals s = map (inFile 0 (length s)) (4 ∷ 5 ∷ 31 ∷ 32 ∷ 33 ∷ [])
 
 pub stop-listed : (s : List ℕ) (place : ℕ) → place ≤ length s → listed (textRefusals s) (refusal 31 place) ≡ true
 unfolding listed isDone files.gives
