@@ -67,10 +67,14 @@ module _ {A : Type 0} (f : Format A) where
     unfolding each
     each-more n c = repeat-more (λ state. f) (λ state a. state) s tt n c
 
+    pub each-value : (n : ℕ) (c : Cursor) → valueAfter (each f (suc n)) s c ≡ valueAfter f s c ∷ valueAfter (each f n) s (after f s c)
+    unfolding each
+    each-value n c = repeat-value (λ state. f) (λ state a. state) s tt n c
+
     pub each-length : (n : ℕ) (c : Cursor) → length (valueAfter (each f n) s c) ≡ n
     unfolding each repeat valueAfter
     each-length zero c = refl
-    each-length (suc n) c = ap length (repeat-value (λ state. f) (λ state a. state) s tt n c) ∙ ap suc (each-length n (after f s c))
+    each-length (suc n) c = ap length (each-value n c) ∙ ap suc (each-length n (after f s c))
 
 -- a loop that counts down
 module _ {A : Type 0} (f : Format A) (s : List ℕ) (left : ℕ) (here whole : Cursor) (is : after (each f left) s here ≡ whole) where
