@@ -1,5 +1,5 @@
 -- The loop over a list of pairs: what is left to be read and stored makes of the row what all pairs make of it.
-use Prim.Native.Nat.{ℕ, suc, _+_, _-_, _≤_, _<_}
+use Prim.Native.Nat.{ℕ, _+_, _-_, _≤_, _<_}
 use mathlib.Core.Path.{_≡_, refl, sym, ap, ap₂, _∙_}
 use mathlib.Core.Bool.{Bool, true, false, not, _||_}
 use mathlib.Core.List.{List, [], _∷_}
@@ -19,6 +19,7 @@ use Rattle.translator.specs.Text.{condition, conditions}
 use Rattle.translator.proofs.OrderLaws.{none-some}
 use Rattle.translator.proofs.RowsInOrder.{filled-cell}
 use Rattle.translator.proofs.ReadingLaws.{open-before}
+use Rattle.translator.proofs.RepeatReading.{repeat-next, repeat-others}
 pub use Rattle.translator.proofs.RepeatReading.{repeat-more, repeat-value}
 
 -- a row that is cleared gives no variable
@@ -62,16 +63,10 @@ module _ (s sizes : List ℕ) (base : ℕ) (whole : Cursor) (pairs : List Pair) 
       let given : List ℕ = inv .given in
       let p : Pair = valueAfter (condition sizes given) s here in
       let one : PairStored s here sizes given row base next now = q given (inv .cells) in
-      let more : left ≡ suc (left - 1) = omega arith in
       let moved : after (conditions sizes (p .variable ∷ given) (left - 1)) s next ≡ whole =
-      ap (after (conditions sizes (p .variable ∷ given) (left - 1)) s) (one .cursor)
-      ∙ sym (repeat-more (condition sizes) (λ given p. p .variable ∷ given) s given (left - 1) here)
-      ∙ sym (ap (λ (n : ℕ). after (conditions sizes given n) s here) more)
-      ∙ inv .cursor in
+      repeat-next (condition sizes) (λ given p. p .variable ∷ given) s given left here next h (one .cursor) ∙ inv .cursor in
       let others : valueAfter (conditions sizes given left) s here ≡ p ∷ valueAfter (conditions sizes (p .variable ∷ given) (left - 1)) s next =
-      ap (λ (n : ℕ). valueAfter (conditions sizes given n) s here) more
-      ∙ repeat-value (condition sizes) (λ given p. p .variable ∷ given) s given (left - 1) here
-      ∙ sym (ap (λ (x : Cursor). p ∷ valueAfter (conditions sizes (p .variable ∷ given) (left - 1)) s x) (one .cursor)) in
+      repeat-others (condition sizes) (λ given p. p .variable ∷ given) s given left here next h (one .cursor) in
       record {
         given = p .variable ∷ given;
         cursor = moved;

@@ -35,6 +35,23 @@ module _ {S A : Type 0} (item : S → Format A) (onward : S → A → S) (s : Li
   unfolding repeat
   repeat-value n c = first-value (item state) (λ a. repeat item onward (onward state a) n) s c
 
+-- as many as are left, behind one more
+module _ {S A : Type 0} (item : S → Format A) (onward : S → A → S) (s : List ℕ) (state : S) (left : ℕ) (here next : Cursor) (some : 0 < left) (moved : next ≡ after (item state) s here) where
+  more : left ≡ suc (left - 1)
+  more = omega arith
+
+  pub repeat-next : after (repeat item onward (onward state (valueAfter (item state) s here)) (left - 1)) s next ≡ after (repeat item onward state left) s here
+  repeat-next =
+      ap (after (repeat item onward (onward state (valueAfter (item state) s here)) (left - 1)) s) moved
+      ∙ sym (repeat-more item onward s state (left - 1) here)
+      ∙ sym (ap (λ (n : ℕ). after (repeat item onward state n) s here) more)
+
+  pub repeat-others : valueAfter (repeat item onward state left) s here ≡ valueAfter (item state) s here ∷ valueAfter (repeat item onward (onward state (valueAfter (item state) s here)) (left - 1)) s next
+  repeat-others =
+      ap (λ (n : ℕ). valueAfter (repeat item onward state n) s here) more
+      ∙ repeat-value item onward s state (left - 1) here
+      ∙ sym (ap (λ (c : Cursor). valueAfter (item state) s here ∷ valueAfter (repeat item onward (onward state (valueAfter (item state) s here)) (left - 1)) s c) moved)
+
 -- elements of one format
 module _ {A : Type 0} (f : Format A) where
   pub each-empty : (n : ℕ) → n ≡ 0 → each f n ≡ gives []
@@ -66,9 +83,8 @@ module _ {A : Type 0} (f : Format A) (s : List ℕ) (left : ℕ) (here whole : C
   each-end h = sym (ap (λ (x : Format (List A)). after x s here) (each-empty f left (omega arith))) ∙ is
 
   pub each-next : (next : Cursor) → 0 < left → next ≡ after f s here → after (each f (left - 1)) s next ≡ whole
-  each-next next h e =
-      let more : suc (left - 1) ≡ left = omega arith in
-      ap (after (each f (left - 1)) s) e ∙ sym (each-more f s (left - 1) here) ∙ ap (λ (n : ℕ). after (each f n) s here) more ∙ is
+  unfolding each
+  each-next next h e = repeat-next (λ state. f) (λ state a. state) s tt left here next h e ∙ is
 
   -- what is left does not matter behind a refusal
   each-refused : isOpen here ≡ false → here ≡ whole

@@ -1,4 +1,4 @@
--- Rows while pairs are stored in them: which variables have a pair, and numbers that name a variable or a value.
+-- Rows while pairs are stored in them: which variables have a pair, and numbers that name a variable.
 use Prim.Native.Nat.{ℕ, _+_, _%_, _≤_, _<_}
 use mathlib.Core.Path.{_≡_, refl, sym, ap, _∙_}
 use mathlib.Core.Bool.{Bool, true, false, not, _&&_}

@@ -1,4 +1,4 @@
--- Counts, layers, sizes and declarations, from the code's own steps.
+-- Cursors that stand in the text, layers and declarations, from the code's own steps.
 use Prim.Native.Nat.{ℕ, _-_, _≤_, _<_}
 use mathlib.Core.Path.{_≡_, refl, sym, ap, ap₂, subst, _∙_}
 use mathlib.Core.Bool.{Bool, true, cond}
