@@ -1,22 +1,23 @@
 -- Counts, sizes and values, from the code's own tests: a number that passes them is the one that the text has.
-use Prim.Native.Nat.{ℕ, _<_}
-use mathlib.Core.Path.{_≡_, sym, ap, _∙_}
-use mathlib.Core.Bool.{true}
+use Prim.Native.Nat.{ℕ, _≤_, _<_}
+use mathlib.Core.Path.{_≡_, refl, sym, ap, _∙_}
+use mathlib.Core.Bool.{true, false}
 use mathlib.Core.List.{List}
-use mathlib.Core.Option.{none}
+use mathlib.Core.Option.{Option, none}
 use native.Mathlib.Omega.{arith}
 use lib.Dec.{leb, ltb}
 use lib.ListN.{drop}
 use borrow.Author.Tests.{leb-true, ltb-true}
+use Rattle.files.proofs.Logic.{split}
 use Rattle.translator.specs.declared.fields.Cursor.{Cursor}
 use Rattle.translator.specs.declared.fields.ReadNumber.{ReadNumber}
 use Rattle.translator.specs.Contracts.{capped, settled, numberAfter, judged, numberBy, same, valueBelow}
 use Rattle.translator.specs.Fields.{number, fieldValue}
-use Rattle.translator.specs.Format.{outsideLimits, outOfRange, unless, isOpen, fieldAfter}
+use Rattle.translator.specs.Format.{Fault, outsideLimits, outOfRange, unless, isOpen, fieldAfter, after, valueAfter}
 use Rattle.translator.specs.Sas.{lineFeed}
 use Rattle.translator.specs.Text.{count, size}
 use Rattle.translator.proofs.NumberReading.{capped-small}
-use Rattle.translator.proofs.StepReading.{leb-capped, ltb-capped, least-capped, unless-none, number-is, read-value, read-tested-twice, read-fine, read-settled}
+use Rattle.translator.proofs.StepReading.{settled-value, step-fine, leb-capped, ltb-capped, least-capped, unless-none, number-is, read-value, read-tested-twice, read-fine, read-settled}
 
 module _ (s : List ℕ) (c : Cursor) (n : ReadNumber) (is : n ≡ numberAfter lineFeed s c) where
   v : ℕ
@@ -49,3 +50,27 @@ module _ (s : List ℕ) (c : Cursor) (n : ReadNumber) (is : n ≡ numberAfter li
       (λ o. ap (leb 1) (value-is o) ∙ least-capped v 1 (omega arith))
       (λ o. ap (λ (x : ℕ). leb x 32) (value-is o) ∙ leb-capped v 32 (omega arith))
       e f)
+
+-- what was read is within its limits
+pub size-most : (s : List ℕ) (c : Cursor) → isOpen (after size s c) ≡ true → valueAfter size s c ≤ 32
+unfolding size after valueAfter
+size-most s c o =
+    let v : ℕ = fieldValue (number lineFeed) (drop (c .at) s) in
+    let fault : ℕ → Option Fault = λ x. unless (leb 1 x) outsideLimits (unless (leb x 32) outsideLimits none) in
+    let fine = unless-none (leb 1 v) outsideLimits (unless (leb v 32) outsideLimits none) (step-fine (number lineFeed) fault s c o) .1 in
+    leb-true v 32 (unless-none (leb v 32) outsideLimits none fine .0)
+
+settled-none : (c : Cursor) (n : ℕ) (r : ReadNumber) → r ≡ settled c n → isOpen c ≡ false → r .value ≡ 0
+unfolding settled
+settled-none c n r e o = ap (λ (x : ReadNumber). x .value) e ∙ rw o refl
+
+-- also beside a refusal
+pub count-most : (s : List ℕ) (c : Cursor) (most : ℕ) (r : ReadNumber) → r ≡ numberBy (count most) same s c → r .value ≤ most
+unfolding numberBy count after valueAfter
+count-most s c most r e =
+    split (isOpen (after (count most) s c))
+    (λ o.
+    let v : ℕ = fieldValue (number lineFeed) (drop (c .at) s) in
+    let fine : leb v most ≡ true = unless-none (leb v most) outsideLimits none (step-fine (number lineFeed) (λ n. unless (leb n most) outsideLimits none) s c o) .0 in
+    omega (arith, settled-value (after (count most) s c) v r e o, leb-true v most fine))
+    (λ o. omega (arith, settled-none (after (count most) s c) (fieldValue (number lineFeed) (drop (c .at) s)) r e o))

@@ -49,5 +49,7 @@ pub mod EffectsReading
 pub mod OperatorReading
 pub mod OperatorsReading
 pub mod FrontReading
+pub mod BodyReading
+pub mod TextReading
 pub mod Computes
 pub mod Examples

@@ -1,27 +1,25 @@
 -- An operator, from the code's own steps: its fields one behind another, its rows and its cost.
 use Prim.Native.Nat.{ℕ, _+_, _*_, _≤_, _<_}
 use mathlib.Core.Path.{_≡_, refl, sym, ap, ap₂, subst, _∙_}
-use mathlib.Core.Bool.{Bool, true, false, cond}
+use mathlib.Core.Bool.{true}
 use mathlib.Core.List.{List, [], _∷_, _++_}
-use mathlib.Core.Option.{none}
 use native.Mathlib.Omega.{arith}
-use lib.Dec.{eqb, leb}
-use lib.ListN.{length, take, drop, set}
-use borrow.Author.Tests.{eq-eqb, ne-eqb, leb-true}
-use Rattle.files.proofs.Logic.{split}
+use lib.Dec.{eqb}
+use lib.ListN.{length, take, set}
+use borrow.Author.Tests.{eq-eqb, ne-eqb}
 use Rattle.files.specs.Rows.{cleared, filled}
 use Rattle.files.specs.Task.{Pair}
 use Rattle.digits.specs.Decimal.{ascii}
 use Rattle.translator.specs.declared.fields.Cursor.{Cursor}
 use Rattle.translator.specs.declared.fields.ReadNumber.{ReadNumber}
 use Rattle.translator.specs.Contracts.{Given, settled, numberBy, same, ListRead, EffectsStored, EffectsRead, costBy, conditionsOf, effectsOf, OperatorRead}
-use Rattle.translator.specs.Fields.{word, name, number, fieldValue}
-use Rattle.translator.specs.Format.{outsideLimits, unless, Format, bind, isOpen, fieldAfter, faultAfter, stepAfter, after, valueAfter}
-use Rattle.translator.specs.Sas.{Effect, Operator, lineFeed}
+use Rattle.translator.specs.Fields.{word, name}
+use Rattle.translator.specs.Format.{isOpen, fieldAfter, faultAfter, stepAfter, after, valueAfter}
+use Rattle.translator.specs.Sas.{Effect, Operator}
 use Rattle.translator.specs.Stated.{variablesOf, oldPairs, newPairs}
 use Rattle.translator.specs.Text.{says, count, conditions, effects, operator}
 use Rattle.translator.proofs.ReadingLaws.{after-bind, value-bind, open-before}
-use Rattle.translator.proofs.StepReading.{settled-value, step-fine, unless-none}
+use Rattle.translator.proofs.StepReading.{settled-value}
 use Rattle.translator.proofs.VariableReading.{field-before, after-settled}
 
 pub cost-one : (metric cost : ℕ) → metric ≡ 0 → 1 ≡ costBy metric cost
@@ -36,10 +34,6 @@ cost-written metric cost d = rw (ne-eqb metric 0 d) refl
 pub settled-is : (c : Cursor) (n : ℕ) (r : ReadNumber) → r ≡ settled c n → isOpen c ≡ true → r ≡ record { cursor = c; value = n }
 unfolding settled
 settled-is c n r e o = e ∙ rw o refl
-
-settled-none : (c : Cursor) (n : ℕ) (r : ReadNumber) → r ≡ settled c n → isOpen c ≡ false → r .value ≡ 0
-unfolding settled
-settled-none c n r e o = ap (λ (x : ReadNumber). x .value) e ∙ rw o refl
 
 filled-both : (row : List ℕ) (base : ℕ) (ps qs : List Pair) → filled (filled row base ps) base qs ≡ filled row base (ps ++ qs)
 unfolding filled
@@ -187,14 +181,3 @@ module _ (s : List ℕ) (c begun named : Cursor) (asked : ReadNumber) (prevail :
             ∙ ap (λ (x : List Effect). filled (cleared effects₀ base 64) base (newPairs x)) (effects-are open′ ∙ sym (value-is .1))
             ∙ ap (λ (b : ℕ). filled (cleared effects₀ b 64) b (effectsOf (valueAfter (operator sz) s c))) at;
       }
-
--- a count is within its limit, also beside a refusal
-pub count-most : (s : List ℕ) (c : Cursor) (most : ℕ) (r : ReadNumber) → r ≡ numberBy (count most) same s c → r .value ≤ most
-unfolding numberBy count after valueAfter
-count-most s c most r e =
-    split (isOpen (after (count most) s c))
-    (λ o.
-    let v : ℕ = fieldValue (number lineFeed) (drop (c .at) s) in
-    let fine : leb v most ≡ true = unless-none (leb v most) outsideLimits none (step-fine (number lineFeed) (λ n. unless (leb n most) outsideLimits none) s c o) .0 in
-    omega (arith, settled-value (after (count most) s c) v r e o, leb-true v most fine))
-    (λ o. omega (arith, settled-none (after (count most) s c) (fieldValue (number lineFeed) (drop (c .at) s)) r e o))

@@ -20,6 +20,7 @@ use Rattle.translator.specs.Text.{any, layerFault, says, size, nameLines
 use Rattle.translator.proofs.FieldLaws.{field-right}
 use Rattle.translator.proofs.ReadingLaws.{after-refused, after-bind, value-bind, open-before}
 use Rattle.translator.proofs.ReadingListed.{after-within}
+use Rattle.translator.proofs.CountReading.{size-most}
 use Rattle.translator.proofs.StepReading.{settled-value, settled-same, signed-is, none-coded, read-value, read-tested}
 use Rattle.translator.proofs.RepeatReading.{each-length, each-next, each-end}
 
@@ -87,29 +88,50 @@ pub names-end : (s : List ℕ) (left : ℕ) (here whole : Cursor) → after (nam
 unfolding nameLines
 names-end s left here whole e h = each-end (field name any gives) s left here whole e h
 
-pub declaration-read : (s : List ℕ) (c begun named layered : Cursor) (sized : ReadNumber) (values ended : Cursor) (r : ReadNumber)
-    → begun ≡ fieldAfter (word (ascii "begin_variable\n")) s c
-    → named ≡ fieldAfter name s begun
-    → layered ≡ layerAfter s named
-    → sized ≡ numberBy size same s layered
-    → values ≡ after (nameLines (sized .value)) s (sized .cursor)
-    → ended ≡ fieldAfter (word (ascii "end_variable\n")) s values
-    → r ≡ settled ended (sized .value)
-    → r ≡ numberBy declaration sizeOf s c
-unfolding numberBy declaration says nameLines after valueAfter stepAfter faultAfter layerAfter
-declaration-read s c begun named layered sized values ended r e₁ e₂ e₃ e₄ e₅ e₆ q =
-    let front : Cursor = layerAfter s (fieldAfter name s (fieldAfter (word (ascii "begin_variable\n")) s c)) in
-    let till : layered ≡ front = e₃ ∙ ap (layerAfter s) (e₂ ∙ ap (fieldAfter name s) e₁) in
-    let n : ℕ = valueAfter size s front in
-    let is : sized ≡ settled (after size s front) n = e₄ ∙ ap (λ (x : Cursor). settled (after size s x) (valueAfter size s x)) till in
-    let listed : values ≡ after (nameLines n) s (after size s front) = e₅ ∙ after-settled nameLines s (after size s front) n sized is in
-    let end : ended ≡ fieldAfter (word (ascii "end_variable\n")) s (after (nameLines n) s (after size s front)) = e₆ ∙ ap (fieldAfter (word (ascii "end_variable\n")) s) listed in
-    let opened : isOpen ended ≡ true → sized .value ≡ n =
-    λ o. settled-value (after size s front) n sized is (open-before (nameLines n) s (after size s front) (field-before (word (ascii "end_variable\n")) s (after (nameLines n) s (after size s front)) (sym (ap isOpen end) ∙ o))) in
-    let moved : ended ≡ after declaration s c = end ∙ sym (after-bind size _ s front ∙ after-bind (nameLines n) _ s (after size s front)) in
-    let many : n ≡ sizeOf (valueAfter declaration s c) =
-    sym (ap sizeOf (value-bind size _ s front ∙ value-bind (nameLines n) _ s (after size s front)) ∙ each-length (field name any gives) s n (after size s front)) in
-    q ∙ settled-same ended (sized .value) n opened ∙ ap₂ settled moved many
+-- a declaration: a size, then as many names
+module _ (s : List ℕ) (c : Cursor) where
+  front : Cursor
+  front = layerAfter s (fieldAfter name s (fieldAfter (word (ascii "begin_variable\n")) s c))
+
+  n : ℕ
+  n = valueAfter size s front
+
+  listed : Cursor
+  listed = after (nameLines n) s (after size s front)
+
+  declaration-after : fieldAfter (word (ascii "end_variable\n")) s listed ≡ after declaration s c
+  unfolding declaration says nameLines after stepAfter faultAfter layerAfter front n listed
+  declaration-after = sym (after-bind size _ s front ∙ after-bind (nameLines n) _ s (after size s front))
+
+  declaration-many : n ≡ sizeOf (valueAfter declaration s c)
+  unfolding declaration says nameLines after valueAfter stepAfter faultAfter layerAfter front n listed
+  declaration-many = sym (ap sizeOf (value-bind size _ s front ∙ value-bind (nameLines n) _ s (after size s front)) ∙ each-length (field name any gives) s n (after size s front))
+
+  size-open : isOpen (fieldAfter (word (ascii "end_variable\n")) s listed) ≡ true → isOpen (after size s front) ≡ true
+  unfolding listed
+  size-open o = open-before (nameLines n) s (after size s front) (field-before (word (ascii "end_variable\n")) s (after (nameLines n) s (after size s front)) o)
+
+  pub declaration-read : (begun named layered : Cursor) (sized : ReadNumber) (values ended : Cursor) (r : ReadNumber)
+      → begun ≡ fieldAfter (word (ascii "begin_variable\n")) s c
+      → named ≡ fieldAfter name s begun
+      → layered ≡ layerAfter s named
+      → sized ≡ numberBy size same s layered
+      → values ≡ after (nameLines (sized .value)) s (sized .cursor)
+      → ended ≡ fieldAfter (word (ascii "end_variable\n")) s values
+      → r ≡ settled ended (sized .value)
+      → r ≡ numberBy declaration sizeOf s c
+  unfolding numberBy front n listed
+  declaration-read begun named layered sized values ended r e₁ e₂ e₃ e₄ e₅ e₆ q =
+      let is : sized ≡ settled (after size s front) n = e₄ ∙ ap (λ (x : Cursor). settled (after size s x) (valueAfter size s x)) (e₃ ∙ ap (layerAfter s) (e₂ ∙ ap (fieldAfter name s) e₁)) in
+      let end : ended ≡ fieldAfter (word (ascii "end_variable\n")) s listed = e₆ ∙ ap (fieldAfter (word (ascii "end_variable\n")) s) (e₅ ∙ after-settled nameLines s (after size s front) n sized is) in
+      q
+      ∙ settled-same ended (sized .value) n (λ o. settled-value (after size s front) n sized is (size-open (sym (ap isOpen end) ∙ o)))
+      ∙ ap₂ settled (end ∙ declaration-after) declaration-many
+
+  -- a size that was read is at most 32
+  pub declaration-size : isOpen (after declaration s c) ≡ true → sizeOf (valueAfter declaration s c) ≤ 32
+  unfolding n
+  declaration-size o = omega (arith, size-most s front (size-open (ap isOpen declaration-after ∙ o)), declaration-many)
 
 -- cursors that stand in the text
 pub ruleset inside = (after-inside, field-inside, number-inside, layer-inside, word-inside)

@@ -21,6 +21,7 @@ use Rattle.translator.specs.Contracts.{Inside, settled, storedSizes, sto
 use Rattle.translator.specs.Fields.{flag, number, fieldValue}
 use Rattle.translator.specs.Format.{unsupported, unless, Format, gives, field, bind, cursorAt, isOpen, fieldAfter, stepAfter, after, valueAfter}
 use Rattle.translator.specs.Sas.{Declaration, Started, Operator, Sas, lineFeed}
+use Rattle.translator.specs.Stated.{sizesOf}
 use Rattle.translator.specs.Text.{any, says, each, count, declaration, group, starts, conditions, operator, rule, checkText, textTask}
 
 pub record Front : Type 0 where
@@ -90,6 +91,7 @@ pub record FrontRead (s sizes starts : List ℕ) (r : Begun) (sizesNow startsNow
   pub few : r .variables ≤ 64
   pub metric : isOpen (r .cursor) ≡ true → r .metric ≡ bit (valueAfter front s (cursorAt 0) .metric)
   pub counted : isOpen (r .cursor) ≡ true → r .variables ≡ length (valueAfter front s (cursorAt 0) .declarations)
+  pub sizesHeld : isOpen (r .cursor) ≡ true → sizesOf (valueAfter front s (cursorAt 0) .declarations) ≡ take (r .variables) sizesNow
   pub sizesRead : isOpen (r .cursor) ≡ true → sizesNow ≡ placed sizes 0 (storedSizes (valueAfter front s (cursorAt 0) .declarations))
   pub startsRead : isOpen (r .cursor) ≡ true → startsNow ≡ placed starts 0 (storedStarts (valueAfter front s (cursorAt 0) .variables))
 

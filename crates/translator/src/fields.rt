@@ -5,7 +5,7 @@ ghost use Prim.Native.Nat.{_+_, _-_, _*_};
 ghost use lib.ListN.{drop};
 ghost use Rattle.translator.specs.Contracts.{Inside, WordInside, capped, DigitBehind, digitsFound, numeralFound, NumeralInside, settled, ReadsNumber, ReadsSigned, judged, CountInside, numberBy, same};
 ghost use Rattle.translator.specs.Fields.{byteAt, wordAt, lineLength, numeralAt, word, name};
-ghost use Rattle.translator.specs.Format.{reached, fieldAfter};
+ghost use Rattle.translator.specs.Format.{cursorAt, reached, fieldAfter};
 ghost use Rattle.translator.specs.Text.{count};
 use files::Outcome;
 use files::bytes;
@@ -55,6 +55,16 @@ pub struct ReadNumber {
 struct Found {
     count: usize,
     value: usize,
+}
+
+// The start of a text.
+pub fn start() -> Cursor
+    ensures { λ r. ⌜ r ≡ cursorAt 0 ⌝ }
+{
+    Cursor {
+        outcome: outcomes::done(),
+        at: 0,
+    }
 }
 
 // The offset of an outcome that is done.

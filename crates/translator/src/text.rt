@@ -46,10 +46,7 @@ fn front(s: &[u8], sizes: &mut [u8], starts: &mut [u8]) -> Begun
     requires { ⌜ FrontInside (now s) (now sizes) (now starts) ⌝ }
     ensures { λ r. ⌜ FrontRead (now (s .entry)) (now (sizes .entry)) (now (starts .entry)) r (now (sizes .exit)) (now (starts .exit)) ⌝ }
 {
-    let start = Cursor {
-        outcome: outcomes::done(),
-        at: 0,
-    };
+    let start = fields::start();
     let begun = fields::word(s, start, b"begin_version\n3\nend_version\nbegin_metric\n");
     let metric = metric(s, begun);
     let measured = fields::word(s, metric.cursor, b"end_metric\n");

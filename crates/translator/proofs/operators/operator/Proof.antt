@@ -3,7 +3,8 @@ use mathlib.Core.Path.{refl}
 use native.Mathlib.Omega.{arith}
 use Rattle.digits.specs.Decimal.{ascii}
 use Rattle.translator.proofs.VariableReading.{inside, after-inside, field-inside, number-inside, word-inside}
-use Rattle.translator.proofs.OperatorReading.{count-most, operator-read}
+use Rattle.translator.proofs.CountReading.{count-most}
+use Rattle.translator.proofs.OperatorReading.{operator-read}
 use borrow.Author.Needs.{needs}
 use Rattle.translator.proofs.operators.operator.Statement.{statement}
 use Rattle.translator.proofs.operators.operator.Tie as tie

@@ -1,69 +1,55 @@
+-- The fields of the second part, one behind another.
+use native.Mathlib.Omega.{arith}
+use Rattle.digits.specs.Decimal.{ascii}
+use Rattle.translator.proofs.VariableReading.{inside, after-inside, field-inside, number-inside, word-inside}
+use Rattle.translator.proofs.CountReading.{count-most}
+use Rattle.translator.proofs.BodyReading.{body-read}
 use borrow.Author.Needs.{needs}
 use Rattle.translator.proofs.text.body.Statement.{statement}
 use Rattle.translator.proofs.text.body.Tie as tie
-use Rattle.translator.proofs.text.body.Reads as reads
-use Rattle.translator.proofs.text.body.Lts as lts
-use Rattle.translator.proofs.fields.count.Reads as count-reads
-use Rattle.translator.proofs.fields.word.Reads as word-reads
-use Rattle.translator.proofs.lists.conditions.Reads as conditions-reads
-use Rattle.translator.proofs.operators.operators.Reads as operators-reads
-use Rattle.translator.proofs.text.ended.Reads as ended-reads
 
--- src/text.rt:101:48
 slice-aggregate-word : tie.Need-slice-aggregate-word
 slice-aggregate-word c = search needs
 
--- src/text.rt:101:9
 word-requires : tie.Need-word-requires
-word-requires c κs = search needs
+word-requires c κs = let moved = c .before .before .before .before .before .before .before .pre .inside in search (needs, moved)
 
--- src/text.rt:102:9
 count-requires : tie.Need-count-requires
-count-requires c κs = ?
+count-requires c κs = record { inside = (field-inside _ _ _ _ (c .before .before .before .before .before .before .before .before .pre .inside) (c .word .ensures)); low = omega arith }
 
--- src/text.rt:103:9
 conditions-requires : tie.Need-conditions-requires
-conditions-requires c κs = ?
+conditions-requires c κs = record { inside = (number-inside _ _ _ _ _ (field-inside _ _ _ _ (c .before .before .before .before .before .before .before .before .before .before .pre .inside) (c .before .before .word .ensures)) (c .before .count .ensures)); sizesRoom = c .before .before .before .before .before .before .before .before .before .before .pre .sizesRoom; few = c .before .before .before .before .before .before .before .before .before .before .pre .few; room = record { room = c .before .before .before .before .before .before .before .before .before .before .pre .goalRoom } }
 
--- src/text.rt:104:41
 slice-aggregate-word-2 : tie.Need-slice-aggregate-word-2
 slice-aggregate-word-2 c = search needs
 
--- src/text.rt:104:9
 word-requires-2 : tie.Need-word-requires-2
-word-requires-2 c κs = ?
+word-requires-2 c κs = let moved = (after-inside _ _ _ _ (number-inside _ _ _ _ _ (field-inside _ _ _ _ (c .before .before .before .before .before .before .before .before .before .before .before .before .before .before .pre .inside) (c .before .before .before .before .before .before .word .ensures)) (c .before .before .before .before .before .count .ensures)) (c .before .before .before .conditions .ensures .cursor)) in search (needs, moved)
 
--- src/text.rt:105:9
 count-requires-2 : tie.Need-count-requires-2
-count-requires-2 c κs = ?
+count-requires-2 c κs = record { inside = (field-inside _ _ _ _ (after-inside _ _ _ _ (number-inside _ _ _ _ _ (field-inside _ _ _ _ (c .before .before .before .before .before .before .before .before .before .before .before .before .before .before .before .pre .inside) (c .before .before .before .before .before .before .before .word .ensures)) (c .before .before .before .before .before .before .count .ensures)) (c .before .before .before .before .conditions .ensures .cursor)) (c .word2 .ensures)); low = omega arith }
 
--- src/text.rt:106:9
 operators-requires : tie.Need-operators-requires
-operators-requires c κs = ?
+operators-requires c κs = record { inside = (number-inside _ _ _ _ _ (field-inside _ _ _ _ (after-inside _ _ _ _ (number-inside _ _ _ _ _ (field-inside _ _ _ _ (c .before .before .before .before .before .before .before .before .before .before .before .before .before .before .before .before .before .before .before .pre .inside) (c .before .before .before .before .before .before .before .before .before .before .before .word .ensures)) (c .before .before .before .before .before .before .before .before .before .before .count .ensures)) (c .before .before .before .before .before .before .before .before .conditions .ensures .cursor)) (c .before .before .before .before .word2 .ensures)) (c .before .before .before .count2 .ensures)); sizesRoom = c .before .before .before .before .before .before .before .before .before .before .before .before .before .before .before .before .before .before .before .pre .sizesRoom; few = c .before .before .before .before .before .before .before .before .before .before .before .before .before .before .before .before .before .before .before .pre .few; fewActions = count-most _ _ _ _ (c .before .before .before .count2 .ensures); costsRoom = c .before .before .before .before .before .before .before .before .before .before .before .before .before .before .before .before .before .before .before .pre .costsRoom; conditionsRoom = c .before .before .before .before .before .before .before .before .before .before .before .before .before .before .before .before .before .before .before .pre .conditionsRoom; effectsRoom = c .before .before .before .before .before .before .before .before .before .before .before .before .before .before .before .before .before .before .before .pre .effectsRoom }
 
--- src/text.rt:118:18
 ended-requires : tie.Need-ended-requires
-ended-requires c κs = ?
+ended-requires c κs = (after-inside _ _ _ _ (number-inside _ _ _ _ _ (field-inside _ _ _ _ (after-inside _ _ _ _ (number-inside _ _ _ _ _ (field-inside _ _ _ _ (c .before .before .before .before .before .before .before .before .before .before .before .before .before .before .before .before .before .before .before .before .before .before .before .before .before .before .pre .inside) (c .before .before .before .before .before .before .before .before .before .before .before .before .before .before .before .before .before .before .word .ensures)) (c .before .before .before .before .before .before .before .before .before .before .before .before .before .before .before .before .before .count .ensures)) (c .before .before .before .before .before .before .before .before .before .before .before .before .before .before .before .conditions .ensures .cursor)) (c .before .before .before .before .before .before .before .before .before .before .before .word2 .ensures)) (c .before .before .before .before .before .before .before .before .before .before .count2 .ensures)) (c .before .before .before .before .before .before .operators .ensures .cursor))
 
--- src/text.rt:88:1
 same-length : tie.Need-same-length
 same-length c = search needs
 
--- src/text.rt:88:1
 same-length-2 : tie.Need-same-length-2
 same-length-2 c = search needs
 
--- src/text.rt:88:1
 same-length-3 : tie.Need-same-length-3
 same-length-3 c = search needs
 
--- src/text.rt:88:1
 same-length-4 : tie.Need-same-length-4
 same-length-4 c = search needs
 
--- src/text.rt:88:1
 returns : tie.Need-returns
-returns c = ?
+unfolding ascii
+returns c = body-read _ _ _ _ _ _ _ _ _ _ _ _ _ _ _ _ _ _ (c .before .before .before .before .before .before .before .before .before .before .before .before .before .before .before .before .before .before .before .word .ensures) (c .before .before .before .before .before .before .before .before .before .before .before .before .before .before .before .before .before .before .count .ensures) (c .before .before .before .before .before .before .before .before .before .before .before .before .before .before .before .before .conditions .ensures) (c .before .before .before .before .before .before .before .before .before .before .before .before .word2 .ensures) (c .before .before .before .before .before .before .before .before .before .before .before .count2 .ensures) (c .before .before .before .before .before .before .before .operators .ensures) (c .ended .ensures)
 
 pub body-spec : {M : Type 1} → statement M
 body-spec =

@@ -1,81 +1,64 @@
+-- The fields of the first part, one behind another.
+use native.Mathlib.Omega.{arith}
+use Rattle.digits.specs.Decimal.{ascii}
+use Rattle.translator.proofs.VariableReading.{inside, after-inside, field-inside, number-inside, word-inside}
+use Rattle.translator.proofs.CountReading.{count-most}
+use Rattle.translator.proofs.FrontReading.{start-inside, metric-inside, groups-inside, front-read}
 use borrow.Author.Needs.{needs}
 use Rattle.translator.proofs.text.front.Statement.{statement}
 use Rattle.translator.proofs.text.front.Tie as tie
-use Rattle.translator.proofs.text.front.Reads as reads
-use Rattle.translator.proofs.text.front.Lts as lts
-use Rattle.files.proofs.outcomes.done.Reads as done-reads
-use Rattle.translator.proofs.fields.count.Reads as count-reads
-use Rattle.translator.proofs.fields.word.Reads as word-reads
-use Rattle.translator.proofs.groups.groups.Reads as groups-reads
-use Rattle.translator.proofs.text.metric.Reads as metric-reads
-use Rattle.translator.proofs.variables.declarations.Reads as declarations-reads
-use Rattle.translator.proofs.variables.starts.Reads as starts-reads
 
--- src/text.rt:50:18
-done-requires : tie.Need-done-requires
-done-requires c κs = search needs
+start-requires : tie.Need-start-requires
+start-requires c κs = search needs
 
--- src/text.rt:53:40
 slice-aggregate-word : tie.Need-slice-aggregate-word
 slice-aggregate-word c = search needs
 
--- src/text.rt:53:9
 word-requires : tie.Need-word-requires
-word-requires c κs = search needs
+word-requires c κs = word-inside _ _ _ (start-inside _ _ (c .before .before .before .before .before .pre .limited) (c .before .start .ensures)) (search needs)
 
--- src/text.rt:54:9
 metric-requires : tie.Need-metric-requires
-metric-requires c κs = ?
+metric-requires c κs = (field-inside _ _ _ _ (start-inside _ _ (c .before .before .before .before .before .before .pre .limited) (c .before .before .start .ensures)) (c .word .ensures))
 
--- src/text.rt:55:51
 slice-aggregate-word-2 : tie.Need-slice-aggregate-word-2
 slice-aggregate-word-2 c = search needs
 
--- src/text.rt:55:9
 word-requires-2 : tie.Need-word-requires-2
-word-requires-2 c κs = ?
+word-requires-2 c κs = let moved = (metric-inside _ _ _ (field-inside _ _ _ _ (start-inside _ _ (c .before .before .before .before .before .before .before .before .pre .limited) (c .before .before .before .before .start .ensures)) (c .before .before .word .ensures)) (c .before .metric .ensures)) in search (needs, moved)
 
--- src/text.rt:56:9
 count-requires : tie.Need-count-requires
-count-requires c κs = ?
+count-requires c κs = record { inside = (field-inside _ _ _ _ (metric-inside _ _ _ (field-inside _ _ _ _ (start-inside _ _ (c .before .before .before .before .before .before .before .before .before .pre .limited) (c .before .before .before .before .before .start .ensures)) (c .before .before .before .word .ensures)) (c .before .before .metric .ensures)) (c .word2 .ensures)); low = omega arith }
 
--- src/text.rt:57:9
 declarations-requires : tie.Need-declarations-requires
-declarations-requires c κs = ?
+declarations-requires c κs = record { inside = (number-inside _ _ _ _ _ (field-inside _ _ _ _ (metric-inside _ _ _ (field-inside _ _ _ _ (start-inside _ _ (c .before .before .before .before .before .before .before .before .before .before .before .pre .limited) (c .before .before .before .before .before .before .before .start .ensures)) (c .before .before .before .before .before .word .ensures)) (c .before .before .before .before .metric .ensures)) (c .before .before .word2 .ensures)) (c .before .count .ensures)); few = count-most _ _ _ _ (c .before .count .ensures); room = c .before .before .before .before .before .before .before .before .before .before .before .pre .sizesRoom }
 
--- src/text.rt:58:9
 groups-requires : tie.Need-groups-requires
-groups-requires c κs = ?
+groups-requires c κs = (after-inside _ _ _ _ (number-inside _ _ _ _ _ (field-inside _ _ _ _ (metric-inside _ _ _ (field-inside _ _ _ _ (start-inside _ _ (c .before .before .before .before .before .before .before .before .before .before .before .before .before .before .pre .limited) (c .before .before .before .before .before .before .before .before .before .before .start .ensures)) (c .before .before .before .before .before .before .before .before .word .ensures)) (c .before .before .before .before .before .before .before .metric .ensures)) (c .before .before .before .before .before .word2 .ensures)) (c .before .before .before .before .count .ensures)) (c .before .before .declarations .ensures .cursor))
 
--- src/text.rt:59:43
 slice-aggregate-word-3 : tie.Need-slice-aggregate-word-3
 slice-aggregate-word-3 c = search needs
 
--- src/text.rt:59:9
 word-requires-3 : tie.Need-word-requires-3
-word-requires-3 c κs = ?
+word-requires-3 c κs = let moved = (groups-inside _ _ _ (after-inside _ _ _ _ (number-inside _ _ _ _ _ (field-inside _ _ _ _ (metric-inside _ _ _ (field-inside _ _ _ _ (start-inside _ _ (c .before .before .before .before .before .before .before .before .before .before .before .before .before .before .before .before .pre .limited) (c .before .before .before .before .before .before .before .before .before .before .before .before .start .ensures)) (c .before .before .before .before .before .before .before .before .before .before .word .ensures)) (c .before .before .before .before .before .before .before .before .before .metric .ensures)) (c .before .before .before .before .before .before .before .word2 .ensures)) (c .before .before .before .before .before .before .count .ensures)) (c .before .before .before .before .declarations .ensures .cursor)) (c .before .groups .ensures)) in search (needs, moved)
 
--- src/text.rt:60:9
 starts-requires : tie.Need-starts-requires
-starts-requires c κs = ?
+starts-requires c κs = record { inside = record { inside = (field-inside _ _ _ _ (groups-inside _ _ _ (after-inside _ _ _ _ (number-inside _ _ _ _ _ (field-inside _ _ _ _ (metric-inside _ _ _ (field-inside _ _ _ _ (start-inside _ _ (c .before .before .before .before .before .before .before .before .before .before .before .before .before .before .before .before .before .before .before .pre .limited) (c .before .before .before .before .before .before .before .before .before .before .before .before .before .before .before .start .ensures)) (c .before .before .before .before .before .before .before .before .before .before .before .before .before .word .ensures)) (c .before .before .before .before .before .before .before .before .before .before .before .before .metric .ensures)) (c .before .before .before .before .before .before .before .before .before .before .word2 .ensures)) (c .before .before .before .before .before .before .before .before .before .count .ensures)) (c .before .before .before .before .before .before .before .declarations .ensures .cursor)) (c .before .before .before .before .groups .ensures)) (c .before .before .word3 .ensures)); few = count-most _ _ _ _ (c .before .before .before .before .before .before .before .before .before .count .ensures); room = c .before .before .before .before .before .before .before .before .before .before .before .before .before .before .before .before .before .before .before .pre .startsRoom }; sizesRoom = let room = c .before .before .before .before .before .before .before .before .before .before .before .before .before .before .before .before .before .before .before .pre .sizesRoom in search needs }
 
--- src/text.rt:45:1
 same-length : tie.Need-same-length
 same-length c = search needs
 
--- src/text.rt:45:1
 same-length-2 : tie.Need-same-length-2
 same-length-2 c = search needs
 
--- src/text.rt:45:1
 returns : tie.Need-returns
-returns c = ?
+unfolding ascii
+returns c = front-read _ _ _ _ _ _ _ _ _ _ _ _ _ _ (c .before .before .before .before .before .before .before .before .before .before .before .before .before .before .before .before .before .before .start .ensures) (c .before .before .before .before .before .before .before .before .before .before .before .before .before .before .before .before .word .ensures) (c .before .before .before .before .before .before .before .before .before .before .before .before .before .before .before .metric .ensures) (c .before .before .before .before .before .before .before .before .before .before .before .before .before .word2 .ensures) (c .before .before .before .before .before .before .before .before .before .before .before .before .count .ensures) (c .before .before .before .before .before .before .before .before .before .before .declarations .ensures) (c .before .before .before .before .before .before .before .groups .ensures) (c .before .before .before .before .before .word3 .ensures) (c .before .before .starts .ensures) (c .before .before .before .before .before .before .before .before .before .before .before .before .before .before .before .before .before .before .before .before .before .before .pre .sizesRoom)
 
 pub front-spec : {M : Type 1} → statement M
 front-spec =
     tie.close
     (tie.spec
-    done-requires
+    start-requires
     slice-aggregate-word
     word-requires
     metric-requires

@@ -1,55 +1,44 @@
+-- The size, then both parts.
+use native.Mathlib.Omega.{arith}
+use Rattle.translator.proofs.VariableReading.{after-inside}
+use Rattle.translator.proofs.FrontReading.{start-inside}
+use Rattle.translator.proofs.TextReading.{text-long, text-read}
 use borrow.Author.Needs.{needs}
 use Rattle.translator.proofs.text.read.Statement.{statement}
 use Rattle.translator.proofs.text.read.Tie as tie
-use Rattle.translator.proofs.text.read.Reads as reads
-use Rattle.translator.proofs.text.read.Lts as lts
-use Rattle.files.proofs.outcomes.refuse.Reads as refuse-reads
-use Rattle.translator.proofs.text.body.Reads as body-reads
-use Rattle.translator.proofs.text.front.Reads as front-reads
 
--- src/text.rt:139:22
 refuse-requires : tie.Need-refuse-requires
 refuse-requires c κs = search needs
 
--- src/text.rt:138:9
 returns : tie.Need-returns
-returns c = ?
+returns c = text-long _ _ _ _ _ _ _ _ (c .before .if1 .taken) (c .refuse .ensures)
 
--- src/text.rt:144:9
 front-requires : tie.Need-front-requires
-front-requires c κs = search needs
+front-requires c κs = record { limited = c .before .before .if1 .left; sizesRoom = c .before .before .before .before .before .before .before .before .before .before .pre .sizesRoom; startsRoom = c .before .before .before .before .before .before .before .before .before .before .pre .startsRoom }
 
--- src/text.rt:145:5
 body-requires : tie.Need-body-requires
-body-requires c κs = ?
+body-requires c κs = record { inside = after-inside _ _ _ _ (record { limited = c .before .before .before .before .before .before .before .before .before .before .before .before .if1 .left; within = omega arith }) (c .before .before .before .before .before .before .before .before .before .front .ensures .cursor); few = c .before .before .before .before .before .before .before .before .before .front .ensures .few; sizesRoom = let room = c .before .before .before .before .before .before .before .before .before .before .before .before .before .before .before .before .before .before .before .before .pre .sizesRoom in search needs; goalRoom = c .before .before .before .before .before .before .before .before .before .before .before .before .before .before .before .before .before .before .before .before .pre .goalRoom; costsRoom = c .before .before .before .before .before .before .before .before .before .before .before .before .before .before .before .before .before .before .before .before .pre .costsRoom; conditionsRoom = c .before .before .before .before .before .before .before .before .before .before .before .before .before .before .before .before .before .before .before .before .pre .conditionsRoom; effectsRoom = c .before .before .before .before .before .before .before .before .before .before .before .before .before .before .before .before .before .before .before .before .pre .effectsRoom }
 
--- src/text.rt:125:1
 same-length : tie.Need-same-length
 same-length c = search needs
 
--- src/text.rt:125:1
 same-length-2 : tie.Need-same-length-2
 same-length-2 c = search needs
 
--- src/text.rt:125:1
 same-length-3 : tie.Need-same-length-3
 same-length-3 c = search needs
 
--- src/text.rt:125:1
 same-length-4 : tie.Need-same-length-4
 same-length-4 c = search needs
 
--- src/text.rt:125:1
 same-length-5 : tie.Need-same-length-5
 same-length-5 c = search needs
 
--- src/text.rt:125:1
 same-length-6 : tie.Need-same-length-6
 same-length-6 c = search needs
 
--- src/text.rt:125:1
 returns-2 : tie.Need-returns-2
-returns-2 c = ?
+returns-2 c = text-read _ _ _ _ _ _ _ _ _ _ _ _ _ _ _ (c .before .before .before .before .before .before .before .before .before .before .before .before .before .before .before .before .before .before .before .before .before .if1 .left) (c .before .before .before .before .before .before .before .before .before .before .before .before .before .before .before .before .before .before .before .before .before .before .before .before .before .before .before .before .before .pre .sizesRoom) (c .before .before .before .before .before .before .before .before .before .before .before .before .before .before .before .before .before .before .before .before .before .before .before .before .before .before .before .before .before .pre .startsRoom) (c .before .before .before .before .before .before .before .before .before .before .before .before .before .before .before .before .before .before .before .before .before .before .before .before .before .before .before .before .before .pre .goalRoom) (c .before .before .before .before .before .before .before .before .before .before .before .before .before .before .before .before .before .before .before .before .before .before .before .before .before .before .before .before .before .pre .costsRoom) (c .before .before .before .before .before .before .before .before .before .before .before .before .before .before .before .before .before .before .before .before .before .before .before .before .before .before .before .before .before .pre .conditionsRoom) (c .before .before .before .before .before .before .before .before .before .before .before .before .before .before .before .before .before .before .before .before .before .before .before .before .before .before .before .before .before .pre .effectsRoom) (c .before .before .before .before .before .before .before .before .before .before .before .before .before .before .before .before .before .before .front .ensures) (c .before .before .before .before .before .before .before .before .body .ensures)
 
 pub read-spec : {M : Type 1} → statement M
 read-spec =
