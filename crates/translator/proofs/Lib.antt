@@ -51,5 +51,6 @@ pub mod OperatorsReading
 pub mod FrontReading
 pub mod BodyReading
 pub mod TextReading
+pub mod TranslateLaws
 pub mod Computes
 pub mod Examples
