@@ -7,7 +7,8 @@ use Rattle.marking.specs.Mark.{MarkBuffers, markFileStages, markWhole, noMarks}
 use Rattle.reduction.specs.Reduce.{Buffers, reduceFileStages, reduceWhole, noFiles}
 use Rattle.search.specs.Planner.{Lent, planStages, planWhole, unplanned}
 use Rattle.sheets.specs.Sheet.{sheetStages, sheetWhole, noSheet}
-use Rattle.capi.specs.Numbers.{markedNumbers, reducedNumbers, plannedNumbers, laidNumbers}
+use Rattle.translator.specs.Translate.{translateStages, translateWhole, noFile}
+use Rattle.capi.specs.Numbers.{markedNumbers, reducedNumbers, plannedNumbers, laidNumbers, translatedNumbers}
 
 abbrev pub MarksNumbers : List ℕ → ℕ → MarkBuffers → List ℕ → MarkBuffers → Type 0
 MarksNumbers task level b out now =
@@ -24,3 +25,7 @@ PlansNumbers task signer b out now =
 abbrev pub LaysNumbers : List ℕ → List ℕ → List ℕ → List ℕ → List ℕ → Type 0
 LaysNumbers task plan page out now =
     ByStages (sheetStages task plan page) (laidNumbers (sheetWhole task plan)) (λ o. laidNumbers (noSheet o)) page out now
+
+abbrev pub TranslatesNumbers : List ℕ → ℕ → List ℕ → List ℕ → List ℕ → Type 0
+TranslatesNumbers text signer file out now =
+    ByStages (translateStages text signer file) (translatedNumbers (translateWhole text signer)) (λ o. translatedNumbers (noFile o)) file out now

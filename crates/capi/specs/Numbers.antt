@@ -8,6 +8,7 @@ use Rattle.marking.specs.declared.Marked.{Marked}
 use Rattle.reduction.specs.declared.Reduced.{Reduced}
 use Rattle.search.specs.declared.Planned.{Planned}
 use Rattle.sheets.specs.declared.Laid.{Laid}
+use Rattle.translator.specs.declared.Translated.{Translated}
 use Rattle.capi.specs.declared.numbers.Numbers.{Numbers}
 
 -- a number put at its place
@@ -41,6 +42,9 @@ plannedNumbers p =
 
 unfoldable pub laidNumbers : Laid → List ℕ
 laidNumbers l = at 4 (l .cost .0) (at 5 (l .steps .0) (at 12 (l .page) (outcomeNumbers (l .outcome))))
+
+unfoldable pub translatedNumbers : Translated → List ℕ
+translatedNumbers t = at 13 (t .file) (outcomeNumbers (t .outcome))
 
 -- the numbers that the code has by name, each at its place
 unfoldable pub listed : Numbers → List ℕ

@@ -10,7 +10,7 @@ ghost use Rattle.marking.specs.Mark.{markBuffers};
 ghost use Rattle.reduction.specs.Reduce.{buffers};
 ghost use Rattle.search.specs.Planner.{lentOf};
 ghost use Rattle.capi.specs.Numbers.{outcomeNumbers, checkedNumbers};
-ghost use Rattle.capi.specs.Calls.{MarksNumbers, ReducesNumbers, PlansNumbers, LaysNumbers};
+ghost use Rattle.capi.specs.Calls.{MarksNumbers, ReducesNumbers, PlansNumbers, LaysNumbers, TranslatesNumbers};
 
 // Whether a file is a task file.
 #[no_mangle]
@@ -96,4 +96,12 @@ pub extern "C" fn shortest_sheet(task: &[u8], plan: &[u8], page: &mut [u8], out:
     ensures { λ r. ⌜ LaysNumbers (now (task .entry)) (now (plan .entry)) (now (page .entry)) (now (out .exit)) (now (page .exit)) ⌝ }
 {
     numbers::write_laid(sheets::sheet(task, plan, page), out);
+}
+
+// Writes the task that a text of the Fast Downward translator states as a task file, under a signer.
+#[no_mangle]
+pub extern "C" fn shortest_translate(text: &[u8], signer: u32, file: &mut [u8], out: &mut [u64; 18])
+    ensures { λ r. ⌜ TranslatesNumbers (now (text .entry)) signer (now (file .entry)) (now (out .exit)) (now (file .exit)) ⌝ }
+{
+    numbers::write_translated(translator::translate(text, signer, file), out);
 }

@@ -1,10 +1,10 @@
 // Each kind of answer as the eighteen numbers that a C caller gets.
 ghost use mathlib.Core.Path.{_≡_};
-ghost use Rattle.capi.specs.Numbers.{listed, outcomeNumbers, checkedNumbers, markedNumbers, reducedNumbers, plannedNumbers, laidNumbers};
+ghost use Rattle.capi.specs.Numbers.{listed, outcomeNumbers, checkedNumbers, markedNumbers, reducedNumbers, plannedNumbers, laidNumbers, translatedNumbers};
 
 // The numbers of an answer by name, in the order of their places: the outcome's three, rounds, cost,
 // steps; the elements written: action marks, fact marks, reduced file, origin file, table, plan file,
-// page. The five behind, from place 13 on, are for calls to come.
+// page, task file. The four behind, from place 14 on, are for calls to come.
 struct Numbers {
     outcome: files::Outcome,
     rounds: usize,
@@ -146,5 +146,15 @@ pub fn write_laid(laid: sheets::Laid, out: &mut [u64; 18])
     numbers.cost = laid.cost.0;
     numbers.steps = laid.steps.0;
     numbers.page = laid.page;
+    write(numbers, out);
+}
+
+pub fn write_translated(translated: translator::Translated, out: &mut [u64; 18])
+    ensures { λ r. ⌜ now (out .exit) ≡ translatedNumbers translated ⌝ }
+{
+    let outcome = translated.outcome;
+    let mut numbers = NONE;
+    numbers.outcome = outcome;
+    numbers.task = translated.file;
     write(numbers, out);
 }

@@ -6,6 +6,7 @@ use Rattle.reduction.proofs.Answers.{reduce-answers}
 use Rattle.reduction.proofs.StretchRight.{stretch-answers}
 use Rattle.search.proofs.Answers.{plan-answers}
 use Rattle.sheets.proofs.Answers.{sheet-answers}
+use Rattle.translator.proofs.Answers.{translate-answers}
 use Rattle.demands.specs.Demands.{Demand1}
 
 pub demand-1 : Demand1
@@ -19,4 +20,5 @@ demand-1 =
       conditions = stretch-answers;
       plan = plan-answers;
       sheet = sheet-answers;
+      translate = translate-answers;
     }

@@ -26,6 +26,7 @@ use Rattle.search.specs.Least.{SearchIsLeast}
 use Rattle.search.specs.Planner.{Lent, planAnswer, planAfter}
 use Rattle.search.specs.PlannerRight.{PlannerPromise, AmpleSuffices, NeverShort}
 use Rattle.sheets.specs.Answers.{SheetAnswers}
+use Rattle.translator.specs.Translate.{TranslateAnswers}
 
 -- Demand 1: arbitrary files, numbers and buffers; an outcome of the list, and exact buffers.
 
@@ -38,6 +39,7 @@ pub record Demand1 : Type 0 where
   pub conditions : (full reduced : List ℕ) (side action : ℕ) → Octets full → Octets reduced → StretchAnswers full reduced side action
   pub plan : (task : List ℕ) (signer : ℕ) (b : Lent) → PlanAnswers task signer b
   pub sheet : (task plan page : List ℕ) → SheetAnswers task plan page
+  pub translate : (text : List ℕ) (signer : ℕ) (file : List ℕ) → TranslateAnswers text signer file
 
 -- Demand 2: the plan checker, the marks and the reduced file, and the files.
 
