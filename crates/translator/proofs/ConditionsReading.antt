@@ -20,7 +20,6 @@ use Rattle.translator.proofs.OrderLaws.{none-some}
 use Rattle.translator.proofs.RowsInOrder.{filled-cell}
 use Rattle.translator.proofs.ReadingLaws.{open-before}
 use Rattle.translator.proofs.RepeatReading.{repeat-next, repeat-others}
-pub use Rattle.translator.proofs.RepeatReading.{repeat-more, repeat-value}
 
 -- a row that is cleared gives no variable
 pub cleared-given : (row : List ℕ) (base : ℕ) → base + 64 ≤ length row → Given (cleared row base 64) (cleared row base 64) base []

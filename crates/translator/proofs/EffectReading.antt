@@ -1,7 +1,7 @@
 -- An effect, from the code's own steps: what is read and tested, and how its old and its new value are stored.
 use Prim.Native.Nat.{ℕ, _+_, _≤_, _<_}
 use mathlib.Core.Path.{_≡_, refl, sym, ap, ap₂, _∙_}
-use mathlib.Core.Bool.{Bool, true, false, not, cond, _&&_, _||_}
+use mathlib.Core.Bool.{Bool, true, false, not, _&&_, _||_}
 use mathlib.Core.List.{List, [], _∷_}
 use mathlib.Core.Option.{Option, none, some}
 use native.Mathlib.Omega.{arith}
@@ -17,7 +17,7 @@ use Rattle.translator.specs.declared.fields.Cursor.{Cursor}
 use Rattle.translator.specs.declared.fields.ReadNumber.{ReadNumber}
 use Rattle.translator.specs.Contracts.{Inside, capped, coded, settled, numberAfter, signedAfter, judged, numberBy, same, isNew, Given, variableOf, valueBelow, plainAfter, belowOrNone, oldBelow, isOld, storedOld, EffectStored}
 use Rattle.translator.specs.Fields.{number, signed, fieldValue}
-use Rattle.translator.specs.Format.{unsupported, outOfRange, unless, Format, gives, field, bind, repeat, isOpen, fieldAfter, stepAfter, after, valueAfter}
+use Rattle.translator.specs.Format.{unsupported, outOfRange, unless, Format, gives, field, bind, repeat, isOpen, stepAfter, after, valueAfter}
 use Rattle.translator.specs.Sas.{Effect, blank, lineFeed}
 use Rattle.translator.specs.Stated.{isValue, isOldValue, oldPairs, newPairs}
 use Rattle.translator.specs.Text.{each, variableFault, valueFault, oldFault, freePair, effect}

@@ -1,8 +1,8 @@
 -- The first part of a text, from the code's own steps: the metric, the variables with their start values, and the groups.
 use Prim.Native.Nat.{ℕ, zero, suc, _+_, _%_, _≤_}
 use mathlib.Core.Path.{_≡_, refl, sym, ap, ap₂, _∙_}
-use mathlib.Core.Bool.{Bool, true, false, cond, _||_}
-use mathlib.Core.List.{List, [], _∷_, map}
+use mathlib.Core.Bool.{true, cond}
+use mathlib.Core.List.{List, [], _∷_}
 use native.Mathlib.Omega.{arith}
 use lib.Dec.{eqb}
 use lib.ListN.{length, getD, take, drop, length-map}
@@ -18,7 +18,6 @@ use Rattle.files.specs.Outcome.{guard, overwrite}
 use Rattle.digits.specs.Decimal.{ascii}
 use Rattle.translator.specs.declared.fields.Cursor.{Cursor}
 use Rattle.translator.specs.declared.fields.ReadNumber.{ReadNumber}
-use Rattle.translator.specs.declared.text.Begun.{Begun}
 use Rattle.translator.specs.Contracts.{Inside, settled, numberBy, same, sizeOf, storedSizes, storedStarts, DeclarationsRead, StartsStored, StartsRead, groupsAfter}
 use Rattle.translator.specs.Fields.{word, flag, number, byteAt, wordAt, isFlag, fieldAt, fieldLength, fieldValue}
 use Rattle.translator.specs.Format.{field, repeat, cursorAt, isOpen, reached, fieldAfter, faultAfter, stepAfter, after, valueAfter}
@@ -27,10 +26,11 @@ use Rattle.translator.specs.Sas.{Declaration, Started, lineFeed}
 use Rattle.translator.specs.Stated.{sizesOf}
 use Rattle.translator.specs.Text.{any, says, each, count, declaration, group, starts}
 use Rattle.translator.proofs.CountReading.{count-most}
+use Rattle.translator.proofs.NumberReading.{first-byte}
 use Rattle.translator.proofs.OperatorReading.{settled-is}
 use Rattle.translator.proofs.ReadingLaws.{after-bind, value-bind, open-before}
 use Rattle.translator.proofs.RepeatReading.{each-more, each-value, each-length}
-use Rattle.translator.proofs.StepReading.{settled-cursor, settled-value, settled-same}
+use Rattle.translator.proofs.StepReading.{settled-cursor, settled-value}
 use Rattle.translator.proofs.VariableReading.{after-inside, field-inside, settled-inside, field-before, after-settled, declaration-size}
 
 -- the metric is the word of its digit
@@ -45,9 +45,6 @@ unfolding fieldAt wordAt isFlag byteAt guard
 flag-zero [] at d = refl
 flag-zero (b ∷ []) at d = split (eqb b 48) (λ e. rw e refl) (λ e. rw (e, ne-eqb b 49 d) refl)
 flag-zero (b ∷ x ∷ r) at d = split (eqb b 48) (λ e. rw e refl) (λ e. rw (e, ne-eqb b 49 d) refl)
-
-first-byte : (s : List ℕ) (at : ℕ) → getD (drop at s) 0 0 ≡ getD s at 0
-first-byte s at = getD-drop at s 0 0 ∙ ap (λ (n : ℕ). getD s n 0) (add-zero at)
 
 pub metric-one : (s : List ℕ) (c w : Cursor) (b : ℕ) (r : ReadNumber) → b ≡ getD s (c .at) 0 → b ≡ 49 → w ≡ fieldAfter (word (49 ∷ 10 ∷ [])) s c → r ≡ settled w 1 → r ≡ metricAfter s c
 unfolding metricAfter fieldAfter fieldLength fieldValue

@@ -1,11 +1,9 @@
 -- An operator, from the code's own steps: its fields one behind another, its rows and its cost.
-use Prim.Native.Nat.{ℕ, _+_, _*_, _≤_, _<_}
+use Prim.Native.Nat.{ℕ, _*_}
 use mathlib.Core.Path.{_≡_, refl, sym, ap, ap₂, subst, _∙_}
 use mathlib.Core.Bool.{true}
 use mathlib.Core.List.{List, [], _∷_, _++_}
-use native.Mathlib.Omega.{arith}
-use lib.Dec.{eqb}
-use lib.ListN.{length, take, set}
+use lib.ListN.{take, set}
 use borrow.Author.Tests.{eq-eqb, ne-eqb}
 use Rattle.files.specs.Rows.{cleared, filled}
 use Rattle.files.specs.Task.{Pair}

@@ -2,9 +2,9 @@
 use Prim.Native.Nat.{ℕ, _%_, _≤_, _<_}
 use mathlib.Core.Path.{_≡_, refl, sym, ap, ap₂, _∙_}
 use mathlib.Core.Bool.{Bool, true, false, cond}
-use mathlib.Core.List.{List, [], _∷_, _++_, map}
+use mathlib.Core.List.{List, [], _∷_, map}
 use native.Mathlib.Omega.{arith}
-use lib.Dec.{eqb, leb}
+use lib.Dec.{leb}
 use lib.ListN.{length, take, drop, length-map}
 use borrow.Author.Tests.{le-leb, lt-leb}
 use Rattle.files.proofs.Guards.{guard-passes, guard-refuses, both-done, is-done}
@@ -13,7 +13,7 @@ use Rattle.files.specs.declared.Outcome.{Outcome}
 use Rattle.files.specs.Below.{bit}
 use Rattle.files.specs.Bytes.{placed}
 use Rattle.files.specs.Dense.{held, arrays}
-use Rattle.files.specs.Outcome.{refusal, guard}
+use Rattle.files.specs.Outcome.{refusal}
 use Rattle.files.specs.Records.{sizeFits}
 use Rattle.files.specs.Rows.{cleared, filled, filledRows}
 use Rattle.digits.specs.Decimal.{ascii}
@@ -22,10 +22,10 @@ use Rattle.translator.specs.declared.text.Begun.{Begun}
 use Rattle.translator.specs.declared.text.Finished.{Finished}
 use Rattle.translator.specs.Contracts.{sizeOf, storedSizes, storedStarts, costBy, conditionsOf, effectsOf}
 use Rattle.translator.specs.Fields.{word, flag, number, fieldValue}
-use Rattle.translator.specs.Format.{Format, gives, field, cursorAt, isOpen, fieldAfter, faultAfter, stepAfter, after, valueAfter}
+use Rattle.translator.specs.Format.{cursorAt, isOpen, fieldAfter, faultAfter, stepAfter, after, valueAfter}
 use Rattle.translator.specs.Parts.{Front, front, axioms, behind, closedAt, FrontRead, BodyRead, TextRead}
-use Rattle.translator.specs.Sas.{Declaration, Started, Operator, Sas, lineFeed}
-use Rattle.translator.specs.Stated.{sizesOf, stated}
+use Rattle.translator.specs.Sas.{Declaration, Started, Sas, lineFeed}
+use Rattle.translator.specs.Stated.{sizesOf}
 use Rattle.translator.specs.Text.{says, each, count, declaration, group, start, starts, conditions, operator, rule, text, formAt, checkText, sasOf, textTask}
 use Rattle.translator.proofs.CallLaws.{check-done, TextHeld, held-text}
 use Rattle.translator.proofs.ReadingLaws.{after-refused, after-bind, value-bind, open-before}
