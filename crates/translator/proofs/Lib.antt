@@ -48,6 +48,7 @@ pub mod EffectReading
 pub mod EffectsReading
 pub mod OperatorReading
 pub mod OperatorsReading
+pub mod TextParts
 pub mod FrontReading
 pub mod BodyReading
 pub mod TextReading
