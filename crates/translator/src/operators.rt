@@ -131,16 +131,8 @@ fn operator(
     let base = limits::ROW * a;
     let begun = fields::word(s, c, b"begin_operator\n");
     let named = fields::name(s, begun);
-    let asked = fields::count(s, named, limits::MOST_PAIRS);
-    let prevail = lists::conditions(
-        s,
-        asked.cursor,
-        asked.value,
-        sizes,
-        variables,
-        conditions,
-        base,
-    );
+    let n = fields::count(s, named, limits::MOST_PAIRS);
+    let prevail = lists::conditions(s, n.cursor, n.value, sizes, variables, conditions, base);
     let set = fields::count(s, prevail, limits::MOST_PAIRS);
     let changed = effects_of(
         s,
