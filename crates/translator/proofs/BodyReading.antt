@@ -19,17 +19,18 @@ use Rattle.digits.specs.Decimal.{ascii}
 use Rattle.translator.specs.declared.fields.Cursor.{Cursor}
 use Rattle.translator.specs.declared.fields.ReadNumber.{ReadNumber}
 use Rattle.translator.specs.declared.text.Begun.{Begun}
-use Rattle.translator.specs.Contracts.{capped, settled, numberAfter, judged, numberBy, same, ListRead, costBy, conditionsOf, effectsOf, OperatorsRead}
+use Rattle.translator.specs.Contracts.{capped, settled, numberAfter, judged, numberBy, same}
+use Rattle.translator.specs.ListContracts.{ListRead}
+use Rattle.translator.specs.OperatorContracts.{costBy, conditionsOf, effectsOf, OperatorsRead}
 use Rattle.translator.specs.Fields.{word, number, fieldValue}
 use Rattle.translator.specs.Format.{unsupported, unless, Format, gives, field, bind, repeat, isOpen, fieldAfter, faultAfter, stepAfter, after, valueAfter}
 use Rattle.translator.specs.Parts.{Front, axioms, behind, closedAt, endedAt, BodyRead}
 use Rattle.translator.specs.Sas.{Operator, Rule, Sas, lineFeed}
 use Rattle.translator.specs.Text.{says, each, count, conditions, operator, rule}
 use Rattle.translator.proofs.CountReading.{count-most}
-use Rattle.translator.proofs.OperatorReading.{settled-is}
 use Rattle.translator.proofs.ReadingLaws.{after-refused, after-bind, value-bind, open-before}
 use Rattle.translator.proofs.RepeatReading.{each-length}
-use Rattle.translator.proofs.StepReading.{eqb-capped, step-fine, unless-none, number-is, settled-value, read-value, read-tested}
+use Rattle.translator.proofs.StepReading.{eqb-capped, step-fine, unless-none, number-is, settled-value, read-value, read-tested, settled-is}
 use Rattle.translator.proofs.VariableReading.{field-before, after-settled}
 
 -- the end of a text

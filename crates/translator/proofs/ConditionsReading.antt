@@ -12,7 +12,7 @@ use Rattle.files.specs.Below.{anyOf}
 use Rattle.files.specs.Rows.{cleared, filled}
 use Rattle.files.specs.Task.{Pair}
 use Rattle.translator.specs.declared.fields.Cursor.{Cursor}
-use Rattle.translator.specs.Contracts.{isNew, Given, PairStored, ListRead}
+use Rattle.translator.specs.ListContracts.{isNew, Given, PairStored, ListRead}
 use Rattle.translator.specs.Format.{repeat, isOpen, after, valueAfter}
 use Rattle.translator.specs.Stated.{variablesOf}
 use Rattle.translator.specs.Text.{condition, conditions}

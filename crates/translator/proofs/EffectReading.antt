@@ -15,7 +15,9 @@ use Rattle.files.specs.Rows.{stored, filled}
 use Rattle.files.specs.Task.{Pair}
 use Rattle.translator.specs.declared.fields.Cursor.{Cursor}
 use Rattle.translator.specs.declared.fields.ReadNumber.{ReadNumber}
-use Rattle.translator.specs.Contracts.{Inside, capped, coded, settled, numberAfter, signedAfter, judged, numberBy, same, isNew, Given, variableOf, valueBelow, plainAfter, belowOrNone, oldBelow, isOld, storedOld, EffectStored}
+use Rattle.translator.specs.Contracts.{Inside, capped, coded, settled, numberAfter, signedAfter, judged, numberBy, same}
+use Rattle.translator.specs.ListContracts.{isNew, Given, variableOf, valueBelow}
+use Rattle.translator.specs.OperatorContracts.{plainAfter, belowOrNone, oldBelow, isOld, storedOld, EffectStored}
 use Rattle.translator.specs.Fields.{number, signed, fieldValue}
 use Rattle.translator.specs.Format.{unsupported, outOfRange, unless, Format, gives, field, bind, repeat, isOpen, stepAfter, after, valueAfter}
 use Rattle.translator.specs.Sas.{Effect, blank, lineFeed}

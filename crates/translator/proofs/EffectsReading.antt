@@ -8,7 +8,8 @@ use native.Mathlib.Omega.{arith}
 use lib.ListN.{length}
 use Rattle.files.specs.Rows.{cleared, filled}
 use Rattle.translator.specs.declared.fields.Cursor.{Cursor}
-use Rattle.translator.specs.Contracts.{isNew, Given, EffectStored, EffectsStored}
+use Rattle.translator.specs.ListContracts.{isNew, Given}
+use Rattle.translator.specs.OperatorContracts.{EffectStored, EffectsStored}
 use Rattle.translator.specs.Format.{repeat, isOpen, after, valueAfter}
 use Rattle.translator.specs.Sas.{Effect}
 use Rattle.translator.specs.Stated.{oldPairs, newPairs}

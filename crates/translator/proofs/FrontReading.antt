@@ -17,7 +17,8 @@ use Rattle.files.specs.Outcome.{guard, overwrite}
 use Rattle.digits.specs.Decimal.{ascii}
 use Rattle.translator.specs.declared.fields.Cursor.{Cursor}
 use Rattle.translator.specs.declared.fields.ReadNumber.{ReadNumber}
-use Rattle.translator.specs.Contracts.{Inside, settled, numberBy, same, sizeOf, storedSizes, storedStarts, DeclarationsRead, StartsStored, StartsRead, groupsAfter}
+use Rattle.translator.specs.Contracts.{Inside, settled, numberBy, same}
+use Rattle.translator.specs.VariableContracts.{sizeOf, storedSizes, storedStarts, DeclarationsRead, StartsStored, StartsRead, groupsAfter}
 use Rattle.translator.specs.Fields.{word, flag, number, byteAt, wordAt, isFlag, fieldAt, fieldLength, fieldValue}
 use Rattle.translator.specs.Format.{field, repeat, cursorAt, isOpen, reached, fieldAfter, after, valueAfter}
 use Rattle.translator.specs.Parts.{Front, front, metricAfter, FrontRead}
@@ -26,10 +27,9 @@ use Rattle.translator.specs.Stated.{sizesOf}
 use Rattle.translator.specs.Text.{any, each, count, declaration, group, starts}
 use Rattle.translator.proofs.CountReading.{count-most}
 use Rattle.translator.proofs.NumberReading.{first-byte}
-use Rattle.translator.proofs.OperatorReading.{settled-is}
 use Rattle.translator.proofs.ReadingLaws.{open-before}
 use Rattle.translator.proofs.RepeatReading.{each-more, each-value, each-length}
-use Rattle.translator.proofs.StepReading.{settled-cursor, settled-value}
+use Rattle.translator.proofs.StepReading.{settled-cursor, settled-value, settled-is}
 use Rattle.translator.proofs.TextParts.{atMetric, metricIn, behindMetric, atCount, countIn, atVariables, declarationsIn, atGroups, behindGroups, atStarts, variablesIn, behindStarts, front-after, front-value}
 use Rattle.translator.proofs.VariableReading.{after-inside, field-inside, settled-inside, field-before, after-settled, declaration-size}
 

@@ -13,7 +13,8 @@ use Rattle.files.specs.Outcome.{isDone}
 use Rattle.digits.specs.Decimal.{ascii}
 use Rattle.translator.specs.declared.fields.Cursor.{Cursor}
 use Rattle.translator.specs.declared.fields.ReadNumber.{ReadNumber}
-use Rattle.translator.specs.Contracts.{Inside, capped, numberAfter, groupsAfter}
+use Rattle.translator.specs.Contracts.{Inside, capped, numberAfter}
+use Rattle.translator.specs.VariableContracts.{groupsAfter}
 use Rattle.translator.specs.Fields.{Field, Value, word, number, fieldLength, fieldValue}
 use Rattle.translator.specs.Format.{Fault, Format, gives, field, isOpen, reached, fieldAfter, faultAfter, stepAfter, after}
 use Rattle.translator.specs.Sas.{Separator, blank, lineFeed}

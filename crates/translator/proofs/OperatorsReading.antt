@@ -7,7 +7,7 @@ use native.Mathlib.Omega.{arith}
 use Rattle.files.specs.Bytes.{placed}
 use Rattle.files.specs.Rows.{filledRows}
 use Rattle.translator.specs.declared.fields.Cursor.{Cursor}
-use Rattle.translator.specs.Contracts.{costBy, conditionsOf, effectsOf, OperatorRead, OperatorsRead}
+use Rattle.translator.specs.OperatorContracts.{costBy, conditionsOf, effectsOf, OperatorRead, OperatorsRead}
 use Rattle.translator.specs.Format.{repeat, isOpen, after, valueAfter}
 use Rattle.translator.specs.Sas.{Operator}
 use Rattle.translator.specs.Text.{each, operator}

@@ -14,7 +14,8 @@ use Rattle.files.specs.Below.{anyOf}
 use Rattle.files.specs.Rows.{stored}
 use Rattle.translator.specs.declared.fields.Cursor.{Cursor}
 use Rattle.translator.specs.declared.fields.ReadNumber.{ReadNumber}
-use Rattle.translator.specs.Contracts.{capped, settled, numberAfter, judged, numberBy, same, isNew, Given, variableOf}
+use Rattle.translator.specs.Contracts.{capped, settled, numberAfter, judged, numberBy, same}
+use Rattle.translator.specs.ListContracts.{isNew, Given, variableOf}
 use Rattle.translator.specs.Fields.{number, fieldValue}
 use Rattle.translator.specs.Format.{givenTwice, outOfRange, unless, isOpen, fieldAfter, faultAfter, stepAfter}
 use Rattle.translator.specs.Sas.{blank}

@@ -11,7 +11,9 @@ use Rattle.files.specs.Bytes.{placed}
 use Rattle.files.proofs.Logic.{clash, split}
 use Rattle.translator.specs.declared.fields.Cursor.{Cursor}
 use Rattle.translator.specs.declared.fields.ReadNumber.{ReadNumber}
-use Rattle.translator.specs.Contracts.{Inside, settled, numberBy, same, sizeOf, valueBelow, DeclarationsRead, StartsStored, StartsRead}
+use Rattle.translator.specs.Contracts.{Inside, settled, numberBy, same}
+use Rattle.translator.specs.VariableContracts.{sizeOf, DeclarationsRead, StartsStored, StartsRead}
+use Rattle.translator.specs.ListContracts.{valueBelow}
 use Rattle.translator.specs.Format.{Format, gives, isOpen, after, valueAfter}
 use Rattle.translator.specs.Sas.{Declaration}
 use Rattle.translator.specs.Stated.{sizesOf}

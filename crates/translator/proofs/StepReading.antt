@@ -116,6 +116,10 @@ module _ (c : Cursor) (n : ℕ) (r : ReadNumber) (is : r ≡ settled c n) where
   unfolding settled
   settled-value o = ap (λ (x : ReadNumber). x .value) is ∙ rw o refl
 
+pub settled-is : (c : Cursor) (n : ℕ) (r : ReadNumber) → r ≡ settled c n → isOpen c ≡ true → r ≡ record { cursor = c; value = n }
+unfolding settled
+settled-is c n r e o = e ∙ rw o refl
+
 pub settled-same : (c : Cursor) (a b : ℕ) → (isOpen c ≡ true → a ≡ b) → settled c a ≡ settled c b
 unfolding settled
 settled-same c a b h = split (isOpen c) (λ e. rw (e, h e) refl) (λ e. rw e refl)

@@ -7,7 +7,7 @@ use lib.ListN.{drop}
 use Rattle.files.specs.Task.{Pair}
 use Rattle.digits.specs.Decimal.{ascii}
 use Rattle.translator.specs.declared.fields.Cursor.{Cursor}
-use Rattle.translator.specs.Contracts.{groupsAfter}
+use Rattle.translator.specs.VariableContracts.{groupsAfter}
 use Rattle.translator.specs.Fields.{word, flag, number, fieldValue}
 use Rattle.translator.specs.Format.{field, cursorAt, fieldAfter, faultAfter, stepAfter, after, valueAfter}
 use Rattle.translator.specs.Parts.{Front, front, axioms, behind}

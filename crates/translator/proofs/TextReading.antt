@@ -18,7 +18,8 @@ use Rattle.files.specs.Records.{sizeFits}
 use Rattle.files.specs.Rows.{cleared, filled, filledRows}
 use Rattle.translator.specs.declared.text.Begun.{Begun}
 use Rattle.translator.specs.declared.text.Finished.{Finished}
-use Rattle.translator.specs.Contracts.{sizeOf, storedSizes, storedStarts, costBy, conditionsOf, effectsOf}
+use Rattle.translator.specs.VariableContracts.{sizeOf, storedSizes, storedStarts}
+use Rattle.translator.specs.OperatorContracts.{costBy, conditionsOf, effectsOf}
 use Rattle.translator.specs.Format.{cursorAt, isOpen, after, valueAfter}
 use Rattle.translator.specs.Parts.{Front, front, behind, closedAt, FrontRead, BodyRead, TextRead}
 use Rattle.translator.specs.Sas.{Started, Sas}

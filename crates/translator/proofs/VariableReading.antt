@@ -11,7 +11,8 @@ use Rattle.files.proofs.Logic.{split, cond-case}
 use Rattle.digits.specs.Decimal.{ascii}
 use Rattle.translator.specs.declared.fields.Cursor.{Cursor}
 use Rattle.translator.specs.declared.fields.ReadNumber.{ReadNumber}
-use Rattle.translator.specs.Contracts.{Inside, WordInside, coded, settled, numberAfter, signedAfter, judged, numberBy, same, sizeOf, layerAfter}
+use Rattle.translator.specs.Contracts.{Inside, WordInside, coded, settled, numberAfter, signedAfter, judged, numberBy, same}
+use Rattle.translator.specs.VariableContracts.{sizeOf, layerAfter}
 use Rattle.translator.specs.Fields.{Field, word, name, number, signed, fieldValue}
 use Rattle.translator.specs.Format.{unsupported, Format, gives, field, isOpen, fieldAfter, faultAfter, stepAfter, after, valueAfter}
 use Rattle.translator.specs.Sas.{Separator, lineFeed}

@@ -5,6 +5,9 @@ pub mod Fields
 pub mod Format
 pub mod Text
 pub mod Contracts
+pub mod VariableContracts
+pub mod ListContracts
+pub mod OperatorContracts
 pub mod Parts
 pub mod Translate
 pub mod Right

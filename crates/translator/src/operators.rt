@@ -2,7 +2,9 @@
 ghost use mathlib.Core.Path.{_≡_};
 ghost use Prim.Native.Nat.{_≤_};
 ghost use lib.ListN.{take};
-ghost use Rattle.translator.specs.Contracts.{Inside, CountInside, coded, numberBy, plainAfter, oldBelow, isOld, RowInside, storedOld, EffectInside, EffectRead, EffectsRead, costBy, OperatorInside, OperatorRead, OperatorsInside, OperatorsRead};
+ghost use Rattle.translator.specs.Contracts.{Inside, CountInside, coded, numberBy};
+ghost use Rattle.translator.specs.ListContracts.{RowInside};
+ghost use Rattle.translator.specs.OperatorContracts.{plainAfter, oldBelow, isOld, storedOld, EffectInside, EffectRead, EffectsRead, costBy, OperatorInside, OperatorRead, OperatorsInside, OperatorsRead};
 use crate::fields;
 use crate::fields::Cursor;
 use crate::fields::ReadNumber;
