@@ -1,4 +1,4 @@
--- The second part of a text, from the code's own steps: the goal, the operators and the end; then the whole text.
+-- The second part of a text, from the code's own steps: the goal, the operators and the end.
 use Prim.Native.Nat.{ℕ, _≤_, _<_}
 use mathlib.Core.Path.{_≡_, refl, sym, ap, _∙_}
 use mathlib.Core.Bool.{true}

@@ -19,8 +19,8 @@ use Rattle.translator.proofs.ReadingLaws.{open-before}
 use Rattle.translator.proofs.RepeatReading.{repeat-next, repeat-others}
 
 -- a row of conditions beside a row of effects that is cleared
-given-beside : (conditions cleared′ : List ℕ) (base : ℕ) (given : List ℕ) → Given cleared′ cleared′ base [] → Given conditions conditions base given → Given conditions cleared′ base given
-given-beside conditions cleared′ base given h k v = ap (λ (b : Bool). isNew conditions base v && b) (once (isNew cleared′ base v) (h v)) ∙ sym (twice (isNew conditions base v)) ∙ k v
+given-beside : (conditions blank : List ℕ) (base : ℕ) (given : List ℕ) → Given blank blank base [] → Given conditions conditions base given → Given conditions blank base given
+given-beside conditions blank base given h k v = ap (λ (b : Bool). isNew conditions base v && b) (once (isNew blank base v) (h v)) ∙ sym (twice (isNew conditions base v)) ∙ k v
   where
     once : (b : Bool) → b && b ≡ true → b ≡ true
     once true e = refl

@@ -80,22 +80,22 @@ module _ (s : List ℕ) (h : Begun) (r : Finished) (sizes₀ sizes starts₀ sta
   outcome-is = guard-passes (leb (length s) 65536) 4 0 (formAt s) (r .outcome) (le-leb (length s) 65536 few) (second .outcome x ∙ ap (closedAt s) parts-after)
 
   module _ (z : r .outcome .number ≡ 0) where
-    open′ : isOpen (h .cursor) ≡ true
+    front-open : isOpen (h .cursor) ≡ true
     unfolding closedAt isOpen sz x
-    open′ =
+    front-open =
         open-before (behind sz x) s (h .cursor)
         (is-done _ (both-done _ _ (sym (ap (λ (o : Outcome). o .number) (second .outcome x)) ∙ z) .0))
 
     sas-is : valueAfter (behind sz x) s (h .cursor) ≡ sasOf s
     unfolding x sz
     sas-is =
-        ap (λ (l : List ℕ). valueAfter (behind l x) s (h .cursor)) (sym (first .sizesHeld open′))
+        ap (λ (l : List ℕ). valueAfter (behind l x) s (h .cursor)) (sym (first .sizesHeld front-open))
         ∙ ap (valueAfter (behind (sizesOf (x .declarations)) x) s) (first .cursor)
         ∙ sym (text-value s)
 
     metric-is : h .metric ≡ bit (sasOf s .metric)
     unfolding x
-    metric-is = first .metric open′ ∙ ap bit (sym (behind-front sz x s (h .cursor) .0)) ∙ ap (λ (y : Sas). bit (y .metric)) sas-is
+    metric-is = first .metric front-open ∙ ap bit (sym (behind-front sz x s (h .cursor) .0)) ∙ ap (λ (y : Sas). bit (y .metric)) sas-is
 
     variables-are : x .variables ≡ sasOf s .variables
     variables-are = sym (behind-front sz x s (h .cursor) .1) ∙ ap (λ (y : Sas). y .variables) sas-is
@@ -110,18 +110,18 @@ module _ (s : List ℕ) (h : Begun) (r : Finished) (sizes₀ sizes starts₀ sta
         let kept : TextHeld s = held-text s (check-done s (sym (ap (λ (o : Outcome). o .number) outcome-is) ∙ z)) in
         let y : Sas = sasOf s in
         let body = second .stored x z in
-        let count : r .variables ≡ length (y .variables) = second .variables ∙ first .counted open′ ∙ ap length declared-are ∙ length-map (y .variables) (λ v. v .declared) in
+        let count : r .variables ≡ length (y .variables) = second .variables ∙ first .counted front-open ∙ ap length declared-are ∙ length-map (y .variables) (λ v. v .declared) in
         let actions : r .actions ≡ length (y .operators) = body .counted ∙ ap (λ (q : Sas). length (q .operators)) sas-is in
         let size : sizes ≡ placed sizes₀ 0 (map (λ v. length (v .declared .values) % 256) (y .variables)) =
-        first .sizesRead open′ ∙ ap (placed sizes₀ 0) (ap storedSizes declared-are ∙ map-declared (y .variables)) in
-        let start′ : startsNow ≡ placed starts₀ 0 (map (λ v. v .start % 256) (y .variables)) = first .startsRead open′ ∙ ap (λ (l : List Started). placed starts₀ 0 (storedStarts l)) variables-are in
+        first .sizesRead front-open ∙ ap (placed sizes₀ 0) (ap storedSizes declared-are ∙ map-declared (y .variables)) in
+        let start : startsNow ≡ placed starts₀ 0 (map (λ v. v .start % 256) (y .variables)) = first .startsRead front-open ∙ ap (λ (l : List Started). placed starts₀ 0 (storedStarts l)) variables-are in
         let aim : goal ≡ filled (cleared goal₀ 0 64) 0 (y .goal) = body .goalRead ∙ ap (λ (q : Sas). filled (cleared goal₀ 0 64) 0 (q .goal)) sas-is in
         let cost : costs ≡ placed costs₀ 0 (map (λ o. cond (y .metric) (o .cost) 1) (y .operators)) =
         body .costsRead ∙ ap (λ (q : Sas). placed costs₀ 0 (map (λ o. costBy (h .metric) (o .cost)) (q .operators))) sas-is
         ∙ ap (placed costs₀ 0) (map-same _ _ (y .operators) (λ o. ap (λ (m : ℕ). costBy m (o .cost)) metric-is ∙ cost-same (y .metric) (o .cost))) in
         let asked : conditionsNow ≡ filledRows conditions₀ 0 (map conditionsOf (y .operators)) = body .conditionsRead ∙ ap (λ (q : Sas). filledRows conditions₀ 0 (map conditionsOf (q .operators))) sas-is in
         let set : effectsNow ≡ filledRows effects₀ 0 (map effectsOf (y .operators)) = body .effectsRead ∙ ap (λ (q : Sas). filledRows effects₀ 0 (map effectsOf (q .operators))) sas-is in
-        (λ i. held (arrays (count i) (actions i) (size i) (start′ i) (aim i) (cost i) (asked i) (set i)))
+        (λ i. held (arrays (count i) (actions i) (size i) (start i) (aim i) (cost i) (asked i) (set i)))
         ∙ stated-held y sizes₀ starts₀ goal₀ costs₀ conditions₀ effects₀ (kept .within) (kept .accepted) sizesRoom startsRoom goalRoom costsRoom conditionsRoom effectsRoom
         ∙ sym (kept .task)
 
