@@ -31,7 +31,7 @@ use Rattle.translator.proofs.CountReading.{count-most}
 use Rattle.translator.proofs.ReadingLaws.{after-refused, after-bind, value-bind, open-before}
 use Rattle.translator.proofs.RepeatReading.{each-length}
 use Rattle.translator.proofs.StepReading.{eqb-capped, step-fine, unless-none, number-is, settled-value, read-value, read-tested, settled-is}
-use Rattle.translator.proofs.VariableReading.{field-before, after-settled}
+use Rattle.translator.proofs.InsideReading.{field-before, after-settled}
 
 -- the end of a text
 module _ (s : List ℕ) (c : Cursor) (n : ReadNumber) (last : Cursor) (is : n ≡ numberAfter lineFeed s c) (e : last ≡ judged (n .cursor) (eqb (n .value) 0) 32 (c .at)) where

@@ -26,7 +26,7 @@ use Rattle.translator.specs.Text.{each, variableFault, valueFault, oldFa
 use Rattle.translator.proofs.NumberReading.{capped-small, capped-most}
 use Rattle.translator.proofs.ReadingLaws.{after-refused, open-before}
 use Rattle.translator.proofs.StepReading.{eqb-capped, ltb-capped, step-fine, unless-none, number-is, signed-is, read-value, read-tested, read-settled}
-use Rattle.translator.proofs.VariableReading.{after-inside}
+use Rattle.translator.proofs.InsideReading.{after-inside}
 use Rattle.translator.proofs.RowReading.{new-stored}
 use Rattle.translator.proofs.ListReading.{step-same, number-cursor, number-value, variable-known, value-below}
 

@@ -31,7 +31,8 @@ use Rattle.translator.proofs.ReadingLaws.{open-before}
 use Rattle.translator.proofs.RepeatReading.{each-more, each-value, each-length}
 use Rattle.translator.proofs.StepReading.{settled-cursor, settled-value, settled-is}
 use Rattle.translator.proofs.TextParts.{atMetric, metricIn, behindMetric, atCount, countIn, atVariables, declarationsIn, atGroups, behindGroups, atStarts, variablesIn, behindStarts, front-after, front-value}
-use Rattle.translator.proofs.VariableReading.{after-inside, field-inside, settled-inside, field-before, after-settled, declaration-size}
+use Rattle.translator.proofs.InsideReading.{after-inside, field-inside, settled-inside, field-before, after-settled}
+use Rattle.translator.proofs.VariableReading.{declaration-size}
 
 -- the metric is the word of its digit
 flag-one : (r : List ℕ) (at : ℕ) → getD r 0 0 ≡ 49 → fieldAt (word (49 ∷ 10 ∷ [])) r at ≡ fieldAt flag r at

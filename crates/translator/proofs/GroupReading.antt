@@ -25,7 +25,7 @@ use Rattle.translator.proofs.NumberReading.{capped-small, capped-large}
 use Rattle.translator.proofs.ReadingLaws.{after-refused, after-bind, open-before}
 use Rattle.translator.proofs.ReadingListed.{after-within}
 use Rattle.translator.proofs.StepReading.{settled-cursor, step-fine, step-field, number-is}
-use Rattle.translator.proofs.VariableReading.{field-inside, field-before, after-settled}
+use Rattle.translator.proofs.InsideReading.{field-inside, field-before, after-settled}
 use Rattle.translator.proofs.RepeatReading.{each-more}
 
 -- where a field ends that is read

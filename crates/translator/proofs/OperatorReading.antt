@@ -20,7 +20,7 @@ use Rattle.translator.specs.Stated.{variablesOf, oldPairs, newPairs}
 use Rattle.translator.specs.Text.{says, count, conditions, effects, operator}
 use Rattle.translator.proofs.ReadingLaws.{after-bind, value-bind, open-before}
 use Rattle.translator.proofs.StepReading.{settled-value, settled-is}
-use Rattle.translator.proofs.VariableReading.{field-before, after-settled}
+use Rattle.translator.proofs.InsideReading.{field-before, after-settled}
 
 pub cost-one : (metric cost : ℕ) → metric ≡ 0 → 1 ≡ costBy metric cost
 unfolding costBy

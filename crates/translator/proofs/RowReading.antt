@@ -22,7 +22,7 @@ use Rattle.translator.specs.Sas.{blank}
 use Rattle.translator.specs.Text.{variableFault}
 use Rattle.translator.proofs.NumberReading.{capped-small, capped-large}
 use Rattle.translator.proofs.ReadingLaws.{fault-refused}
-use Rattle.translator.proofs.VariableReading.{field-before}
+use Rattle.translator.proofs.InsideReading.{field-before}
 use Rattle.translator.proofs.StepReading.{ltb-capped, fault-judged, fault-then, fault-both, fault-before, unless-none, number-is, read-fine, read-value, read-tested}
 
 -- which variables are new

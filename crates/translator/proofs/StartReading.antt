@@ -20,7 +20,7 @@ use Rattle.translator.specs.Stated.{sizesOf}
 use Rattle.translator.specs.Text.{each, declaration, start, starts}
 use Rattle.translator.proofs.ReadingLaws.{after-refused, open-before}
 use Rattle.translator.proofs.ListReading.{number-cursor}
-use Rattle.translator.proofs.VariableReading.{number-inside}
+use Rattle.translator.proofs.InsideReading.{number-inside}
 use Rattle.translator.proofs.RepeatReading.{first, first-after, first-value, each-empty, each-first}
 use Rattle.translator.proofs.StepReading.{settled-value}
 

@@ -1,4 +1,4 @@
--- The definitions of the crate.
+-- The definitions of the crate: what a text states, how it is read, what the code asks and ensures, and what is promised.
 pub mod Sas
 pub mod Stated
 pub mod Fields
