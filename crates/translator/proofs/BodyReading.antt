@@ -1,7 +1,7 @@
--- The second part of a text, from the code's own steps: the goal, the operators and the end; then the whole text.
+-- The second part of a text, from the code's own steps: the goal, the operators and the end.
 use Prim.Native.Nat.{ℕ, _≤_, _<_}
-use mathlib.Core.Path.{_≡_, refl, sym, ap, ap₂, _∙_}
-use mathlib.Core.Bool.{Bool, true, false}
+use mathlib.Core.Path.{_≡_, refl, sym, ap, _∙_}
+use mathlib.Core.Bool.{true}
 use mathlib.Core.List.{List, [], map}
 use mathlib.Core.Option.{none}
 use native.Mathlib.Omega.{arith}
@@ -12,25 +12,26 @@ use Rattle.files.proofs.Guards.{guard-passes, guard-refuses, goes-on, stops, bo
 use Rattle.files.proofs.Logic.{split}
 use Rattle.files.specs.declared.Outcome.{Outcome}
 use Rattle.files.specs.Bytes.{placed}
-use Rattle.files.specs.Outcome.{done, refusal, guard, andThen, isDone}
+use Rattle.files.specs.Outcome.{done, refusal}
 use Rattle.files.specs.Rows.{cleared, filled, filledRows}
 use Rattle.files.specs.Task.{Pair}
 use Rattle.digits.specs.Decimal.{ascii}
 use Rattle.translator.specs.declared.fields.Cursor.{Cursor}
 use Rattle.translator.specs.declared.fields.ReadNumber.{ReadNumber}
 use Rattle.translator.specs.declared.text.Begun.{Begun}
-use Rattle.translator.specs.Contracts.{capped, settled, numberAfter, judged, numberBy, same, ListRead, costBy, conditionsOf, effectsOf, OperatorsRead}
+use Rattle.translator.specs.Contracts.{capped, settled, numberAfter, judged, numberBy, same}
+use Rattle.translator.specs.ListContracts.{ListRead}
+use Rattle.translator.specs.OperatorContracts.{costBy, conditionsOf, effectsOf, OperatorsRead}
 use Rattle.translator.specs.Fields.{word, number, fieldValue}
 use Rattle.translator.specs.Format.{unsupported, unless, Format, gives, field, bind, repeat, isOpen, fieldAfter, faultAfter, stepAfter, after, valueAfter}
-use Rattle.translator.specs.Parts.{Front, axioms, behind, closedAt, endedAt, BodyStored, BodyRead}
+use Rattle.translator.specs.Parts.{Front, axioms, behind, closedAt, endedAt, BodyRead}
 use Rattle.translator.specs.Sas.{Operator, Rule, Sas, lineFeed}
 use Rattle.translator.specs.Text.{says, each, count, conditions, operator, rule}
 use Rattle.translator.proofs.CountReading.{count-most}
-use Rattle.translator.proofs.OperatorReading.{settled-is}
 use Rattle.translator.proofs.ReadingLaws.{after-refused, after-bind, value-bind, open-before}
 use Rattle.translator.proofs.RepeatReading.{each-length}
-use Rattle.translator.proofs.StepReading.{eqb-capped, step-fine, unless-none, number-is, settled-cursor, settled-value, read-value, read-tested}
-use Rattle.translator.proofs.VariableReading.{field-before, after-settled}
+use Rattle.translator.proofs.StepReading.{eqb-capped, step-fine, unless-none, number-is, settled-value, read-value, read-tested, settled-is}
+use Rattle.translator.proofs.InsideReading.{field-before, after-settled}
 
 -- the end of a text
 module _ (s : List ℕ) (c : Cursor) (n : ReadNumber) (last : Cursor) (is : n ≡ numberAfter lineFeed s c) (e : last ≡ judged (n .cursor) (eqb (n .value) 0) 32 (c .at)) where

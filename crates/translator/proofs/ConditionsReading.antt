@@ -12,7 +12,7 @@ use Rattle.files.specs.Below.{anyOf}
 use Rattle.files.specs.Rows.{cleared, filled}
 use Rattle.files.specs.Task.{Pair}
 use Rattle.translator.specs.declared.fields.Cursor.{Cursor}
-use Rattle.translator.specs.Contracts.{isNew, Given, PairStored, ListRead}
+use Rattle.translator.specs.ListContracts.{isNew, Given, PairStored, ListRead}
 use Rattle.translator.specs.Format.{repeat, isOpen, after, valueAfter}
 use Rattle.translator.specs.Stated.{variablesOf}
 use Rattle.translator.specs.Text.{condition, conditions}
@@ -20,7 +20,6 @@ use Rattle.translator.proofs.OrderLaws.{none-some}
 use Rattle.translator.proofs.RowsInOrder.{filled-cell}
 use Rattle.translator.proofs.ReadingLaws.{open-before}
 use Rattle.translator.proofs.RepeatReading.{repeat-next, repeat-others}
-pub use Rattle.translator.proofs.RepeatReading.{repeat-more, repeat-value}
 
 -- a row that is cleared gives no variable
 pub cleared-given : (row : List ℕ) (base : ℕ) → base + 64 ≤ length row → Given (cleared row base 64) (cleared row base 64) base []

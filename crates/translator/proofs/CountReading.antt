@@ -11,7 +11,8 @@ use borrow.Author.Tests.{leb-true, ltb-true}
 use Rattle.files.proofs.Logic.{split}
 use Rattle.translator.specs.declared.fields.Cursor.{Cursor}
 use Rattle.translator.specs.declared.fields.ReadNumber.{ReadNumber}
-use Rattle.translator.specs.Contracts.{capped, settled, numberAfter, judged, numberBy, same, valueBelow}
+use Rattle.translator.specs.Contracts.{capped, settled, numberAfter, judged, numberBy, same}
+use Rattle.translator.specs.ListContracts.{valueBelow}
 use Rattle.translator.specs.Fields.{number, fieldValue}
 use Rattle.translator.specs.Format.{Fault, outsideLimits, outOfRange, unless, isOpen, fieldAfter, after, valueAfter}
 use Rattle.translator.specs.Sas.{lineFeed}

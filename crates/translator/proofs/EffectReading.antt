@@ -1,7 +1,7 @@
 -- An effect, from the code's own steps: what is read and tested, and how its old and its new value are stored.
 use Prim.Native.Nat.{ℕ, _+_, _≤_, _<_}
 use mathlib.Core.Path.{_≡_, refl, sym, ap, ap₂, _∙_}
-use mathlib.Core.Bool.{Bool, true, false, not, cond, _&&_, _||_}
+use mathlib.Core.Bool.{Bool, true, false, not, _&&_, _||_}
 use mathlib.Core.List.{List, [], _∷_}
 use mathlib.Core.Option.{Option, none, some}
 use native.Mathlib.Omega.{arith}
@@ -15,16 +15,18 @@ use Rattle.files.specs.Rows.{stored, filled}
 use Rattle.files.specs.Task.{Pair}
 use Rattle.translator.specs.declared.fields.Cursor.{Cursor}
 use Rattle.translator.specs.declared.fields.ReadNumber.{ReadNumber}
-use Rattle.translator.specs.Contracts.{Inside, capped, coded, settled, numberAfter, signedAfter, judged, numberBy, same, isNew, Given, variableOf, valueBelow, plainAfter, belowOrNone, oldBelow, isOld, storedOld, EffectStored}
+use Rattle.translator.specs.Contracts.{Inside, capped, coded, settled, numberAfter, signedAfter, judged, numberBy, same}
+use Rattle.translator.specs.ListContracts.{isNew, Given, variableOf, valueBelow}
+use Rattle.translator.specs.OperatorContracts.{plainAfter, belowOrNone, oldBelow, isOld, storedOld, EffectStored}
 use Rattle.translator.specs.Fields.{number, signed, fieldValue}
-use Rattle.translator.specs.Format.{unsupported, outOfRange, unless, Format, gives, field, bind, repeat, isOpen, fieldAfter, stepAfter, after, valueAfter}
+use Rattle.translator.specs.Format.{unsupported, outOfRange, unless, Format, gives, field, bind, repeat, isOpen, stepAfter, after, valueAfter}
 use Rattle.translator.specs.Sas.{Effect, blank, lineFeed}
 use Rattle.translator.specs.Stated.{isValue, isOldValue, oldPairs, newPairs}
 use Rattle.translator.specs.Text.{each, variableFault, valueFault, oldFault, freePair, effect}
 use Rattle.translator.proofs.NumberReading.{capped-small, capped-most}
 use Rattle.translator.proofs.ReadingLaws.{after-refused, open-before}
 use Rattle.translator.proofs.StepReading.{eqb-capped, ltb-capped, step-fine, unless-none, number-is, signed-is, read-value, read-tested, read-settled}
-use Rattle.translator.proofs.VariableReading.{after-inside}
+use Rattle.translator.proofs.InsideReading.{after-inside}
 use Rattle.translator.proofs.RowReading.{new-stored}
 use Rattle.translator.proofs.ListReading.{step-same, number-cursor, number-value, variable-known, value-below}
 
@@ -120,8 +122,8 @@ module _ (s : List ℕ) (c : Cursor) (sizes : List ℕ) (variables : ℕ) (given
   O : Cursor
   O = after (oldBelow size) s K
 
-  o′ : Option ℕ
-  o′ = valueAfter (oldBelow size) s K
+  old : Option ℕ
+  old = valueAfter (oldBelow size) s K
 
   N : Cursor
   N = after (valueBelow size) s O
@@ -129,13 +131,13 @@ module _ (s : List ℕ) (c : Cursor) (sizes : List ℕ) (variables : ℕ) (given
   d : ℕ
   d = valueAfter (valueBelow size) s O
 
-  named′ : n ≡ numberBy (variableOf sz given) same s P
+  variable-is : n ≡ numberBy (variableOf sz given) same s P
   unfolding sz P
-  named′ = named ∙ ap (numberBy (variableOf sz given) same s) plain
+  variable-is = named ∙ ap (numberBy (variableOf sz given) same s) plain
 
   K-is : n .cursor ≡ K
   unfolding K
-  K-is = number-cursor (variableOf sz given) same s P n named′
+  K-is = number-cursor (variableOf sz given) same s P n variable-is
 
   O-is : before .cursor ≡ O
   unfolding O
@@ -159,10 +161,10 @@ module _ (s : List ℕ) (c : Cursor) (sizes : List ℕ) (variables : ℕ) (given
 
   w-is : isOpen K ≡ true → n .value ≡ w
   unfolding K w
-  w-is = number-value (variableOf sz given) same s P n named′
+  w-is = number-value (variableOf sz given) same s P n variable-is
 
-  o-is : isOpen O ≡ true → before .value ≡ coded o′
-  unfolding O o′
+  o-is : isOpen O ≡ true → before .value ≡ coded old
+  unfolding O old
   o-is e = number-value (oldBelow size) coded s (n .cursor) before olds (ap (λ (x : Cursor). isOpen (after (oldBelow size) s x)) K-is ∙ e) ∙ ap (λ (x : Cursor). coded (valueAfter (oldBelow size) s x)) K-is
 
   d-is : isOpen N ≡ true → new .value ≡ d
@@ -196,14 +198,14 @@ module _ (s : List ℕ) (c : Cursor) (sizes : List ℕ) (variables : ℕ) (given
   unfolding effectOf after valueAfter K w P
   cursor-is = N-is ∙ N-after ∙ ap (stepAfter (number lineFeed) (valueFault sz w) s) O-after ∙ sym (effect-after sz given s c)
 
-  value-is : isOpen N ≡ true → record { conditions = []; variable = w; old = o′; new = d } ≡ valueAfter (effect sz given) s c
-  unfolding effectOf after valueAfter K w P o′ d
+  value-is : isOpen N ≡ true → record { conditions = []; variable = w; old = old; new = d } ≡ valueAfter (effect sz given) s c
+  unfolding effectOf after valueAfter K w P old d
   value-is e =
-      (λ i. record { conditions = []; variable = w; old = o′; new = valueAfter (valueBelow size) s (O-after i) })
+      (λ i. record { conditions = []; variable = w; old = old; new = valueAfter (valueBelow size) s (O-after i) })
       ∙ sym (effect-value sz given s c (P-open (K-open (O-open e))))
 
-  old-fits : isOpen O ≡ true → belowOrNone size o′ ≡ true
-  unfolding O o′ after valueAfter
+  old-fits : isOpen O ≡ true → belowOrNone size old ≡ true
+  unfolding O old after valueAfter
   old-fits e = unless-none (belowOrNone size (fieldValue (signed blank) (drop (K .at) s))) outOfRange none (step-fine (signed blank) (λ o. unless (belowOrNone size o) outOfRange none) s K e) .0
 
   new-fits : isOpen N ≡ true → d < size
@@ -219,11 +221,11 @@ module _ (s : List ℕ) (c : Cursor) (sizes : List ℕ) (variables : ℕ) (given
   new-old : (o : Option ℕ) (v : ℕ) → isOpen K ≡ true → belowOrNone size o ≡ true → not (eqb v w) && isNew (storedOld conditions base w (coded o)) base v ≡ not (eqb v w) && isNew conditions base v
   new-old none v k e = sym (ap (λ (l : List ℕ). not (eqb v w) && isNew l base v) (stored-none conditions base w 1048577 refl))
   new-old (some x) v k e =
-      let small′ : x < 255 = omega (arith, ltb-true x size e) in
+      let low : x < 255 = omega (arith, ltb-true x size e) in
       let is : stored conditions base w x ≡ storedOld conditions base w (capped x) =
       stored-some conditions (stored conditions base w x) base w (capped x) (capped-some x) (ap (stored conditions base w) (capped-small x (omega arith))) in
       sym (ap (λ (l : List ℕ). not (eqb v w) && isNew l base v) is)
-      ∙ ap (λ (b : Bool). not (eqb v w) && b) (new-stored conditions base w x v (omega (arith, known k)) small′ conditionsLong)
+      ∙ ap (λ (b : Bool). not (eqb v w) && b) (new-stored conditions base w x v (omega (arith, known k)) low conditionsLong)
       ∙ twice (eqb v w) (isNew conditions base v)
     where
       twice : (a b : Bool) → not a && (not a && b) ≡ not a && b
@@ -236,7 +238,7 @@ module _ (s : List ℕ) (c : Cursor) (sizes : List ℕ) (variables : ℕ) (given
   effect-stored conditionsNow effectsNow e f =
       record {
         cursor = cursor-is;
-        conditionsRow = λ q. let k = opened q in conditions-are k ∙ old-row o′ (old-fits (O-open k)) ∙ ap (λ (x : Effect). filled conditions base (oldPairs (x ∷ []))) (value-is k);
+        conditionsRow = λ q. let k = opened q in conditions-are k ∙ old-row old (old-fits (O-open k)) ∙ ap (λ (x : Effect). filled conditions base (oldPairs (x ∷ []))) (value-is k);
         effectsRow = λ q. let k = opened q in effects-are k ∙ ap (λ (x : Effect). filled effects base (newPairs (x ∷ []))) (value-is k);
         gives = λ q v.
             let k = opened q in
@@ -244,8 +246,8 @@ module _ (s : List ℕ) (c : Cursor) (sizes : List ℕ) (variables : ℕ) (given
             let second : isNew effectsNow base v ≡ not (eqb v w) && isNew effects base v =
             ap (λ (l : List ℕ). isNew l base v) (effects-are k) ∙ new-stored effects base w d v (omega (arith, known open′)) (omega (arith, new-fits k)) effectsLong in
             ap₂ (λ (l : List ℕ) (b : Bool). isNew l base v && b) (conditions-are k) second
-            ∙ gather (eqb v w) (isNew (storedOld conditions base w (coded o′)) base v) (isNew effects base v)
-            ∙ ap (λ (b : Bool). b && isNew effects base v) (new-old o′ v open′ (old-fits (O-open k)))
+            ∙ gather (eqb v w) (isNew (storedOld conditions base w (coded old)) base v) (isNew effects base v)
+            ∙ ap (λ (b : Bool). b && isNew effects base v) (new-old old v open′ (old-fits (O-open k)))
             ∙ joined (eqb v w) (isNew conditions base v) (isNew effects base v) (anyOf (eqb v) given) (rows (begun-open open′) v)
             ∙ ap (λ (x : Effect). not (anyOf (eqb v) (x .variable ∷ given))) (value-is k);
       }
@@ -256,7 +258,7 @@ module _ (s : List ℕ) (c : Cursor) (sizes : List ℕ) (variables : ℕ) (given
       begun-open : isOpen K ≡ true → isOpen c ≡ true
       begun-open k = plain-before s c (P-open k)
 
-      conditions-are : isOpen N ≡ true → conditionsNow ≡ storedOld conditions base w (coded o′)
+      conditions-are : isOpen N ≡ true → conditionsNow ≡ storedOld conditions base w (coded old)
       conditions-are k = e ∙ ap₂ (storedOld conditions base) (w-is (K-open (O-open k))) (o-is (O-open k))
 
       effects-are : isOpen N ≡ true → effectsNow ≡ stored effects base w d

@@ -1,27 +1,26 @@
 -- The loop over the effects of an operator: what is left to be read and stored makes of both rows what all effects make of them.
-use Prim.Native.Nat.{ℕ, suc, _+_, _-_, _≤_, _<_}
-use mathlib.Core.Path.{_≡_, refl, sym, ap, ap₂, _∙_}
-use mathlib.Core.Bool.{Bool, true, false, not, _&&_}
+use Prim.Native.Nat.{ℕ, _+_, _-_, _≤_, _<_}
+use mathlib.Core.Path.{_≡_, refl, sym, ap, _∙_}
+use mathlib.Core.Bool.{Bool, true, false, _&&_}
 use mathlib.Core.List.{List, [], _∷_}
 use mathlib.Core.Option.{Option, none, some}
 use native.Mathlib.Omega.{arith}
-use lib.Dec.{eqb}
 use lib.ListN.{length}
-use Rattle.files.specs.Below.{anyOf}
 use Rattle.files.specs.Rows.{cleared, filled}
-use Rattle.files.specs.Task.{Pair}
 use Rattle.translator.specs.declared.fields.Cursor.{Cursor}
-use Rattle.translator.specs.Contracts.{isNew, Given, EffectStored, EffectsStored}
+use Rattle.translator.specs.ListContracts.{isNew, Given}
+use Rattle.translator.specs.OperatorContracts.{EffectStored, EffectsStored}
 use Rattle.translator.specs.Format.{repeat, isOpen, after, valueAfter}
 use Rattle.translator.specs.Sas.{Effect}
 use Rattle.translator.specs.Stated.{oldPairs, newPairs}
 use Rattle.translator.specs.Text.{effect, effects}
+use Rattle.translator.proofs.ConditionsReading.{cleared-given}
 use Rattle.translator.proofs.ReadingLaws.{open-before}
-use Rattle.translator.proofs.ConditionsReading.{repeat-more, repeat-value, cleared-given}
+use Rattle.translator.proofs.RepeatReading.{repeat-next, repeat-others}
 
 -- a row of conditions beside a row of effects that is cleared
-given-beside : (conditions cleared′ : List ℕ) (base : ℕ) (given : List ℕ) → Given cleared′ cleared′ base [] → Given conditions conditions base given → Given conditions cleared′ base given
-given-beside conditions cleared′ base given h k v = ap (λ (b : Bool). isNew conditions base v && b) (once (isNew cleared′ base v) (h v)) ∙ sym (twice (isNew conditions base v)) ∙ k v
+given-beside : (conditions blank : List ℕ) (base : ℕ) (given : List ℕ) → Given blank blank base [] → Given conditions conditions base given → Given conditions blank base given
+given-beside conditions blank base given h k v = ap (λ (b : Bool). isNew conditions base v && b) (once (isNew blank base v) (h v)) ∙ sym (twice (isNew conditions base v)) ∙ k v
   where
     once : (b : Bool) → b && b ≡ true → b ≡ true
     once true e = refl
@@ -74,17 +73,10 @@ module _ (s sizes first : List ℕ) (base : ℕ) (c : Cursor) (count : ℕ) (con
       let given : List ℕ = inv .given in
       let e : Effect = valueAfter (effect sizes given) s here in
       let one : EffectStored s here sizes given conditionsNow effectsNow base next conditionsThen effectsThen = q given (inv .cells) in
-      let more : left ≡ suc (left - 1) = omega arith in
       let moved : after (effects sizes (e .variable ∷ given) (left - 1)) s next ≡ after (effects sizes first count) s c =
-      ap (after (effects sizes (e .variable ∷ given) (left - 1)) s) (one .cursor)
-      ∙ sym (repeat-more (effect sizes) (λ given e. e .variable ∷ given) s given (left - 1) here)
-      ∙ sym (ap (λ (n : ℕ). after (effects sizes given n) s here) more)
-      ∙ inv .cursor in
+      repeat-next (effect sizes) (λ given e. e .variable ∷ given) s given left here next h (one .cursor) ∙ inv .cursor in
       let es : List Effect = valueAfter (effects sizes (e .variable ∷ given) (left - 1)) s next in
-      let others : valueAfter (effects sizes given left) s here ≡ e ∷ es =
-      ap (λ (n : ℕ). valueAfter (effects sizes given n) s here) more
-      ∙ repeat-value (effect sizes) (λ given e. e .variable ∷ given) s given (left - 1) here
-      ∙ sym (ap (λ (x : Cursor). e ∷ valueAfter (effects sizes (e .variable ∷ given) (left - 1)) s x) (one .cursor)) in
+      let others : valueAfter (effects sizes given left) s here ≡ e ∷ es = repeat-others (effect sizes) (λ given e. e .variable ∷ given) s given left here next h (one .cursor) in
       record {
         given = e .variable ∷ given;
         cursor = moved;

@@ -1,13 +1,12 @@
 -- The first part of a text, from the code's own steps: the metric, the variables with their start values, and the groups.
 use Prim.Native.Nat.{ℕ, zero, suc, _+_, _%_, _≤_}
 use mathlib.Core.Path.{_≡_, refl, sym, ap, ap₂, _∙_}
-use mathlib.Core.Bool.{Bool, true, false, cond, _||_}
-use mathlib.Core.List.{List, [], _∷_, map}
+use mathlib.Core.Bool.{true, cond}
+use mathlib.Core.List.{List, [], _∷_}
 use native.Mathlib.Omega.{arith}
 use lib.Dec.{eqb}
 use lib.ListN.{length, getD, take, drop, length-map}
-use lib.Seq.{getD-drop, take-at}
-use native.Mathlib.Nat.{add-zero}
+use lib.Seq.{take-at}
 use borrow.Author.Tests.{eq-eqb, ne-eqb}
 use Rattle.files.proofs.Logic.{split}
 use Rattle.files.specs.declared.Outcome.{Outcome}
@@ -18,20 +17,22 @@ use Rattle.files.specs.Outcome.{guard, overwrite}
 use Rattle.digits.specs.Decimal.{ascii}
 use Rattle.translator.specs.declared.fields.Cursor.{Cursor}
 use Rattle.translator.specs.declared.fields.ReadNumber.{ReadNumber}
-use Rattle.translator.specs.declared.text.Begun.{Begun}
-use Rattle.translator.specs.Contracts.{Inside, settled, numberBy, same, sizeOf, storedSizes, storedStarts, DeclarationsRead, StartsStored, StartsRead, groupsAfter}
+use Rattle.translator.specs.Contracts.{Inside, settled, numberBy, same}
+use Rattle.translator.specs.VariableContracts.{sizeOf, storedSizes, storedStarts, DeclarationsRead, StartsStored, StartsRead, groupsAfter}
 use Rattle.translator.specs.Fields.{word, flag, number, byteAt, wordAt, isFlag, fieldAt, fieldLength, fieldValue}
-use Rattle.translator.specs.Format.{field, repeat, cursorAt, isOpen, reached, fieldAfter, faultAfter, stepAfter, after, valueAfter}
+use Rattle.translator.specs.Format.{field, repeat, cursorAt, isOpen, reached, fieldAfter, after, valueAfter}
 use Rattle.translator.specs.Parts.{Front, front, metricAfter, FrontRead}
 use Rattle.translator.specs.Sas.{Declaration, Started, lineFeed}
 use Rattle.translator.specs.Stated.{sizesOf}
-use Rattle.translator.specs.Text.{any, says, each, count, declaration, group, starts}
+use Rattle.translator.specs.Text.{any, each, count, declaration, group, starts}
 use Rattle.translator.proofs.CountReading.{count-most}
-use Rattle.translator.proofs.OperatorReading.{settled-is}
-use Rattle.translator.proofs.ReadingLaws.{after-bind, value-bind, open-before}
+use Rattle.translator.proofs.NumberReading.{first-byte}
+use Rattle.translator.proofs.ReadingLaws.{open-before}
 use Rattle.translator.proofs.RepeatReading.{each-more, each-value, each-length}
-use Rattle.translator.proofs.StepReading.{settled-cursor, settled-value, settled-same}
-use Rattle.translator.proofs.VariableReading.{after-inside, field-inside, settled-inside, field-before, after-settled, declaration-size}
+use Rattle.translator.proofs.StepReading.{settled-cursor, settled-value, settled-is}
+use Rattle.translator.proofs.TextParts.{atMetric, metricIn, behindMetric, atCount, countIn, atVariables, declarationsIn, atGroups, behindGroups, atStarts, variablesIn, behindStarts, front-after, front-value}
+use Rattle.translator.proofs.InsideReading.{after-inside, field-inside, settled-inside, field-before, after-settled}
+use Rattle.translator.proofs.VariableReading.{declaration-size}
 
 -- the metric is the word of its digit
 flag-one : (r : List ℕ) (at : ℕ) → getD r 0 0 ≡ 49 → fieldAt (word (49 ∷ 10 ∷ [])) r at ≡ fieldAt flag r at
@@ -45,9 +46,6 @@ unfolding fieldAt wordAt isFlag byteAt guard
 flag-zero [] at d = refl
 flag-zero (b ∷ []) at d = split (eqb b 48) (λ e. rw e refl) (λ e. rw (e, ne-eqb b 49 d) refl)
 flag-zero (b ∷ x ∷ r) at d = split (eqb b 48) (λ e. rw e refl) (λ e. rw (e, ne-eqb b 49 d) refl)
-
-first-byte : (s : List ℕ) (at : ℕ) → getD (drop at s) 0 0 ≡ getD s at 0
-first-byte s at = getD-drop at s 0 0 ∙ ap (λ (n : ℕ). getD s n 0) (add-zero at)
 
 pub metric-one : (s : List ℕ) (c w : Cursor) (b : ℕ) (r : ReadNumber) → b ≡ getD s (c .at) 0 → b ≡ 49 → w ≡ fieldAfter (word (49 ∷ 10 ∷ [])) s c → r ≡ settled w 1 → r ≡ metricAfter s c
 unfolding metricAfter fieldAfter fieldLength fieldValue
@@ -108,128 +106,87 @@ module _ (s : List ℕ) (start begun : Cursor) (metric : ReadNumber) (measured :
     (e₇ : opened ≡ fieldAfter (word (ascii "begin_state\n")) s grouped)
     (e₈ : StartsRead s opened (cnt .value) sizes starts₀ started startsNow)
     (room : 64 ≤ length sizes₀) where
-  B : Cursor
-  B = fieldAfter (word (ascii "begin_version\n3\nend_version\nbegin_metric\n")) s (cursorAt 0)
-
-  M : Cursor
-  M = fieldAfter flag s B
-
-  N : Cursor
-  N = fieldAfter (word (ascii "end_metric\n")) s M
-
-  n : ℕ
-  n = valueAfter (count 64) s N
-
-  C₁ : Cursor
-  C₁ = after (count 64) s N
-
-  ds : List Declaration
-  ds = valueAfter (each declaration n) s C₁
-
-  C₂ : Cursor
-  C₂ = after (each declaration n) s C₁
-
-  G : Cursor
-  G = groupsAfter s C₂
-
-  O : Cursor
-  O = fieldAfter (word (ascii "begin_state\n")) s G
-
-  C₃ : Cursor
-  C₃ = after (starts ds) s O
-
-  vs : List Started
-  vs = valueAfter (starts ds) s O
-
-  metric-is : metric ≡ settled M (bit (fieldValue flag (drop (B .at) s)))
-  unfolding metricAfter M B
+  metric-is : metric ≡ settled (behindMetric s) (bit (metricIn s))
+  unfolding metricAfter metricIn behindMetric atMetric
   metric-is = e₂ ∙ ap (metricAfter s) (e₁ ∙ ap (fieldAfter (word (ascii "begin_version\n3\nend_version\nbegin_metric\n")) s) e₀)
 
-  cnt-is : cnt ≡ settled C₁ n
-  unfolding numberBy C₁ n N
-  cnt-is = e₄ ∙ ap (numberBy (count 64) same s) (e₃ ∙ ap (fieldAfter (word (ascii "end_metric\n")) s) (settled-cursor M _ metric metric-is))
+  cnt-is : cnt ≡ settled (atVariables s) (countIn s)
+  unfolding numberBy atVariables countIn atCount
+  cnt-is = e₄ ∙ ap (numberBy (count 64) same s) (e₃ ∙ ap (fieldAfter (word (ascii "end_metric\n")) s) (settled-cursor (behindMetric s) _ metric metric-is))
 
-  declared-is : declared ≡ C₂
-  unfolding C₂
-  declared-is = e₅ .cursor ∙ after-settled (each declaration) s C₁ n cnt cnt-is
+  declared-is : declared ≡ atGroups s
+  unfolding atGroups
+  declared-is = e₅ .cursor ∙ after-settled (each declaration) s (atVariables s) (countIn s) cnt cnt-is
 
-  opened-is : opened ≡ O
-  unfolding O G
+  opened-is : opened ≡ atStarts s
+  unfolding atStarts behindGroups
   opened-is = e₇ ∙ ap (fieldAfter (word (ascii "begin_state\n")) s) (e₆ ∙ ap (groupsAfter s) declared-is)
 
-  C₂-open : isOpen O ≡ true → isOpen C₂ ≡ true
-  unfolding O G groupsAfter
-  C₂-open o = open-before (field (number lineFeed) any (λ g. each group g)) s C₂ (field-before (word (ascii "begin_state\n")) s G o)
+  groups-open : isOpen (atStarts s) ≡ true → isOpen (atGroups s) ≡ true
+  unfolding atStarts behindGroups groupsAfter
+  groups-open o = open-before (field (number lineFeed) any (λ g. each group g)) s (atGroups s) (field-before (word (ascii "begin_state\n")) s (behindGroups s) o)
 
-  C₁-open : isOpen C₂ ≡ true → isOpen C₁ ≡ true
-  unfolding C₂
-  C₁-open = open-before (each declaration n) s C₁
+  variables-open : isOpen (atGroups s) ≡ true → isOpen (atVariables s) ≡ true
+  unfolding atGroups
+  variables-open = open-before (each declaration (countIn s)) s (atVariables s)
 
-  counted : isOpen C₂ ≡ true → cnt .value ≡ n
-  counted o = settled-value C₁ n cnt cnt-is (C₁-open o)
+  counted : isOpen (atGroups s) ≡ true → cnt .value ≡ countIn s
+  counted o = settled-value (atVariables s) (countIn s) cnt cnt-is (variables-open o)
 
-  sizes-are : isOpen C₂ ≡ true → sizes ≡ placed sizes₀ 0 (storedSizes ds)
-  unfolding ds
+  sizes-are : isOpen (atGroups s) ≡ true → sizes ≡ placed sizes₀ 0 (storedSizes (declarationsIn s))
+  unfolding declarationsIn
   sizes-are o =
       e₅ .stored (ap isOpen declared-is ∙ o)
-      ∙ ap (λ (r : ReadNumber). placed sizes₀ 0 (storedSizes (valueAfter (each declaration (r .value)) s (r .cursor)))) (settled-is C₁ n cnt cnt-is (C₁-open o))
+      ∙ ap (λ (r : ReadNumber). placed sizes₀ 0 (storedSizes (valueAfter (each declaration (r .value)) s (r .cursor)))) (settled-is (atVariables s) (countIn s) cnt cnt-is (variables-open o))
 
-  many : length ds ≡ n
-  unfolding ds
-  many = each-length declaration s n C₁
+  many : length (declarationsIn s) ≡ countIn s
+  unfolding declarationsIn
+  many = each-length declaration s (countIn s) (atVariables s)
 
   -- the sizes that the array holds are the declared ones
-  sizes-held : isOpen O ≡ true → sizesOf ds ≡ take (cnt .value) sizes
-  unfolding ds C₂
+  sizes-held : isOpen (atStarts s) ≡ true → sizesOf (declarationsIn s) ≡ take (cnt .value) sizes
+  unfolding declarationsIn atGroups
   sizes-held o =
-      let open′ = C₂-open o in
+      let open′ = groups-open o in
       let few : cnt .value ≤ 64 = count-most s measured 64 cnt e₄ in
-      let long : length (storedSizes ds) ≡ n = length-map ds (λ d. sizeOf d % 256) ∙ many in
-      sym (sizes-stored n s C₁ open′)
-      ∙ sym (placed-front sizes₀ (storedSizes ds) (cnt .value) (long ∙ sym (counted open′)) (omega (arith, counted open′)))
+      let long : length (storedSizes (declarationsIn s)) ≡ countIn s = length-map (declarationsIn s) (λ d. sizeOf d % 256) ∙ many in
+      sym (sizes-stored (countIn s) s (atVariables s) open′)
+      ∙ sym (placed-front sizes₀ (storedSizes (declarationsIn s)) (cnt .value) (long ∙ sym (counted open′)) (omega (arith, counted open′)))
       ∙ sym (ap (take (cnt .value)) (sizes-are open′))
 
-  stored : StartsStored s opened ds starts₀ started startsNow
-  stored = e₈ .is ds (λ o. sizes-held (sym (ap isOpen opened-is) ∙ o))
+  stored : StartsStored s opened (declarationsIn s) starts₀ started startsNow
+  stored = e₈ .is (declarationsIn s) (λ o. sizes-held (sym (ap isOpen opened-is) ∙ o))
 
-  started-is : started ≡ C₃
-  unfolding C₃
-  started-is = stored .cursor ∙ ap (after (starts ds) s) opened-is
+  started-is : started ≡ behindStarts s
+  unfolding behindStarts
+  started-is = stored .cursor ∙ ap (after (starts (declarationsIn s)) s) opened-is
 
-  O-open : isOpen C₃ ≡ true → isOpen O ≡ true
-  unfolding C₃
-  O-open = open-before (starts ds) s O
+  starts-open : isOpen (behindStarts s) ≡ true → isOpen (atStarts s) ≡ true
+  unfolding behindStarts
+  starts-open = open-before (starts (declarationsIn s)) s (atStarts s)
 
-  M-open : isOpen C₂ ≡ true → isOpen M ≡ true
-  unfolding C₁ N
-  M-open o = field-before (word (ascii "end_metric\n")) s M (open-before (count 64) s N (C₁-open o))
+  metric-open : isOpen (atGroups s) ≡ true → isOpen (behindMetric s) ≡ true
+  unfolding atVariables atCount
+  metric-open o = field-before (word (ascii "end_metric\n")) s (behindMetric s) (open-before (count 64) s (atCount s) (variables-open o))
 
-  vs-is : valueAfter (starts ds) s O ≡ vs
-  unfolding vs
-  vs-is = refl
+  starts-are : valueAfter (starts (declarationsIn s)) s opened ≡ variablesIn s
+  unfolding variablesIn
+  starts-are = ap (valueAfter (starts (declarationsIn s)) s) opened-is
 
-  after-is : C₃ ≡ after front s (cursorAt 0)
-  unfolding front says after stepAfter faultAfter groupsAfter B M N C₁ C₂ C₃ G O n ds
-  after-is =
-      sym (after-bind (count 64) _ s N ∙ after-bind (each declaration n) _ s C₁ ∙ after-bind (each group _) _ s _ ∙ after-bind (starts ds) _ s O)
-
-  value-is : (valueAfter front s (cursorAt 0) .metric ≡ fieldValue flag (drop (B .at) s)) × (valueAfter front s (cursorAt 0) .declarations ≡ ds) × (valueAfter front s (cursorAt 0) .variables ≡ vs)
-  unfolding front says after valueAfter stepAfter faultAfter groupsAfter B M N C₁ C₂ G O n ds vs
-  value-is =
-      let whole = value-bind (count 64) _ s N ∙ value-bind (each declaration n) _ s C₁ ∙ value-bind (each group _) _ s _ ∙ value-bind (starts ds) _ s O in
-      (ap (λ (f : Front). f .metric) whole, ap (λ (f : Front). f .declarations) whole, ap (λ (f : Front). f .variables) whole)
+  value-is : (valueAfter front s (cursorAt 0) .metric ≡ metricIn s) × (valueAfter front s (cursorAt 0) .declarations ≡ declarationsIn s) × (valueAfter front s (cursorAt 0) .variables ≡ variablesIn s)
+  value-is = (ap (λ (f : Front). f .metric) (front-value s), ap (λ (f : Front). f .declarations) (front-value s), ap (λ (f : Front). f .variables) (front-value s))
 
   pub front-read : FrontRead s sizes₀ starts₀ (record { cursor = started; metric = metric .value; variables = cnt .value }) sizes startsNow
   front-read =
       record {
-        cursor = started-is ∙ after-is;
+        cursor = started-is ∙ sym (front-after s);
         few = count-most s measured 64 cnt e₄;
-        metric = λ o. settled-value M _ metric metric-is (M-open (all-open o)) ∙ ap bit (sym (value-is .0));
+        metric = λ o. settled-value (behindMetric s) _ metric metric-is (metric-open (all-open o)) ∙ ap bit (sym (value-is .0));
         counted = λ o. counted (all-open o) ∙ sym many ∙ ap length (sym (value-is .1));
-        sizesHeld = λ o. ap sizesOf (value-is .1) ∙ sizes-held (O-open (sym (ap isOpen started-is) ∙ o));
+        sizesHeld = λ o. ap sizesOf (value-is .1) ∙ sizes-held (starts-open (sym (ap isOpen started-is) ∙ o));
         sizesRead = λ o. sizes-are (all-open o) ∙ ap (λ (l : List Declaration). placed sizes₀ 0 (storedSizes l)) (sym (value-is .1));
-        startsRead = λ o. stored .stored o ∙ ap (λ (l : List Started). placed starts₀ 0 (storedStarts l)) (ap (valueAfter (starts ds) s) opened-is ∙ vs-is ∙ sym (value-is .2));
+        startsRead = λ o. stored .stored o ∙ ap (λ (l : List Started). placed starts₀ 0 (storedStarts l)) (starts-are ∙ sym (value-is .2));
       }
     where
-      all-open : isOpen started ≡ true → isOpen C₂ ≡ true
-      all-open o = C₂-open (O-open (sym (ap isOpen started-is) ∙ o))
+      all-open : isOpen started ≡ true → isOpen (atGroups s) ≡ true
+      all-open o = groups-open (starts-open (sym (ap isOpen started-is) ∙ o))

@@ -13,7 +13,8 @@ use Rattle.files.specs.Outcome.{isDone}
 use Rattle.digits.specs.Decimal.{ascii}
 use Rattle.translator.specs.declared.fields.Cursor.{Cursor}
 use Rattle.translator.specs.declared.fields.ReadNumber.{ReadNumber}
-use Rattle.translator.specs.Contracts.{Inside, capped, numberAfter, groupsAfter}
+use Rattle.translator.specs.Contracts.{Inside, capped, numberAfter}
+use Rattle.translator.specs.VariableContracts.{groupsAfter}
 use Rattle.translator.specs.Fields.{Field, Value, word, number, fieldLength, fieldValue}
 use Rattle.translator.specs.Format.{Fault, Format, gives, field, isOpen, reached, fieldAfter, faultAfter, stepAfter, after}
 use Rattle.translator.specs.Sas.{Separator, blank, lineFeed}
@@ -24,7 +25,7 @@ use Rattle.translator.proofs.NumberReading.{capped-small, capped-large}
 use Rattle.translator.proofs.ReadingLaws.{after-refused, after-bind, open-before}
 use Rattle.translator.proofs.ReadingListed.{after-within}
 use Rattle.translator.proofs.StepReading.{settled-cursor, step-fine, step-field, number-is}
-use Rattle.translator.proofs.VariableReading.{field-inside, field-before, after-settled}
+use Rattle.translator.proofs.InsideReading.{field-inside, field-before, after-settled}
 use Rattle.translator.proofs.RepeatReading.{each-more}
 
 -- where a field ends that is read

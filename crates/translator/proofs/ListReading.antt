@@ -15,7 +15,8 @@ use Rattle.files.specs.Rows.{stored, filled}
 use Rattle.files.specs.Task.{Pair, pair}
 use Rattle.translator.specs.declared.fields.Cursor.{Cursor}
 use Rattle.translator.specs.declared.fields.ReadNumber.{ReadNumber}
-use Rattle.translator.specs.Contracts.{numberBy, same, isNew, Given, variableOf, valueBelow, PairStored}
+use Rattle.translator.specs.Contracts.{numberBy, same}
+use Rattle.translator.specs.ListContracts.{isNew, Given, variableOf, valueBelow, PairStored}
 use Rattle.translator.specs.Fields.{Field, Value, number, fieldValue}
 use Rattle.translator.specs.Format.{Fault, givenTwice, outOfRange, unless, Format, gives, field, isOpen, fieldAfter, faultAfter, stepAfter, after, valueAfter}
 use Rattle.translator.specs.Sas.{blank, lineFeed}

@@ -125,7 +125,7 @@ module _ (s : List ℕ) (at value here : ℕ) (inv : DigitsFrom s at value here)
   )
 
 -- a number at the front
-first-byte : (s : List ℕ) (at : ℕ) → getD (drop at s) 0 0 ≡ getD s at 0
+pub first-byte : (s : List ℕ) (at : ℕ) → getD (drop at s) 0 0 ≡ getD s at 0
 first-byte s at = getD-drop at s 0 0 ∙ ap (λ (n : ℕ). getD s n 0) (add-zero at)
 
 pub numeral-zero : (s : List ℕ) (at b : ℕ) → b ≡ getD s at 0 → b ≡ 48 → record { count = 1; value = 0 } ≡ numeralFound (drop at s)

@@ -1,26 +1,26 @@
 -- An operator, from the code's own steps: its fields one behind another, its rows and its cost.
-use Prim.Native.Nat.{ℕ, _+_, _*_, _≤_, _<_}
+use Prim.Native.Nat.{ℕ, _*_}
 use mathlib.Core.Path.{_≡_, refl, sym, ap, ap₂, subst, _∙_}
 use mathlib.Core.Bool.{true}
 use mathlib.Core.List.{List, [], _∷_, _++_}
-use native.Mathlib.Omega.{arith}
-use lib.Dec.{eqb}
-use lib.ListN.{length, take, set}
+use lib.ListN.{take, set}
 use borrow.Author.Tests.{eq-eqb, ne-eqb}
 use Rattle.files.specs.Rows.{cleared, filled}
 use Rattle.files.specs.Task.{Pair}
 use Rattle.digits.specs.Decimal.{ascii}
 use Rattle.translator.specs.declared.fields.Cursor.{Cursor}
 use Rattle.translator.specs.declared.fields.ReadNumber.{ReadNumber}
-use Rattle.translator.specs.Contracts.{Given, settled, numberBy, same, ListRead, EffectsStored, EffectsRead, costBy, conditionsOf, effectsOf, OperatorRead}
+use Rattle.translator.specs.Contracts.{settled, numberBy, same}
+use Rattle.translator.specs.ListContracts.{Given, ListRead}
+use Rattle.translator.specs.OperatorContracts.{EffectsStored, EffectsRead, costBy, conditionsOf, effectsOf, OperatorRead}
 use Rattle.translator.specs.Fields.{word, name}
 use Rattle.translator.specs.Format.{isOpen, fieldAfter, faultAfter, stepAfter, after, valueAfter}
 use Rattle.translator.specs.Sas.{Effect, Operator}
 use Rattle.translator.specs.Stated.{variablesOf, oldPairs, newPairs}
 use Rattle.translator.specs.Text.{says, count, conditions, effects, operator}
 use Rattle.translator.proofs.ReadingLaws.{after-bind, value-bind, open-before}
-use Rattle.translator.proofs.StepReading.{settled-value}
-use Rattle.translator.proofs.VariableReading.{field-before, after-settled}
+use Rattle.translator.proofs.StepReading.{settled-value, settled-is}
+use Rattle.translator.proofs.InsideReading.{field-before, after-settled}
 
 pub cost-one : (metric cost : ℕ) → metric ≡ 0 → 1 ≡ costBy metric cost
 unfolding costBy
@@ -29,11 +29,6 @@ cost-one metric cost e = rw (eq-eqb metric 0 e) refl
 pub cost-written : (metric cost : ℕ) → (metric ≡ 0 → ⊥) → cost ≡ costBy metric cost
 unfolding costBy
 cost-written metric cost d = rw (ne-eqb metric 0 d) refl
-
--- a number that was read where nothing is refused
-pub settled-is : (c : Cursor) (n : ℕ) (r : ReadNumber) → r ≡ settled c n → isOpen c ≡ true → r ≡ record { cursor = c; value = n }
-unfolding settled
-settled-is c n r e o = e ∙ rw o refl
 
 filled-both : (row : List ℕ) (base : ℕ) (ps qs : List Pair) → filled (filled row base ps) base qs ≡ filled row base (ps ++ qs)
 unfolding filled

@@ -1,13 +1,13 @@
 -- The loop over the operators: what is left to be read and stored makes of the arrays what all operators make of them.
 use Prim.Native.Nat.{ℕ, suc, _+_, _-_, _*_, _≤_, _<_}
-use mathlib.Core.Path.{_≡_, refl, sym, ap, ap₂, _∙_}
+use mathlib.Core.Path.{_≡_, sym, ap, ap₂, _∙_}
 use mathlib.Core.Bool.{true}
 use mathlib.Core.List.{List, [], _∷_, map}
 use native.Mathlib.Omega.{arith}
 use Rattle.files.specs.Bytes.{placed}
 use Rattle.files.specs.Rows.{filledRows}
 use Rattle.translator.specs.declared.fields.Cursor.{Cursor}
-use Rattle.translator.specs.Contracts.{costBy, conditionsOf, effectsOf, OperatorRead, OperatorsRead}
+use Rattle.translator.specs.OperatorContracts.{costBy, conditionsOf, effectsOf, OperatorRead, OperatorsRead}
 use Rattle.translator.specs.Format.{repeat, isOpen, after, valueAfter}
 use Rattle.translator.specs.Sas.{Operator}
 use Rattle.translator.specs.Text.{each, operator}

@@ -14,14 +14,15 @@ use Rattle.files.specs.Below.{anyOf}
 use Rattle.files.specs.Rows.{stored}
 use Rattle.translator.specs.declared.fields.Cursor.{Cursor}
 use Rattle.translator.specs.declared.fields.ReadNumber.{ReadNumber}
-use Rattle.translator.specs.Contracts.{capped, settled, numberAfter, judged, numberBy, same, isNew, Given, variableOf}
+use Rattle.translator.specs.Contracts.{capped, settled, numberAfter, judged, numberBy, same}
+use Rattle.translator.specs.ListContracts.{isNew, Given, variableOf}
 use Rattle.translator.specs.Fields.{number, fieldValue}
 use Rattle.translator.specs.Format.{givenTwice, outOfRange, unless, isOpen, fieldAfter, faultAfter, stepAfter}
 use Rattle.translator.specs.Sas.{blank}
 use Rattle.translator.specs.Text.{variableFault}
 use Rattle.translator.proofs.NumberReading.{capped-small, capped-large}
 use Rattle.translator.proofs.ReadingLaws.{fault-refused}
-use Rattle.translator.proofs.VariableReading.{field-before}
+use Rattle.translator.proofs.InsideReading.{field-before}
 use Rattle.translator.proofs.StepReading.{ltb-capped, fault-judged, fault-then, fault-both, fault-before, unless-none, number-is, read-fine, read-value, read-tested}
 
 -- which variables are new

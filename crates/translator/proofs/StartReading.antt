@@ -11,14 +11,16 @@ use Rattle.files.specs.Bytes.{placed}
 use Rattle.files.proofs.Logic.{clash, split}
 use Rattle.translator.specs.declared.fields.Cursor.{Cursor}
 use Rattle.translator.specs.declared.fields.ReadNumber.{ReadNumber}
-use Rattle.translator.specs.Contracts.{Inside, settled, numberBy, same, sizeOf, valueBelow, DeclarationsRead, StartsStored, StartsRead}
+use Rattle.translator.specs.Contracts.{Inside, settled, numberBy, same}
+use Rattle.translator.specs.VariableContracts.{sizeOf, DeclarationsRead, StartsStored, StartsRead}
+use Rattle.translator.specs.ListContracts.{valueBelow}
 use Rattle.translator.specs.Format.{Format, gives, isOpen, after, valueAfter}
 use Rattle.translator.specs.Sas.{Declaration}
 use Rattle.translator.specs.Stated.{sizesOf}
 use Rattle.translator.specs.Text.{each, declaration, start, starts}
 use Rattle.translator.proofs.ReadingLaws.{after-refused, open-before}
 use Rattle.translator.proofs.ListReading.{number-cursor}
-use Rattle.translator.proofs.VariableReading.{number-inside}
+use Rattle.translator.proofs.InsideReading.{number-inside}
 use Rattle.translator.proofs.RepeatReading.{first, first-after, first-value, each-empty, each-first}
 use Rattle.translator.proofs.StepReading.{settled-value}
 

@@ -80,7 +80,7 @@ pub fault-before : (o : Option Fault) (place : ℕ) (c : Cursor) → isOpen (fau
 fault-before o place c e = split (isOpen c) (λ p. p) (λ p. clash e (ap isOpen (fault-refused o place c p) ∙ p))
 
 -- a step that is open has no fault
-module _ (f : Field) (fault : Value f → Option Fault) (s : List ℕ) (c : Cursor) (open′ : isOpen (stepAfter f fault s c) ≡ true) where
+module _ (f : Field) (fault : Value f → Option Fault) (s : List ℕ) (c : Cursor) (passed : isOpen (stepAfter f fault s c) ≡ true) where
   step-cases : (o : Option Fault) → isOpen (faultAfter o (c .at) (fieldAfter f s c)) ≡ true → (o ≡ none) × (isOpen (fieldAfter f s c) ≡ true)
   unfolding faultAfter
   step-cases none e = (refl, e)
@@ -88,11 +88,11 @@ module _ (f : Field) (fault : Value f → Option Fault) (s : List ℕ) (c : Curs
 
   pub step-fine : fault (fieldValue f (drop (c .at) s)) ≡ none
   unfolding stepAfter
-  step-fine = step-cases (fault (fieldValue f (drop (c .at) s))) open′ .0
+  step-fine = step-cases (fault (fieldValue f (drop (c .at) s))) passed .0
 
   pub step-field : isOpen (fieldAfter f s c) ≡ true
   unfolding stepAfter
-  step-field = step-cases (fault (fieldValue f (drop (c .at) s))) open′ .1
+  step-field = step-cases (fault (fieldValue f (drop (c .at) s))) passed .1
 
 -- a test passes where nothing else is wrong
 pub unless-none : (t : Bool) (f : Fault) (others : Option Fault) → unless t f others ≡ none → (t ≡ true) × (others ≡ none)
@@ -115,6 +115,10 @@ module _ (c : Cursor) (n : ℕ) (r : ReadNumber) (is : r ≡ settled c n) where
   pub settled-value : isOpen c ≡ true → r .value ≡ n
   unfolding settled
   settled-value o = ap (λ (x : ReadNumber). x .value) is ∙ rw o refl
+
+pub settled-is : (c : Cursor) (n : ℕ) (r : ReadNumber) → r ≡ settled c n → isOpen c ≡ true → r ≡ record { cursor = c; value = n }
+unfolding settled
+settled-is c n r e o = e ∙ rw o refl
 
 pub settled-same : (c : Cursor) (a b : ℕ) → (isOpen c ≡ true → a ≡ b) → settled c a ≡ settled c b
 unfolding settled

@@ -2,10 +2,10 @@
 use Prim.Native.Nat.{ℕ, _%_, _≤_, _<_}
 use mathlib.Core.Path.{_≡_, refl, sym, ap, ap₂, _∙_}
 use mathlib.Core.Bool.{Bool, true, false, cond}
-use mathlib.Core.List.{List, [], _∷_, _++_, map}
+use mathlib.Core.List.{List, [], _∷_, map}
 use native.Mathlib.Omega.{arith}
-use lib.Dec.{eqb, leb}
-use lib.ListN.{length, take, drop, length-map}
+use lib.Dec.{leb}
+use lib.ListN.{length, take, length-map}
 use borrow.Author.Tests.{le-leb, lt-leb}
 use Rattle.files.proofs.Guards.{guard-passes, guard-refuses, both-done, is-done}
 use Rattle.files.proofs.Logic.{split}
@@ -13,98 +13,22 @@ use Rattle.files.specs.declared.Outcome.{Outcome}
 use Rattle.files.specs.Below.{bit}
 use Rattle.files.specs.Bytes.{placed}
 use Rattle.files.specs.Dense.{held, arrays}
-use Rattle.files.specs.Outcome.{refusal, guard}
+use Rattle.files.specs.Outcome.{refusal}
 use Rattle.files.specs.Records.{sizeFits}
 use Rattle.files.specs.Rows.{cleared, filled, filledRows}
-use Rattle.digits.specs.Decimal.{ascii}
-use Rattle.translator.specs.declared.fields.Cursor.{Cursor}
 use Rattle.translator.specs.declared.text.Begun.{Begun}
 use Rattle.translator.specs.declared.text.Finished.{Finished}
-use Rattle.translator.specs.Contracts.{sizeOf, storedSizes, storedStarts, costBy, conditionsOf, effectsOf}
-use Rattle.translator.specs.Fields.{word, flag, number, fieldValue}
-use Rattle.translator.specs.Format.{Format, gives, field, cursorAt, isOpen, fieldAfter, faultAfter, stepAfter, after, valueAfter}
-use Rattle.translator.specs.Parts.{Front, front, axioms, behind, closedAt, FrontRead, BodyRead, TextRead}
-use Rattle.translator.specs.Sas.{Declaration, Started, Operator, Sas, lineFeed}
-use Rattle.translator.specs.Stated.{sizesOf, stated}
-use Rattle.translator.specs.Text.{says, each, count, declaration, group, start, starts, conditions, operator, rule, text, formAt, checkText, sasOf, textTask}
+use Rattle.translator.specs.VariableContracts.{sizeOf, storedSizes, storedStarts}
+use Rattle.translator.specs.OperatorContracts.{costBy, conditionsOf, effectsOf}
+use Rattle.translator.specs.Format.{cursorAt, isOpen, after, valueAfter}
+use Rattle.translator.specs.Parts.{Front, front, behind, closedAt, FrontRead, BodyRead, TextRead}
+use Rattle.translator.specs.Sas.{Started, Sas}
+use Rattle.translator.specs.Stated.{sizesOf}
+use Rattle.translator.specs.Text.{text, formAt, checkText, sasOf, textTask}
 use Rattle.translator.proofs.CallLaws.{check-done, TextHeld, held-text}
-use Rattle.translator.proofs.ReadingLaws.{after-refused, after-bind, value-bind, open-before}
-use Rattle.translator.proofs.RepeatReading.{first-value}
+use Rattle.translator.proofs.ReadingLaws.{after-refused, open-before}
 use Rattle.translator.proofs.StatedHeld.{stated-held}
-
-starts-declared : (ds : List Declaration) (s : List ℕ) (c : Cursor) → map (λ v. v .declared) (valueAfter (starts ds) s c) ≡ ds
-unfolding starts start valueAfter
-starts-declared [] s c = refl
-starts-declared (d ∷ ds) s c =
-    ap (map (λ v. v .declared)) (first-value (start d) (λ v. starts ds) s c)
-    ∙ ap (λ (l : List Declaration). d ∷ l) (starts-declared ds s (after (start d) s c))
-
--- a text is its two parts
-module _ (s : List ℕ) (c : Cursor) where
-  B : Cursor
-  B = fieldAfter (word (ascii "begin_version\n3\nend_version\nbegin_metric\n")) s c
-
-  N : Cursor
-  N = fieldAfter (word (ascii "end_metric\n")) s (fieldAfter flag s B)
-
-  n : ℕ
-  n = valueAfter (count 64) s N
-
-  C₁ : Cursor
-  C₁ = after (count 64) s N
-
-  ds : List Declaration
-  ds = valueAfter (each declaration n) s C₁
-
-  C₂ : Cursor
-  C₂ = after (each declaration n) s C₁
-
-  G : Cursor
-  G = fieldAfter (number lineFeed) s C₂
-
-  g : ℕ
-  g = fieldValue (number lineFeed) (drop (C₂ .at) s)
-
-  O : Cursor
-  O = fieldAfter (word (ascii "begin_state\n")) s (after (each group g) s G)
-
-  f : Front
-  f = record { metric = fieldValue flag (drop (B .at) s); declarations = ds; groups = valueAfter (each group g) s G; variables = valueAfter (starts ds) s O }
-
-  front-after : after front s c ≡ after (starts ds) s O
-  unfolding front says after stepAfter faultAfter B N n C₁ ds C₂ G g O
-  front-after = after-bind (count 64) _ s N ∙ after-bind (each declaration n) _ s C₁ ∙ after-bind (each group g) _ s G ∙ after-bind (starts ds) _ s O
-
-  front-value : valueAfter front s c ≡ f
-  unfolding front says after valueAfter stepAfter faultAfter B N n C₁ ds C₂ G g O f
-  front-value = value-bind (count 64) _ s N ∙ value-bind (each declaration n) _ s C₁ ∙ value-bind (each group g) _ s G ∙ value-bind (starts ds) _ s O
-
-  text-after : after text s c ≡ after (behind (sizesOf (valueAfter front s c .declarations)) (valueAfter front s c)) s (after front s c)
-  unfolding text behind axioms says after stepAfter faultAfter B N n C₁ ds C₂ G g O f
-  text-after =
-      after-bind (count 64) _ s N ∙ after-bind (each declaration n) _ s C₁ ∙ after-bind (each group g) _ s G ∙ after-bind (starts ds) _ s O
-      ∙ sym (ap₂ (λ (x : Front) (y : Cursor). after (behind (sizesOf (x .declarations)) x) s y) front-value front-after)
-
-  text-value : valueAfter text s c ≡ valueAfter (behind (sizesOf (valueAfter front s c .declarations)) (valueAfter front s c)) s (after front s c)
-  unfolding text behind axioms says after valueAfter stepAfter faultAfter B N n C₁ ds C₂ G g O f
-  text-value =
-      value-bind (count 64) _ s N ∙ value-bind (each declaration n) _ s C₁ ∙ value-bind (each group g) _ s G ∙ value-bind (starts ds) _ s O
-      ∙ sym (ap₂ (λ (x : Front) (y : Cursor). valueAfter (behind (sizesOf (x .declarations)) x) s y) front-value front-after)
-
-  -- the variables are the declared ones
-  front-declared : map (λ v. v .declared) (valueAfter front s c .variables) ≡ valueAfter front s c .declarations
-  unfolding f
-  front-declared =
-      ap (λ (x : Front). map (λ v. v .declared) (x .variables)) front-value
-      ∙ starts-declared ds s O
-      ∙ sym (ap (λ (x : Front). x .declarations) front-value)
-
--- the first part as the second gives it
-behind-front : (sizes : List ℕ) (x : Front) (s : List ℕ) (c : Cursor) → (valueAfter (behind sizes x) s c .metric ≡ x .metric) × (valueAfter (behind sizes x) s c .variables ≡ x .variables)
-unfolding behind axioms says after valueAfter stepAfter faultAfter
-behind-front sizes x s c =
-    let whole = value-bind (count 64) _ s _ ∙ value-bind (conditions sizes [] _) _ s _ ∙ value-bind (count 512) _ s _ ∙ value-bind (each (operator sizes) _) _ s _ ∙ value-bind (each rule _) _ s _ in
-    (ap (λ (y : Sas). y .metric) whole, ap (λ (y : Sas). y .variables) whole)
+use Rattle.translator.proofs.TextParts.{text-after, text-value, front-declared, behind-front}
 
 -- a text that is too long
 pub text-long : (s : List ℕ) (o : Outcome) (sizes starts goal costs conditions effects : List ℕ) → 65536 < length s → o ≡ refusal 4 0
@@ -149,36 +73,36 @@ module _ (s : List ℕ) (h : Begun) (r : Finished) (sizes₀ sizes starts₀ sta
       (λ o. ap (λ (l : List ℕ). after (behind l x) s (h .cursor)) (sym (first .sizesHeld o)))
       (λ o. after-refused (behind sz x) s (h .cursor) o ∙ sym (after-refused (behind (sizesOf (x .declarations)) x) s (h .cursor) o))
       ∙ ap (after (behind (sizesOf (x .declarations)) x) s) (first .cursor)
-      ∙ sym (text-after s (cursorAt 0))
+      ∙ sym (text-after s)
 
   outcome-is : r .outcome ≡ checkText s
   unfolding checkText sizeFits formAt closedAt x sz
   outcome-is = guard-passes (leb (length s) 65536) 4 0 (formAt s) (r .outcome) (le-leb (length s) 65536 few) (second .outcome x ∙ ap (closedAt s) parts-after)
 
   module _ (z : r .outcome .number ≡ 0) where
-    open′ : isOpen (h .cursor) ≡ true
+    front-open : isOpen (h .cursor) ≡ true
     unfolding closedAt isOpen sz x
-    open′ =
+    front-open =
         open-before (behind sz x) s (h .cursor)
         (is-done _ (both-done _ _ (sym (ap (λ (o : Outcome). o .number) (second .outcome x)) ∙ z) .0))
 
     sas-is : valueAfter (behind sz x) s (h .cursor) ≡ sasOf s
-    unfolding sasOf x sz
+    unfolding x sz
     sas-is =
-        ap (λ (l : List ℕ). valueAfter (behind l x) s (h .cursor)) (sym (first .sizesHeld open′))
+        ap (λ (l : List ℕ). valueAfter (behind l x) s (h .cursor)) (sym (first .sizesHeld front-open))
         ∙ ap (valueAfter (behind (sizesOf (x .declarations)) x) s) (first .cursor)
-        ∙ sym (text-value s (cursorAt 0))
+        ∙ sym (text-value s)
 
     metric-is : h .metric ≡ bit (sasOf s .metric)
     unfolding x
-    metric-is = first .metric open′ ∙ ap bit (sym (behind-front sz x s (h .cursor) .0)) ∙ ap (λ (y : Sas). bit (y .metric)) sas-is
+    metric-is = first .metric front-open ∙ ap bit (sym (behind-front sz x s (h .cursor) .0)) ∙ ap (λ (y : Sas). bit (y .metric)) sas-is
 
     variables-are : x .variables ≡ sasOf s .variables
     variables-are = sym (behind-front sz x s (h .cursor) .1) ∙ ap (λ (y : Sas). y .variables) sas-is
 
     declared-are : x .declarations ≡ map (λ v. v .declared) (sasOf s .variables)
     unfolding x
-    declared-are = sym (front-declared s (cursorAt 0)) ∙ ap (map (λ v. v .declared)) variables-are
+    declared-are = sym (front-declared s) ∙ ap (map (λ v. v .declared)) variables-are
 
     task-is : held (arrays (r .variables) (r .actions) sizes startsNow goal costs conditionsNow effectsNow) ≡ textTask s
     unfolding x sz
@@ -186,18 +110,18 @@ module _ (s : List ℕ) (h : Begun) (r : Finished) (sizes₀ sizes starts₀ sta
         let kept : TextHeld s = held-text s (check-done s (sym (ap (λ (o : Outcome). o .number) outcome-is) ∙ z)) in
         let y : Sas = sasOf s in
         let body = second .stored x z in
-        let count : r .variables ≡ length (y .variables) = second .variables ∙ first .counted open′ ∙ ap length declared-are ∙ length-map (y .variables) (λ v. v .declared) in
+        let count : r .variables ≡ length (y .variables) = second .variables ∙ first .counted front-open ∙ ap length declared-are ∙ length-map (y .variables) (λ v. v .declared) in
         let actions : r .actions ≡ length (y .operators) = body .counted ∙ ap (λ (q : Sas). length (q .operators)) sas-is in
         let size : sizes ≡ placed sizes₀ 0 (map (λ v. length (v .declared .values) % 256) (y .variables)) =
-        first .sizesRead open′ ∙ ap (placed sizes₀ 0) (ap storedSizes declared-are ∙ map-declared (y .variables)) in
-        let start′ : startsNow ≡ placed starts₀ 0 (map (λ v. v .start % 256) (y .variables)) = first .startsRead open′ ∙ ap (λ (l : List Started). placed starts₀ 0 (storedStarts l)) variables-are in
+        first .sizesRead front-open ∙ ap (placed sizes₀ 0) (ap storedSizes declared-are ∙ map-declared (y .variables)) in
+        let start : startsNow ≡ placed starts₀ 0 (map (λ v. v .start % 256) (y .variables)) = first .startsRead front-open ∙ ap (λ (l : List Started). placed starts₀ 0 (storedStarts l)) variables-are in
         let aim : goal ≡ filled (cleared goal₀ 0 64) 0 (y .goal) = body .goalRead ∙ ap (λ (q : Sas). filled (cleared goal₀ 0 64) 0 (q .goal)) sas-is in
         let cost : costs ≡ placed costs₀ 0 (map (λ o. cond (y .metric) (o .cost) 1) (y .operators)) =
         body .costsRead ∙ ap (λ (q : Sas). placed costs₀ 0 (map (λ o. costBy (h .metric) (o .cost)) (q .operators))) sas-is
         ∙ ap (placed costs₀ 0) (map-same _ _ (y .operators) (λ o. ap (λ (m : ℕ). costBy m (o .cost)) metric-is ∙ cost-same (y .metric) (o .cost))) in
         let asked : conditionsNow ≡ filledRows conditions₀ 0 (map conditionsOf (y .operators)) = body .conditionsRead ∙ ap (λ (q : Sas). filledRows conditions₀ 0 (map conditionsOf (q .operators))) sas-is in
         let set : effectsNow ≡ filledRows effects₀ 0 (map effectsOf (y .operators)) = body .effectsRead ∙ ap (λ (q : Sas). filledRows effects₀ 0 (map effectsOf (q .operators))) sas-is in
-        (λ i. held (arrays (count i) (actions i) (size i) (start′ i) (aim i) (cost i) (asked i) (set i)))
+        (λ i. held (arrays (count i) (actions i) (size i) (start i) (aim i) (cost i) (asked i) (set i)))
         ∙ stated-held y sizes₀ starts₀ goal₀ costs₀ conditions₀ effects₀ (kept .within) (kept .accepted) sizesRoom startsRoom goalRoom costsRoom conditionsRoom effectsRoom
         ∙ sym (kept .task)
 

@@ -16,7 +16,6 @@ use Rattle.files.specs.TaskFile.{taskFile}
 use Rattle.translator.specs.declared.Translated.{Translated}
 use Rattle.translator.specs.declared.text.Finished.{Finished}
 use Rattle.translator.specs.Parts.{TextRead}
-use Rattle.translator.specs.Text.{textTask}
 use Rattle.translator.specs.Translate.{translated, noFile, Translates, translateOutcome}
 use Rattle.translator.proofs.CallLaws.{call-outcome, call-checked, call-fits, call-refused, call-done}
 

@@ -26,7 +26,7 @@ unfinished f r at k reads place within v fits long begun agree =
       fits = fits;
       long = long;
       begun = begun;
-      stops = λ w rest fits′ e.
+      stops = λ w rest fitting e.
           let one : k + 1 ≡ suc k = omega arith in
-          refused (sym (reads w rest at fits′) ∙ agree (written f w ++ rest) (subst (λ (n : ℕ). Agree n (written f w ++ rest) r) one e) ∙ place);
+          refused (sym (reads w rest at fitting) ∙ agree (written f w ++ rest) (subst (λ (n : ℕ). Agree n (written f w ++ rest) r) one e) ∙ place);
     }

@@ -17,7 +17,9 @@ use Rattle.translator.specs.declared.fields.Cursor.{Cursor}
 use Rattle.translator.specs.declared.fields.ReadNumber.{ReadNumber}
 use Rattle.translator.specs.declared.text.Begun.{Begun}
 use Rattle.translator.specs.declared.text.Finished.{Finished}
-use Rattle.translator.specs.Contracts.{Inside, settled, storedSizes, storedStarts, costBy, conditionsOf, effectsOf}
+use Rattle.translator.specs.Contracts.{Inside, settled}
+use Rattle.translator.specs.VariableContracts.{storedSizes, storedStarts}
+use Rattle.translator.specs.OperatorContracts.{costBy, conditionsOf, effectsOf}
 use Rattle.translator.specs.Fields.{flag, number, fieldValue}
 use Rattle.translator.specs.Format.{unsupported, unless, Format, gives, field, bind, cursorAt, isOpen, fieldAfter, stepAfter, after, valueAfter}
 use Rattle.translator.specs.Sas.{Declaration, Started, Operator, Sas, lineFeed}

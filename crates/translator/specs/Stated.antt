@@ -9,7 +9,7 @@ use lib.ListN.{length, getD}
 use Rattle.files.specs.Below.{anyOf, allOf}
 use Rattle.files.specs.Task.{Pair, Variable, Action, Task, pair, variable, action, variableCount, actionCount, actionOf, valueIn}
 use Rattle.plans.specs.Plan.{IsPlan, totalOf}
-use Rattle.plans.specs.State.{State, startState, allHold, applicable, apply}
+use Rattle.plans.specs.State.{State, allHold, applicable, apply}
 use Rattle.translator.specs.Sas.{Declaration, Started, Effect, Operator, Sas}
 
 -- domain sizes, one a variable

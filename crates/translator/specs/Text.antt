@@ -1,9 +1,9 @@
 -- The translator's format, version 3, field by field: the check of a text, and the task that it states.
-use Prim.Native.Nat.{ℕ, _+_}
+use Prim.Native.Nat.{ℕ}
 use Prim.Native.String.{String}
-use mathlib.Core.Bool.{Bool, true, false, not}
-use mathlib.Core.List.{List, [], _∷_, map}
-use mathlib.Core.Option.{Option, none, some}
+use mathlib.Core.Bool.{not}
+use mathlib.Core.List.{List, [], _∷_}
+use mathlib.Core.Option.{Option, none}
 use lib.Dec.{eqb, leb, ltb}
 use lib.ListN.{length}
 use Rattle.files.specs.declared.Outcome.{Outcome}
@@ -12,7 +12,6 @@ use Rattle.files.specs.Outcome.{done, guard, andThen}
 use Rattle.files.specs.Records.{sizeFits}
 use Rattle.files.specs.Task.{Pair, Task, pair}
 use Rattle.digits.specs.Decimal.{ascii}
-use Rattle.translator.specs.declared.fields.Cursor.{Cursor}
 use Rattle.translator.specs.Fields.{word, name, flag, number, signed}
 use Rattle.translator.specs.Format.{Fault, unsupported, givenTwice, outsideLimits, outOfRange, unless, Format, gives, field, bind, repeat, cursorAt, after, valueAfter}
 use Rattle.translator.specs.Sas.{Declaration, Started, Effect, Operator, Rule, Sas, Separator, blank, lineFeed}

@@ -1,6 +1,7 @@
 // Mutex groups: read for form alone.
 ghost use mathlib.Core.Path.{_≡_};
-ghost use Rattle.translator.specs.Contracts.{Inside, groupsAfter};
+ghost use Rattle.translator.specs.Contracts.{Inside};
+ghost use Rattle.translator.specs.VariableContracts.{groupsAfter};
 ghost use Rattle.translator.specs.Format.{after};
 ghost use Rattle.translator.specs.Sas.{lineFeed};
 ghost use Rattle.translator.specs.Text.{each, freePair, group};

@@ -39,17 +39,15 @@ pub fn translate(text: &[u8], signer: u32, file: &mut [u8]) -> Translated
         &mut conditions,
         &mut effects,
     );
-    let variables = read.variables;
-    let actions = read.actions;
-    let needed = write::task_needed(variables, actions, &goal, &conditions, &effects);
+    let needed = write::task_needed(read.variables, read.actions, &goal, &conditions, &effects);
     let outcome = outcome_of(read.outcome, signer, needed, file.len());
     if outcome.number != 0 {
         return refused(outcome);
     }
     write::write_task(
         file,
-        variables,
-        actions,
+        read.variables,
+        read.actions,
         &sizes,
         &starts,
         &goal,

@@ -1,7 +1,8 @@
 // Lists of pairs into a row of 64 cells, which puts them in rising order and shows which variables
 // were given: the goal and prevail conditions.
 ghost use mathlib.Core.Path.{_≡_};
-ghost use Rattle.translator.specs.Contracts.{CountInside, same, numberBy, RowInside, isNew, VariableInside, VariableRead, valueBelow, PairInside, PairRead, ListRead};
+ghost use Rattle.translator.specs.Contracts.{CountInside, same, numberBy};
+ghost use Rattle.translator.specs.ListContracts.{RowInside, isNew, VariableInside, VariableRead, valueBelow, PairInside, PairRead, ListRead};
 use crate::fields;
 use crate::fields::Cursor;
 use crate::fields::ReadNumber;

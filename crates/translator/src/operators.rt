@@ -2,7 +2,9 @@
 ghost use mathlib.Core.Path.{_≡_};
 ghost use Prim.Native.Nat.{_≤_};
 ghost use lib.ListN.{take};
-ghost use Rattle.translator.specs.Contracts.{Inside, CountInside, coded, numberBy, plainAfter, oldBelow, isOld, RowInside, storedOld, EffectInside, EffectRead, EffectsRead, costBy, OperatorInside, OperatorRead, OperatorsInside, OperatorsRead};
+ghost use Rattle.translator.specs.Contracts.{Inside, CountInside, coded, numberBy};
+ghost use Rattle.translator.specs.ListContracts.{RowInside};
+ghost use Rattle.translator.specs.OperatorContracts.{plainAfter, oldBelow, isOld, storedOld, EffectInside, EffectRead, EffectsRead, costBy, OperatorInside, OperatorRead, OperatorsInside, OperatorsRead};
 use crate::fields;
 use crate::fields::Cursor;
 use crate::fields::ReadNumber;
@@ -131,16 +133,8 @@ fn operator(
     let base = limits::ROW * a;
     let begun = fields::word(s, c, b"begin_operator\n");
     let named = fields::name(s, begun);
-    let asked = fields::count(s, named, limits::MOST_PAIRS);
-    let prevail = lists::conditions(
-        s,
-        asked.cursor,
-        asked.value,
-        sizes,
-        variables,
-        conditions,
-        base,
-    );
+    let n = fields::count(s, named, limits::MOST_PAIRS);
+    let prevail = lists::conditions(s, n.cursor, n.value, sizes, variables, conditions, base);
     let set = fields::count(s, prevail, limits::MOST_PAIRS);
     let changed = effects_of(
         s,

@@ -1,7 +1,8 @@
 // The variables of a text: their declarations, of which the domain sizes are stored, and their start
 // values.
 ghost use mathlib.Core.Path.{_≡_};
-ghost use Rattle.translator.specs.Contracts.{Inside, same, sizeOf, numberBy, layerAfter, VariablesInside, DeclarationsRead, StartsInside, StartsRead};
+ghost use Rattle.translator.specs.Contracts.{Inside, same, numberBy};
+ghost use Rattle.translator.specs.VariableContracts.{sizeOf, layerAfter, VariablesInside, DeclarationsRead, StartsInside, StartsRead};
 ghost use Rattle.translator.specs.Format.{after};
 ghost use Rattle.translator.specs.Text.{nameLines, size, declaration};
 use crate::fields;

@@ -1,5 +1,4 @@
 -- The text is read into arrays, the stages are tested in order, and the task that the arrays hold is written.
-use native.Mathlib.Omega.{arith}
 use denote.Ref.{now}
 use Rattle.translator.proofs.TranslateLaws.{translate-refused, translate-room, translate-done}
 use borrow.Author.Needs.{needs}

@@ -2,7 +2,7 @@
 use mathlib.Core.Path.{refl}
 use Rattle.digits.specs.Decimal.{ascii}
 use Rattle.translator.specs.Sas.{lineFeed}
-use Rattle.translator.proofs.VariableReading.{inside, after-inside, field-inside, read-inside}
+use Rattle.translator.proofs.InsideReading.{inside, after-inside, field-inside, read-inside}
 use Rattle.translator.proofs.GroupReading.{group-read}
 use borrow.Author.Needs.{needs}
 use Rattle.translator.proofs.groups.group.Statement.{statement}

@@ -1,7 +1,7 @@
 -- A number, then as many groups.
 use mathlib.Core.Path.{refl}
 use Rattle.translator.specs.Sas.{lineFeed}
-use Rattle.translator.proofs.VariableReading.{read-inside}
+use Rattle.translator.proofs.InsideReading.{read-inside}
 use Rattle.translator.proofs.GroupReading.{groups-read}
 use borrow.Author.Needs.{needs}
 use Rattle.translator.proofs.groups.groups.Statement.{statement}

@@ -3,7 +3,7 @@ use mathlib.Core.Path.{_≡_, refl}
 use Rattle.translator.specs.Contracts.{Inside}
 use Rattle.translator.specs.Format.{after}
 use Rattle.translator.specs.Text.{each, group}
-use Rattle.translator.proofs.VariableReading.{after-inside}
+use Rattle.translator.proofs.InsideReading.{after-inside}
 use borrow.Author.Needs.{needs}
 use Rattle.translator.proofs.groups.groups_of.Statement.{statement}
 use Rattle.translator.proofs.RepeatReading.{each-next, each-end, each-stops}

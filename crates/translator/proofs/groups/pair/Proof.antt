@@ -1,7 +1,7 @@
 -- A number and a blank, then a number and a line feed.
 use mathlib.Core.Path.{refl}
 use Rattle.translator.specs.Sas.{blank, lineFeed}
-use Rattle.translator.proofs.VariableReading.{read-inside}
+use Rattle.translator.proofs.InsideReading.{read-inside}
 use Rattle.translator.proofs.GroupReading.{pair-read}
 use borrow.Author.Needs.{needs}
 use Rattle.translator.proofs.groups.pair.Statement.{statement}

@@ -4,7 +4,7 @@ use Rattle.translator.specs.Contracts.{Inside}
 use Rattle.translator.specs.Format.{after}
 use Rattle.translator.specs.Sas.{lineFeed}
 use Rattle.translator.specs.Text.{each, freePair}
-use Rattle.translator.proofs.VariableReading.{after-inside}
+use Rattle.translator.proofs.InsideReading.{after-inside}
 use borrow.Author.Needs.{needs}
 use Rattle.translator.proofs.groups.pairs.Statement.{statement}
 use Rattle.translator.proofs.RepeatReading.{each-next, each-end, each-stops}

@@ -6,7 +6,7 @@ use lib.ListN.{length, take}
 use Rattle.translator.specs.Contracts.{Inside}
 use Rattle.translator.specs.Format.{after, valueAfter}
 use Rattle.translator.specs.Text.{conditions}
-use Rattle.translator.proofs.VariableReading.{after-inside}
+use Rattle.translator.proofs.InsideReading.{after-inside}
 use Rattle.translator.proofs.ConditionsReading.{ConditionsLeft, conditions-start, conditions-next, conditions-end}
 use borrow.Author.Needs.{needs}
 use Rattle.translator.proofs.lists.conditions.Statement.{statement}

@@ -1,7 +1,7 @@
 -- Given before, in the first row or in the second; then in range.
 use mathlib.Core.Path.{refl}
 use Rattle.translator.specs.Sas.{blank}
-use Rattle.translator.proofs.VariableReading.{judged-inside, settled-inside, read-inside}
+use Rattle.translator.proofs.InsideReading.{judged-inside, settled-inside, read-inside}
 use Rattle.translator.proofs.RowReading.{variable-read}
 use borrow.Author.Needs.{needs}
 use Rattle.translator.proofs.lists.variable.Statement.{statement}

@@ -1,9 +1,9 @@
 -- The fields of an effect, one behind another; then both values are stored.
 use native.Mathlib.Omega.{arith}
 use denote.Ref.{now}
-use lib.ListN.{length, take}
+use lib.ListN.{take}
 use lib.Seq.{length-take-le}
-use Rattle.translator.proofs.VariableReading.{number-inside}
+use Rattle.translator.proofs.InsideReading.{number-inside}
 use Rattle.translator.proofs.EffectReading.{plain-inside, plain-begun, effect-stored}
 use borrow.Author.Needs.{needs}
 use Rattle.translator.proofs.operators.effect.Statement.{statement}

@@ -4,7 +4,8 @@ use mathlib.Core.Path.{_≡_}
 use mathlib.Core.Bool.{true}
 use mathlib.Core.List.{List}
 use lib.ListN.{length, take}
-use Rattle.translator.specs.Contracts.{Inside, Given}
+use Rattle.translator.specs.Contracts.{Inside}
+use Rattle.translator.specs.ListContracts.{Given}
 use Rattle.translator.specs.Format.{isOpen}
 use Rattle.translator.proofs.EffectsReading.{EffectsLeft, effects-start, effects-next, effects-end}
 use borrow.Author.Needs.{needs}

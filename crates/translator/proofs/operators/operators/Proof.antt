@@ -4,7 +4,7 @@ use mathlib.Core.Path.{_≡_}
 use native.Mathlib.Omega.{arith}
 use lib.ListN.{length, take}
 use Rattle.translator.specs.Contracts.{Inside}
-use Rattle.translator.proofs.VariableReading.{after-inside}
+use Rattle.translator.proofs.InsideReading.{after-inside}
 use Rattle.translator.proofs.OperatorsReading.{OperatorsLeft, operators-start, operators-next, operators-end}
 use borrow.Author.Needs.{needs}
 use Rattle.translator.proofs.operators.operators.Statement.{statement}

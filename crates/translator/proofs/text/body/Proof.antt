@@ -1,7 +1,7 @@
 -- The fields of the second part, one behind another.
 use native.Mathlib.Omega.{arith}
 use Rattle.digits.specs.Decimal.{ascii}
-use Rattle.translator.proofs.VariableReading.{inside, after-inside, field-inside, number-inside, word-inside}
+use Rattle.translator.proofs.InsideReading.{after-inside, field-inside, number-inside}
 use Rattle.translator.proofs.CountReading.{count-most}
 use Rattle.translator.proofs.BodyReading.{body-read}
 use borrow.Author.Needs.{needs}

@@ -1,7 +1,7 @@
 -- The fields of the first part, one behind another.
 use native.Mathlib.Omega.{arith}
 use Rattle.digits.specs.Decimal.{ascii}
-use Rattle.translator.proofs.VariableReading.{inside, after-inside, field-inside, number-inside, word-inside}
+use Rattle.translator.proofs.InsideReading.{after-inside, field-inside, number-inside, word-inside}
 use Rattle.translator.proofs.CountReading.{count-most}
 use Rattle.translator.proofs.FrontReading.{start-inside, metric-inside, groups-inside, front-read}
 use borrow.Author.Needs.{needs}

@@ -1,7 +1,6 @@
 -- The size, then both parts.
 use native.Mathlib.Omega.{arith}
-use Rattle.translator.proofs.VariableReading.{after-inside}
-use Rattle.translator.proofs.FrontReading.{start-inside}
+use Rattle.translator.proofs.InsideReading.{after-inside}
 use Rattle.translator.proofs.TextReading.{text-long, text-read}
 use borrow.Author.Needs.{needs}
 use Rattle.translator.proofs.text.read.Statement.{statement}

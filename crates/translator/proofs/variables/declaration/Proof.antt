@@ -1,6 +1,7 @@
 -- The fields of a declaration, one behind another.
 use Rattle.digits.specs.Decimal.{ascii}
-use Rattle.translator.proofs.VariableReading.{inside, after-inside, field-inside, number-inside, layer-inside, declaration-read}
+use Rattle.translator.proofs.InsideReading.{inside, after-inside, field-inside, number-inside, layer-inside}
+use Rattle.translator.proofs.VariableReading.{declaration-read}
 use borrow.Author.Needs.{needs}
 use Rattle.translator.proofs.variables.declaration.Statement.{statement}
 use Rattle.translator.proofs.variables.declaration.Tie as tie

@@ -4,7 +4,8 @@ use Rattle.translator.specs.Contracts.{Inside}
 use Rattle.translator.specs.Fields.{name}
 use Rattle.translator.specs.Format.{after}
 use Rattle.translator.specs.Text.{nameLines}
-use Rattle.translator.proofs.VariableReading.{field-inside, name-next, names-end}
+use Rattle.translator.proofs.InsideReading.{field-inside}
+use Rattle.translator.proofs.VariableReading.{name-next, names-end}
 use borrow.Author.Needs.{needs}
 use Rattle.translator.proofs.variables.names.Statement.{statement}
 use Rattle.translator.proofs.variables.names.Tie as tie
