@@ -19,19 +19,19 @@ use Rattle.digits.specs.Decimal.{ascii}
 use Rattle.translator.specs.declared.fields.Cursor.{Cursor}
 use Rattle.translator.specs.declared.fields.ReadNumber.{ReadNumber}
 use Rattle.translator.specs.declared.text.Begun.{Begun}
-use Rattle.translator.specs.Contracts.{capped, settled, numberAfter, judged, numberBy, same}
+use Rattle.translator.specs.Contracts.{capped, withNumber, numberAfter, judged, numberBy, same}
 use Rattle.translator.specs.ListContracts.{ListRead}
 use Rattle.translator.specs.OperatorContracts.{costBy, conditionsOf, effectsOf, OperatorsRead}
 use Rattle.translator.specs.Fields.{word, number, fieldValue}
-use Rattle.translator.specs.Format.{unsupported, unless, Format, gives, field, bind, repeat, isOpen, fieldAfter, faultAfter, stepAfter, after, valueAfter}
+use Rattle.translator.specs.Format.{unsupported, unless, Format, gives, field, bind, repeat, isOpen, fieldAfter, faultAfter, stepAfter, cursorAfter, valueAfter}
 use Rattle.translator.specs.Parts.{Front, axioms, behind, closedAt, endedAt, BodyRead}
 use Rattle.translator.specs.Sas.{Operator, Rule, Sas, lineFeed}
 use Rattle.translator.specs.Text.{says, each, count, conditions, operator, rule}
 use Rattle.translator.proofs.CountReading.{count-most}
 use Rattle.translator.proofs.ReadingLaws.{after-refused, after-bind, value-bind, open-before}
 use Rattle.translator.proofs.RepeatReading.{each-length}
-use Rattle.translator.proofs.StepReading.{eqb-capped, step-fine, unless-none, number-is, settled-value, read-value, read-tested, settled-is}
-use Rattle.translator.proofs.InsideReading.{field-before, after-settled}
+use Rattle.translator.proofs.StepReading.{eqb-capped, step-fine, unless-none, number-is, withNumber-value, read-value, read-tested, withNumber-is}
+use Rattle.translator.proofs.InsideReading.{field-before, after-withNumber}
 
 -- the end of a text
 module _ (s : List ℕ) (c : Cursor) (n : ReadNumber) (last : Cursor) (is : n ≡ numberAfter lineFeed s c) (e : last ≡ judged (n .cursor) (eqb (n .value) 0) 32 (c .at)) where
@@ -71,11 +71,11 @@ module _ (f : Front) (goal : List Pair) (operators : List Operator) (s : List �
       let v : ℕ = fieldValue (number lineFeed) (drop (c .at) s) in
       eqb-true v 0 (unless-none (eqb v 0) unsupported none (step-fine (number lineFeed) (λ r. unless (eqb r 0) unsupported none) s c o) .0)
 
-  axioms-after : after (axioms f goal operators) s c ≡ E
-  unfolding axioms after E each repeat bind closing
+  axioms-after : cursorAfter (axioms f goal operators) s c ≡ E
+  unfolding axioms cursorAfter E each repeat bind closing
   axioms-after =
       split (isOpen E)
-      (λ o. ap (λ (n : ℕ). after (bind (each rule n) closing) s E) (none-counted o))
+      (λ o. ap (λ (n : ℕ). cursorAfter (bind (each rule n) closing) s E) (none-counted o))
       (λ o. after-refused (bind (each rule (fieldValue (number lineFeed) (drop (c .at) s))) closing) s E o)
 
   axioms-goal : valueAfter (axioms f goal operators) s c .goal ≡ goal
@@ -105,13 +105,13 @@ module _ (s : List ℕ) (h : Begun) (stated : Cursor) (asked : ReadNumber) (aime
   k = valueAfter (count 64) s T
 
   C₁ : Cursor
-  C₁ = after (count 64) s T
+  C₁ = cursorAfter (count 64) s T
 
   ps : List Pair
   ps = valueAfter (conditions sz [] k) s C₁
 
   C₂ : Cursor
-  C₂ = after (conditions sz [] k) s C₁
+  C₂ = cursorAfter (conditions sz [] k) s C₁
 
   D : Cursor
   D = fieldAfter (word (ascii "end_goal\n")) s C₂
@@ -120,40 +120,40 @@ module _ (s : List ℕ) (h : Begun) (stated : Cursor) (asked : ReadNumber) (aime
   m = valueAfter (count 512) s D
 
   C₃ : Cursor
-  C₃ = after (count 512) s D
+  C₃ = cursorAfter (count 512) s D
 
   ops : List Operator
   ops = valueAfter (each (operator sz) m) s C₃
 
   C₄ : Cursor
-  C₄ = after (each (operator sz) m) s C₃
+  C₄ = cursorAfter (each (operator sz) m) s C₃
 
-  asked-is : asked ≡ settled C₁ k
+  asked-is : asked ≡ withNumber C₁ k
   unfolding numberBy C₁ k T
   asked-is = e₂ ∙ ap (numberBy (count 64) same s) e₁
 
   aimed-is : aimed ≡ C₂
   unfolding C₂ sz
-  aimed-is = e₃ .cursor ∙ after-settled (conditions sz []) s C₁ k asked asked-is
+  aimed-is = e₃ .cursor ∙ after-withNumber (conditions sz []) s C₁ k asked asked-is
 
-  cnt-is : cnt ≡ settled C₃ m
+  cnt-is : cnt ≡ withNumber C₃ m
   unfolding numberBy C₃ m D
   cnt-is = e₅ ∙ ap (numberBy (count 512) same s) (e₄ ∙ ap (fieldAfter (word (ascii "end_goal\n")) s) aimed-is)
 
   last-at : last ≡ C₄
   unfolding C₄ sz
-  last-at = e₆ .cursor ∙ after-settled (each (operator sz)) s C₃ m cnt cnt-is
+  last-at = e₆ .cursor ∙ after-withNumber (each (operator sz)) s C₃ m cnt cnt-is
 
   module _ (f : Front) where
-    after-is : after (behind sz f) s (h .cursor) ≡ after (axioms f ps ops) s C₄
-    unfolding behind says after stepAfter faultAfter T C₁ C₂ C₃ C₄ D k ps m ops
+    after-is : cursorAfter (behind sz f) s (h .cursor) ≡ cursorAfter (axioms f ps ops) s C₄
+    unfolding behind says cursorAfter stepAfter faultAfter T C₁ C₂ C₃ C₄ D k ps m ops
     after-is = after-bind (count 64) _ s T ∙ after-bind (conditions sz [] k) _ s C₁ ∙ after-bind (count 512) _ s D ∙ after-bind (each (operator sz) m) _ s C₃
 
     value-is : valueAfter (behind sz f) s (h .cursor) ≡ valueAfter (axioms f ps ops) s C₄
-    unfolding behind says after valueAfter stepAfter faultAfter T C₁ C₂ C₃ C₄ D k ps m ops
+    unfolding behind says cursorAfter valueAfter stepAfter faultAfter T C₁ C₂ C₃ C₄ D k ps m ops
     value-is = value-bind (count 64) _ s T ∙ value-bind (conditions sz [] k) _ s C₁ ∙ value-bind (count 512) _ s D ∙ value-bind (each (operator sz) m) _ s C₃
 
-    end-is : outcome ≡ closedAt s (after (behind sz f) s (h .cursor))
+    end-is : outcome ≡ closedAt s (cursorAfter (behind sz f) s (h .cursor))
     unfolding endedAt E
     end-is = e₇ ∙ ap (endedAt s) last-at ∙ ap (closedAt s) (sym (axioms-after f ps ops s C₄) ∙ sym after-is)
 
@@ -164,7 +164,7 @@ module _ (s : List ℕ) (h : Begun) (stated : Cursor) (asked : ReadNumber) (aime
     operators-are = sym (axioms-operators f ps ops s C₄) ∙ ap (λ (x : Sas). x .operators) (sym value-is)
 
   C₄-open : outcome .number ≡ 0 → isOpen C₄ ≡ true
-  unfolding endedAt closedAt isOpen after
+  unfolding endedAt closedAt isOpen cursorAfter
   C₄-open z =
       let open′ = both-done _ _ (sym (ap (λ (o : Outcome). o .number) (e₇ ∙ ap (endedAt s) last-at)) ∙ z) .0 in
       open-before (field (number lineFeed) (λ r. unless (eqb r 0) unsupported none) gives) s C₄ (is-done _ open′)
@@ -183,11 +183,11 @@ module _ (s : List ℕ) (h : Begun) (stated : Cursor) (asked : ReadNumber) (aime
 
   aims : isOpen C₂ ≡ true → valueAfter (conditions sz [] (asked .value)) s (asked .cursor) ≡ ps
   unfolding ps
-  aims o = ap (λ (r : ReadNumber). valueAfter (conditions sz [] (r .value)) s (r .cursor)) (settled-is C₁ k asked asked-is (C₁-open o))
+  aims o = ap (λ (r : ReadNumber). valueAfter (conditions sz [] (r .value)) s (r .cursor)) (withNumber-is C₁ k asked asked-is (C₁-open o))
 
   listed : isOpen C₄ ≡ true → valueAfter (each (operator sz) (cnt .value)) s (cnt .cursor) ≡ ops
   unfolding ops
-  listed o = ap (λ (r : ReadNumber). valueAfter (each (operator sz) (r .value)) s (r .cursor)) (settled-is C₃ m cnt cnt-is (C₃-open o))
+  listed o = ap (λ (r : ReadNumber). valueAfter (each (operator sz) (r .value)) s (r .cursor)) (withNumber-is C₃ m cnt cnt-is (C₃-open o))
 
   many : length ops ≡ m
   unfolding ops
@@ -205,7 +205,7 @@ module _ (s : List ℕ) (h : Begun) (stated : Cursor) (asked : ReadNumber) (aime
             let read : isOpen last ≡ true = ap isOpen last-at ∙ all in
             let ops-are : valueAfter (each (operator sz) (cnt .value)) s (cnt .cursor) ≡ valueAfter (behind sz f) s (h .cursor) .operators = listed all ∙ operators-are f in
             record {
-              counted = settled-value C₃ m cnt cnt-is (C₃-open all) ∙ sym many ∙ ap length (operators-are f);
+              counted = withNumber-value C₃ m cnt cnt-is (C₃-open all) ∙ sym many ∙ ap length (operators-are f);
               goalRead = e₃ .row (ap isOpen aimed-is ∙ C₂-open (C₃-open all)) ∙ ap (filled (cleared goal₀ 0 64) 0) (aims (C₂-open (C₃-open all)) ∙ goal-is f);
               costsRead = e₆ .costsRead read ∙ ap (λ (l : List Operator). placed costs₀ 0 (map (λ o. costBy (h .metric) (o .cost)) l)) ops-are;
               conditionsRead = e₆ .conditionsRead read ∙ ap (λ (l : List Operator). filledRows conditions₀ 0 (map conditionsOf l)) ops-are;

@@ -13,7 +13,7 @@ use Rattle.files.specs.Rows.{cleared, filled}
 use Rattle.files.specs.Task.{Pair}
 use Rattle.translator.specs.declared.fields.Cursor.{Cursor}
 use Rattle.translator.specs.ListContracts.{isNew, Given, PairStored, ListRead}
-use Rattle.translator.specs.Format.{repeat, isOpen, after, valueAfter}
+use Rattle.translator.specs.Format.{repeat, isOpen, cursorAfter, valueAfter}
 use Rattle.translator.specs.Stated.{variablesOf}
 use Rattle.translator.specs.Text.{condition, conditions}
 use Rattle.translator.proofs.OrderLaws.{none-some}
@@ -38,13 +38,13 @@ filled-append row base p ps = refl
 -- what is left of a list of pairs, with the variables that were given so far
 pub record ConditionsLeft (s sizes : List ℕ) (base : ℕ) (whole : Cursor) (pairs : List Pair) (blank : List ℕ) (here : Cursor) (left : ℕ) (row : List ℕ) : Type 0 where
   pub given : List ℕ
-  pub cursor : after (conditions sizes given left) s here ≡ whole
+  pub cursor : cursorAfter (conditions sizes given left) s here ≡ whole
   pub cells : isOpen here ≡ true → Given row row base given
   pub rest : isOpen whole ≡ true → filled row base (valueAfter (conditions sizes given left) s here) ≡ filled blank base pairs
   pub members : (v : ℕ) → anyOf (eqb v) given || anyOf (eqb v) (variablesOf (valueAfter (conditions sizes given left) s here)) ≡ anyOf (eqb v) (variablesOf pairs)
 
 pub conditions-start : (s sizes : List ℕ) (base : ℕ) (c : Cursor) (count : ℕ) (before row : List ℕ) → base + 64 ≤ length before → row ≡ cleared before base 64
-    → ConditionsLeft s sizes base (after (conditions sizes [] count) s c) (valueAfter (conditions sizes [] count) s c) row c count row
+    → ConditionsLeft s sizes base (cursorAfter (conditions sizes [] count) s c) (valueAfter (conditions sizes [] count) s c) row c count row
 conditions-start s sizes base c count before row h e =
     record {
       given = [];
@@ -62,7 +62,7 @@ module _ (s sizes : List ℕ) (base : ℕ) (whole : Cursor) (pairs : List Pair) 
       let given : List ℕ = inv .given in
       let p : Pair = valueAfter (condition sizes given) s here in
       let one : PairStored s here sizes given row base next now = q given (inv .cells) in
-      let moved : after (conditions sizes (p .variable ∷ given) (left - 1)) s next ≡ whole =
+      let moved : cursorAfter (conditions sizes (p .variable ∷ given) (left - 1)) s next ≡ whole =
       repeat-next (condition sizes) (λ given p. p .variable ∷ given) s given left here next h (one .cursor) ∙ inv .cursor in
       let others : valueAfter (conditions sizes given left) s here ≡ p ∷ valueAfter (conditions sizes (p .variable ∷ given) (left - 1)) s next =
       repeat-others (condition sizes) (λ given p. p .variable ∷ given) s given left here next h (one .cursor) in
@@ -87,16 +87,16 @@ module _ (s sizes : List ℕ) (base : ℕ) (whole : Cursor) (pairs : List Pair) 
       moved-left true false c = refl
       moved-left false b c = refl
 
-  pub conditions-end : (c : Cursor) (count variables : ℕ) (all before : List ℕ) → sizes ≡ take variables all → left ≤ 0 → whole ≡ after (conditions sizes [] count) s c → pairs ≡ valueAfter (conditions sizes [] count) s c → blank ≡ cleared before base 64
+  pub conditions-end : (c : Cursor) (count variables : ℕ) (all before : List ℕ) → sizes ≡ take variables all → left ≤ 0 → whole ≡ cursorAfter (conditions sizes [] count) s c → pairs ≡ valueAfter (conditions sizes [] count) s c → blank ≡ cleared before base 64
       → ListRead s c count all variables before base here row
-  unfolding conditions repeat after valueAfter filled
+  unfolding conditions repeat cursorAfter valueAfter filled
   conditions-end c count variables all before z h e f g =
       let none : left ≡ 0 = omega arith in
-      let moved : here ≡ whole = sym (ap (λ (n : ℕ). after (conditions sizes (inv .given) n) s here) none) ∙ inv .cursor in
+      let moved : here ≡ whole = sym (ap (λ (n : ℕ). cursorAfter (conditions sizes (inv .given) n) s here) none) ∙ inv .cursor in
       let empty : valueAfter (conditions sizes (inv .given) left) s here ≡ [] = ap (λ (n : ℕ). valueAfter (conditions sizes (inv .given) n) s here) none in
       let listed : pairs ≡ valueAfter (conditions (take variables all) [] count) s c = f ∙ ap (λ (l : List ℕ). valueAfter (conditions l [] count) s c) z in
       record {
-        cursor = moved ∙ e ∙ ap (λ (l : List ℕ). after (conditions l [] count) s c) z;
+        cursor = moved ∙ e ∙ ap (λ (l : List ℕ). cursorAfter (conditions l [] count) s c) z;
         row = λ o. sym (ap (filled row base) empty) ∙ inv .rest (sym (ap isOpen moved) ∙ o) ∙ ap₂ (λ (l : List ℕ) (ps : List Pair). filled l base ps) g listed;
         gives = λ o v.
             inv .cells o v

@@ -14,17 +14,17 @@ use Rattle.files.specs.declared.Outcome.{Outcome}
 use Rattle.files.specs.Outcome.{done, refusal, isDone, guard, andThen}
 use Rattle.translator.specs.declared.fields.Cursor.{Cursor}
 use Rattle.translator.specs.Fields.{Field, word, name, byteAt, wordAt, lineLength, fieldAt, fieldLength}
-use Rattle.translator.specs.Format.{cursorRefused, isOpen, reached, fieldAfter}
+use Rattle.translator.specs.Format.{cursorRefused, isOpen, cursorBy, fieldAfter}
 use Rattle.translator.proofs.LineLaws.{line-within}
 use Rattle.translator.proofs.ReadingLaws.{field-closed}
 
-pub reached-end : (o x : Outcome) (end : ℕ) → o .number ≡ 0 → x ≡ done → record { outcome = x; at = end } ≡ reached o end
-unfolding reached
-reached-end o x end z e = rw (is-done o z) (ap (λ (y : Outcome). record { outcome = y; at = end }) e)
+pub cursorBy-end : (o x : Outcome) (end : ℕ) → o .number ≡ 0 → x ≡ done → record { outcome = x; at = end } ≡ cursorBy o end
+unfolding cursorBy
+cursorBy-end o x end z e = rw (is-done o z) (ap (λ (y : Outcome). record { outcome = y; at = end }) e)
 
-pub reached-refusal : (o : Outcome) (end : ℕ) → (o .number ≡ 0 → ⊥) → cursorRefused o ≡ reached o end
-unfolding reached
-reached-refusal o end d = rw (is-refused o d) refl
+pub cursorBy-refusal : (o : Outcome) (end : ℕ) → (o .number ≡ 0 → ⊥) → cursorRefused o ≡ cursorBy o end
+unfolding cursorBy
+cursorBy-refusal o end d = rw (is-refused o d) refl
 
 -- the bytes of a text from an offset on
 pub rest-none : (s : List ℕ) (at : ℕ) → length s ≤ at → drop at s ≡ []
@@ -110,17 +110,17 @@ pub field-refused : (f : Field) (s : List ℕ) (c : Cursor) → (c .outcome .num
 unfolding isOpen
 field-refused f s c d = sym (field-closed f s c (is-refused (c .outcome) d))
 
-pub field-reached : (f : Field) (s : List ℕ) (c : Cursor) → c .outcome .number ≡ 0
-    → reached (fieldAt f (drop (c .at) s) (c .at)) (c .at + fieldLength f (drop (c .at) s)) ≡ fieldAfter f s c
+pub field-cursorBy : (f : Field) (s : List ℕ) (c : Cursor) → c .outcome .number ≡ 0
+    → cursorBy (fieldAt f (drop (c .at) s) (c .at)) (c .at + fieldLength f (drop (c .at) s)) ≡ fieldAfter f s c
 unfolding fieldAfter isOpen
-field-reached f s c z = rw (is-done (c .outcome) z) refl
+field-cursorBy f s c z = rw (is-done (c .outcome) z) refl
 
-pub word-open : (w s : List ℕ) (c r : Cursor) (o : Outcome) → c .outcome .number ≡ 0 → o ≡ wordAt w (drop (c .at) s) (c .at) → r ≡ reached o (c .at + length w)
+pub word-open : (w s : List ℕ) (c r : Cursor) (o : Outcome) → c .outcome .number ≡ 0 → o ≡ wordAt w (drop (c .at) s) (c .at) → r ≡ cursorBy o (c .at + length w)
     → r ≡ fieldAfter (word w) s c
 unfolding fieldAt fieldLength
-word-open w s c r o z e q = q ∙ ap (λ (x : Outcome). reached x (c .at + length w)) e ∙ field-reached (word w) s c z
+word-open w s c r o z e q = q ∙ ap (λ (x : Outcome). cursorBy x (c .at + length w)) e ∙ field-cursorBy (word w) s c z
 
-pub name-open : (s : List ℕ) (c r : Cursor) (end : ℕ) (o : Outcome) → c .outcome .number ≡ 0 → end ≡ c .at + lineLength (drop (c .at) s) → o ≡ byteAt 10 (drop end s) end → r ≡ reached o (end + 1)
+pub name-open : (s : List ℕ) (c r : Cursor) (end : ℕ) (o : Outcome) → c .outcome .number ≡ 0 → end ≡ c .at + lineLength (drop (c .at) s) → o ≡ byteAt 10 (drop end s) end → r ≡ cursorBy o (end + 1)
     → r ≡ fieldAfter name s c
 unfolding fieldAt fieldLength
 name-open s c r end o z n e q =
@@ -128,4 +128,4 @@ name-open s c r end o z n e q =
     let further : drop (lineLength rest) rest ≡ drop end s = drop-drop (lineLength rest) (c .at) s ∙ ap (λ (i : ℕ). drop i s) (sym n) in
     let here : o ≡ byteAt 10 (drop (lineLength rest) rest) (c .at + lineLength rest) = e ∙ ap₂ (byteAt 10) (sym further) n in
     let ends : end + 1 ≡ c .at + (lineLength rest + 1) = omega arith in
-    q ∙ ap₂ reached here ends ∙ field-reached name s c z
+    q ∙ ap₂ cursorBy here ends ∙ field-cursorBy name s c z

@@ -15,17 +15,17 @@ use Rattle.files.specs.Rows.{stored, filled}
 use Rattle.files.specs.Task.{Pair}
 use Rattle.translator.specs.declared.fields.Cursor.{Cursor}
 use Rattle.translator.specs.declared.fields.ReadNumber.{ReadNumber}
-use Rattle.translator.specs.Contracts.{Inside, capped, coded, settled, numberAfter, signedAfter, judged, numberBy, same}
+use Rattle.translator.specs.Contracts.{Inside, capped, coded, withNumber, numberAfter, signedAfter, judged, numberBy, same}
 use Rattle.translator.specs.ListContracts.{isNew, Given, variableOf, valueBelow}
 use Rattle.translator.specs.OperatorContracts.{plainAfter, belowOrNone, oldBelow, isOld, storedOld, EffectStored}
 use Rattle.translator.specs.Fields.{number, signed, fieldValue}
-use Rattle.translator.specs.Format.{unsupported, outOfRange, unless, Format, gives, field, bind, repeat, isOpen, stepAfter, after, valueAfter}
+use Rattle.translator.specs.Format.{unsupported, outOfRange, unless, Format, gives, field, bind, repeat, isOpen, stepAfter, cursorAfter, valueAfter}
 use Rattle.translator.specs.Sas.{Effect, blank, lineFeed}
 use Rattle.translator.specs.Stated.{isValue, isOldValue, oldPairs, newPairs}
 use Rattle.translator.specs.Text.{each, variableFault, valueFault, oldFault, freePair, effect}
 use Rattle.translator.proofs.NumberReading.{capped-small, capped-most}
 use Rattle.translator.proofs.ReadingLaws.{after-refused, open-before}
-use Rattle.translator.proofs.StepReading.{eqb-capped, ltb-capped, step-fine, unless-none, number-is, signed-is, read-value, read-tested, read-settled}
+use Rattle.translator.proofs.StepReading.{eqb-capped, ltb-capped, step-fine, unless-none, number-is, signed-is, read-value, read-tested, read-withNumber}
 use Rattle.translator.proofs.InsideReading.{after-inside}
 use Rattle.translator.proofs.RowReading.{new-stored}
 use Rattle.translator.proofs.ListReading.{step-same, number-cursor, number-value, variable-known, value-below}
@@ -62,11 +62,11 @@ old-coded : (o : Option ℕ) (size : ℕ) → size < 1048576 → isOld (coded o)
 old-coded none size h = sym (old-none 1048577 size refl)
 old-coded (some n) size h = sym (old-some (capped n) size (capped-some n)) ∙ ltb-capped n size (omega arith)
 
-pub old-read : (s : List ℕ) (c : Cursor) (n : ReadNumber) (size : ℕ) (b : Bool) (j : Cursor) (r : ReadNumber) → n ≡ signedAfter blank s c → size < 1048576 → b ≡ isOld (n .value) size → j ≡ judged (n .cursor) b 5 (c .at) → r ≡ settled j (n .value)
+pub old-read : (s : List ℕ) (c : Cursor) (n : ReadNumber) (size : ℕ) (b : Bool) (j : Cursor) (r : ReadNumber) → n ≡ signedAfter blank s c → size < 1048576 → b ≡ isOld (n .value) size → j ≡ judged (n .cursor) b 5 (c .at) → r ≡ withNumber j (n .value)
     → r ≡ numberBy (oldBelow size) coded s c
 old-read s c n size b j r is h t e q =
     let v : Option ℕ = fieldValue (signed blank) (drop (c .at) s) in
-    read-settled (signed blank) s c n coded (signed-is blank s c n is) outOfRange (belowOrNone size) coded b j r
+    read-withNumber (signed blank) s c n coded (signed-is blank s c n is) outOfRange (belowOrNone size) coded b j r
     (λ o. t ∙ ap (λ (x : ℕ). isOld x size) (read-value (signed blank) s c n (coded v) (signed-is blank s c n is) o) ∙ old-coded v size h)
     (λ o. refl) e q
 
@@ -85,11 +85,11 @@ module _ (sizes given s : List ℕ) (c : Cursor) where
       let v : ℕ = fieldValue (number blank) (drop (c .at) s) in
       eqb-true v 0 (unless-none (eqb v 0) unsupported none (step-fine (number blank) (λ n. unless (eqb n 0) unsupported none) s c o) .0)
 
-  effect-after : after (effect sizes given) s c ≡ after (effectOf sizes given []) s (plainAfter s c)
-  unfolding effect effectOf after plainAfter bind each repeat
+  effect-after : cursorAfter (effect sizes given) s c ≡ cursorAfter (effectOf sizes given []) s (plainAfter s c)
+  unfolding effect effectOf cursorAfter plainAfter bind each repeat
   effect-after =
       split (isOpen (plainAfter s c))
-      (λ o. ap (λ (n : ℕ). after (bind (each (freePair blank) n) (effectOf sizes given)) s (plainAfter s c)) (none-counted o))
+      (λ o. ap (λ (n : ℕ). cursorAfter (bind (each (freePair blank) n) (effectOf sizes given)) s (plainAfter s c)) (none-counted o))
       (λ o. after-refused (bind (each (freePair blank) (fieldValue (number blank) (drop (c .at) s))) (effectOf sizes given)) s (plainAfter s c) o ∙ sym (after-refused (effectOf sizes given []) s (plainAfter s c) o))
 
   effect-value : isOpen (plainAfter s c) ≡ true → valueAfter (effect sizes given) s c ≡ valueAfter (effectOf sizes given []) s (plainAfter s c)
@@ -97,7 +97,7 @@ module _ (sizes given s : List ℕ) (c : Cursor) where
   effect-value o = ap (λ (n : ℕ). valueAfter (bind (each (freePair blank) n) (effectOf sizes given)) s (plainAfter s c)) (none-counted o)
 
 plain-before : (s : List ℕ) (c : Cursor) → isOpen (plainAfter s c) ≡ true → isOpen c ≡ true
-unfolding plainAfter after
+unfolding plainAfter cursorAfter
 plain-before s c e = open-before (field (number blank) (λ n. unless (eqb n 0) unsupported none) gives) s c e
 
 -- one effect
@@ -114,19 +114,19 @@ module _ (s : List ℕ) (c : Cursor) (sizes : List ℕ) (variables : ℕ) (given
   P = plainAfter s c
 
   K : Cursor
-  K = after (variableOf sz given) s P
+  K = cursorAfter (variableOf sz given) s P
 
   w : ℕ
   w = valueAfter (variableOf sz given) s P
 
   O : Cursor
-  O = after (oldBelow size) s K
+  O = cursorAfter (oldBelow size) s K
 
   old : Option ℕ
   old = valueAfter (oldBelow size) s K
 
   N : Cursor
-  N = after (valueBelow size) s O
+  N = cursorAfter (valueBelow size) s O
 
   d : ℕ
   d = valueAfter (valueBelow size) s O
@@ -141,11 +141,11 @@ module _ (s : List ℕ) (c : Cursor) (sizes : List ℕ) (variables : ℕ) (given
 
   O-is : before .cursor ≡ O
   unfolding O
-  O-is = number-cursor (oldBelow size) coded s (n .cursor) before olds ∙ ap (after (oldBelow size) s) K-is
+  O-is = number-cursor (oldBelow size) coded s (n .cursor) before olds ∙ ap (cursorAfter (oldBelow size) s) K-is
 
   N-is : new .cursor ≡ N
   unfolding N
-  N-is = number-cursor (valueBelow size) same s (before .cursor) new news ∙ ap (after (valueBelow size) s) O-is
+  N-is = number-cursor (valueBelow size) same s (before .cursor) new news ∙ ap (cursorAfter (valueBelow size) s) O-is
 
   O-open : isOpen N ≡ true → isOpen O ≡ true
   unfolding N
@@ -165,11 +165,11 @@ module _ (s : List ℕ) (c : Cursor) (sizes : List ℕ) (variables : ℕ) (given
 
   o-is : isOpen O ≡ true → before .value ≡ coded old
   unfolding O old
-  o-is e = number-value (oldBelow size) coded s (n .cursor) before olds (ap (λ (x : Cursor). isOpen (after (oldBelow size) s x)) K-is ∙ e) ∙ ap (λ (x : Cursor). coded (valueAfter (oldBelow size) s x)) K-is
+  o-is e = number-value (oldBelow size) coded s (n .cursor) before olds (ap (λ (x : Cursor). isOpen (cursorAfter (oldBelow size) s x)) K-is ∙ e) ∙ ap (λ (x : Cursor). coded (valueAfter (oldBelow size) s x)) K-is
 
   d-is : isOpen N ≡ true → new .value ≡ d
   unfolding N d
-  d-is e = number-value (valueBelow size) same s (before .cursor) new news (ap (λ (x : Cursor). isOpen (after (valueBelow size) s x)) O-is ∙ e) ∙ ap (valueAfter (valueBelow size) s) O-is
+  d-is e = number-value (valueBelow size) same s (before .cursor) new news (ap (λ (x : Cursor). isOpen (cursorAfter (valueBelow size) s x)) O-is ∙ e) ∙ ap (valueAfter (valueBelow size) s) O-is
 
   known : isOpen K ≡ true → w < variables
   unfolding K w sz
@@ -185,27 +185,27 @@ module _ (s : List ℕ) (c : Cursor) (sizes : List ℕ) (variables : ℕ) (given
   old-same (some x) e = ap (ltb x) (size-is e)
 
   O-after : O ≡ stepAfter (signed blank) (oldFault sz w) s K
-  unfolding O after
+  unfolding O cursorAfter
   O-after = step-same (signed blank) (λ o. unless (belowOrNone size o) outOfRange none) (oldFault sz w) s K
       (λ e. ap (λ (t : Bool). unless t outOfRange none) (old-same (fieldValue (signed blank) (drop (K .at) s)) e))
 
   N-after : N ≡ stepAfter (number lineFeed) (valueFault sz w) s O
-  unfolding N after isValue
+  unfolding N cursorAfter isValue
   N-after = step-same (number lineFeed) (λ x. unless (ltb x size) outOfRange none) (valueFault sz w) s O
       (λ e. ap (λ (k : ℕ). unless (ltb (fieldValue (number lineFeed) (drop (O .at) s)) k) outOfRange none) (size-is (K-open e)))
 
-  cursor-is : new .cursor ≡ after (effect sz given) s c
-  unfolding effectOf after valueAfter K w P
+  cursor-is : new .cursor ≡ cursorAfter (effect sz given) s c
+  unfolding effectOf cursorAfter valueAfter K w P
   cursor-is = N-is ∙ N-after ∙ ap (stepAfter (number lineFeed) (valueFault sz w) s) O-after ∙ sym (effect-after sz given s c)
 
   value-is : isOpen N ≡ true → record { conditions = []; variable = w; old = old; new = d } ≡ valueAfter (effect sz given) s c
-  unfolding effectOf after valueAfter K w P old d
+  unfolding effectOf cursorAfter valueAfter K w P old d
   value-is e =
       (λ i. record { conditions = []; variable = w; old = old; new = valueAfter (valueBelow size) s (O-after i) })
       ∙ sym (effect-value sz given s c (P-open (K-open (O-open e))))
 
   old-fits : isOpen O ≡ true → belowOrNone size old ≡ true
-  unfolding O old after valueAfter
+  unfolding O old cursorAfter valueAfter
   old-fits e = unless-none (belowOrNone size (fieldValue (signed blank) (drop (K .at) s))) outOfRange none (step-fine (signed blank) (λ o. unless (belowOrNone size o) outOfRange none) s K e) .0
 
   new-fits : isOpen N ≡ true → d < size
@@ -274,7 +274,7 @@ module _ (s : List ℕ) (c : Cursor) (sizes : List ℕ) (variables : ℕ) (given
       joined false b c g h = h
 
 pub plain-inside : (s : List ℕ) (c r : Cursor) → Inside s (c .at) → r ≡ plainAfter s c → Inside s (r .at)
-unfolding plainAfter after
+unfolding plainAfter cursorAfter
 plain-inside s c r h e = after-inside (field (number blank) (λ n. unless (eqb n 0) unsupported none) gives) s c r h e
 
 pub plain-begun : (s : List ℕ) (c r : Cursor) → r ≡ plainAfter s c → isOpen r ≡ true → isOpen c ≡ true

@@ -10,7 +10,7 @@ use Rattle.files.specs.Rows.{cleared, filled}
 use Rattle.translator.specs.declared.fields.Cursor.{Cursor}
 use Rattle.translator.specs.ListContracts.{isNew, Given}
 use Rattle.translator.specs.OperatorContracts.{EffectStored, EffectsStored}
-use Rattle.translator.specs.Format.{repeat, isOpen, after, valueAfter}
+use Rattle.translator.specs.Format.{repeat, isOpen, cursorAfter, valueAfter}
 use Rattle.translator.specs.Sas.{Effect}
 use Rattle.translator.specs.Stated.{oldPairs, newPairs}
 use Rattle.translator.specs.Text.{effect, effects}
@@ -45,11 +45,11 @@ filled-new row base e es = refl
 -- what is left of the effects, with the variables that were given so far
 pub record EffectsLeft (s sizes first : List ℕ) (base : ℕ) (c : Cursor) (count : ℕ) (conditions₀ effects₀ : List ℕ) (here : Cursor) (left : ℕ) (conditionsNow effectsNow : List ℕ) : Type 0 where
   pub given : List ℕ
-  pub cursor : after (effects sizes given left) s here ≡ after (effects sizes first count) s c
+  pub cursor : cursorAfter (effects sizes given left) s here ≡ cursorAfter (effects sizes first count) s c
   pub cells : isOpen here ≡ true → Given conditionsNow effectsNow base given
-  pub conditionsRest : isOpen (after (effects sizes first count) s c) ≡ true
+  pub conditionsRest : isOpen (cursorAfter (effects sizes first count) s c) ≡ true
       → filled conditionsNow base (oldPairs (valueAfter (effects sizes given left) s here)) ≡ filled conditions₀ base (oldPairs (valueAfter (effects sizes first count) s c))
-  pub effectsRest : isOpen (after (effects sizes first count) s c) ≡ true
+  pub effectsRest : isOpen (cursorAfter (effects sizes first count) s c) ≡ true
       → filled effectsNow base (newPairs (valueAfter (effects sizes given left) s here)) ≡ filled effects₀ base (newPairs (valueAfter (effects sizes first count) s c))
 
 pub effects-start : (s sizes first : List ℕ) (base : ℕ) (c : Cursor) (count : ℕ) (conditions₀ before effects₀ : List ℕ) → base + 64 ≤ length before → effects₀ ≡ cleared before base 64
@@ -73,7 +73,7 @@ module _ (s sizes first : List ℕ) (base : ℕ) (c : Cursor) (count : ℕ) (con
       let given : List ℕ = inv .given in
       let e : Effect = valueAfter (effect sizes given) s here in
       let one : EffectStored s here sizes given conditionsNow effectsNow base next conditionsThen effectsThen = q given (inv .cells) in
-      let moved : after (effects sizes (e .variable ∷ given) (left - 1)) s next ≡ after (effects sizes first count) s c =
+      let moved : cursorAfter (effects sizes (e .variable ∷ given) (left - 1)) s next ≡ cursorAfter (effects sizes first count) s c =
       repeat-next (effect sizes) (λ given e. e .variable ∷ given) s given left here next h (one .cursor) ∙ inv .cursor in
       let es : List Effect = valueAfter (effects sizes (e .variable ∷ given) (left - 1)) s next in
       let others : valueAfter (effects sizes given left) s here ≡ e ∷ es = repeat-others (effect sizes) (λ given e. e .variable ∷ given) s given left here next h (one .cursor) in
@@ -94,10 +94,10 @@ module _ (s sizes first : List ℕ) (base : ℕ) (c : Cursor) (count : ℕ) (con
       }
 
   pub effects-end : (before : List ℕ) → left ≤ 0 → effects₀ ≡ cleared before base 64 → EffectsStored s c count sizes first conditions₀ before base here conditionsNow effectsNow
-  unfolding effects repeat after valueAfter oldPairs newPairs filled
+  unfolding effects repeat cursorAfter valueAfter oldPairs newPairs filled
   effects-end before h g =
       let none-left : left ≡ 0 = omega arith in
-      let moved : here ≡ after (effects sizes first count) s c = sym (ap (λ (n : ℕ). after (effects sizes (inv .given) n) s here) none-left) ∙ inv .cursor in
+      let moved : here ≡ cursorAfter (effects sizes first count) s c = sym (ap (λ (n : ℕ). cursorAfter (effects sizes (inv .given) n) s here) none-left) ∙ inv .cursor in
       let empty : valueAfter (effects sizes (inv .given) left) s here ≡ [] = ap (λ (n : ℕ). valueAfter (effects sizes (inv .given) n) s here) none-left in
       record {
         cursor = moved;

@@ -17,10 +17,10 @@ use Rattle.files.specs.Outcome.{guard, overwrite}
 use Rattle.digits.specs.Decimal.{ascii}
 use Rattle.translator.specs.declared.fields.Cursor.{Cursor}
 use Rattle.translator.specs.declared.fields.ReadNumber.{ReadNumber}
-use Rattle.translator.specs.Contracts.{Inside, settled, numberBy, same}
+use Rattle.translator.specs.Contracts.{Inside, withNumber, numberBy, same}
 use Rattle.translator.specs.VariableContracts.{sizeOf, storedSizes, storedStarts, DeclarationsRead, StartsStored, StartsRead, groupsAfter}
 use Rattle.translator.specs.Fields.{word, flag, number, byteAt, wordAt, isFlag, fieldAt, fieldLength, fieldValue}
-use Rattle.translator.specs.Format.{field, repeat, cursorAt, isOpen, reached, fieldAfter, after, valueAfter}
+use Rattle.translator.specs.Format.{field, repeat, cursorAt, isOpen, cursorBy, fieldAfter, cursorAfter, valueAfter}
 use Rattle.translator.specs.Parts.{Front, front, metricAfter, FrontRead}
 use Rattle.translator.specs.Sas.{Declaration, Started, lineFeed}
 use Rattle.translator.specs.Stated.{sizesOf}
@@ -29,9 +29,9 @@ use Rattle.translator.proofs.CountReading.{count-most}
 use Rattle.translator.proofs.NumberReading.{first-byte}
 use Rattle.translator.proofs.ReadingLaws.{open-before}
 use Rattle.translator.proofs.RepeatReading.{each-more, each-value, each-length}
-use Rattle.translator.proofs.StepReading.{settled-cursor, settled-value, settled-is}
+use Rattle.translator.proofs.StepReading.{withNumber-cursor, withNumber-value, withNumber-is}
 use Rattle.translator.proofs.TextParts.{atMetric, metricIn, behindMetric, atCount, countIn, atVariables, declarationsIn, atGroups, behindGroups, atStarts, variablesIn, behindStarts, front-after, front-value}
-use Rattle.translator.proofs.InsideReading.{after-inside, field-inside, settled-inside, field-before, after-settled}
+use Rattle.translator.proofs.InsideReading.{after-inside, field-inside, withNumber-inside, field-before, after-withNumber}
 use Rattle.translator.proofs.VariableReading.{declaration-size}
 
 -- the metric is the word of its digit
@@ -47,22 +47,22 @@ flag-zero [] at d = refl
 flag-zero (b ∷ []) at d = split (eqb b 48) (λ e. rw e refl) (λ e. rw (e, ne-eqb b 49 d) refl)
 flag-zero (b ∷ x ∷ r) at d = split (eqb b 48) (λ e. rw e refl) (λ e. rw (e, ne-eqb b 49 d) refl)
 
-pub metric-one : (s : List ℕ) (c w : Cursor) (b : ℕ) (r : ReadNumber) → b ≡ getD s (c .at) 0 → b ≡ 49 → w ≡ fieldAfter (word (49 ∷ 10 ∷ [])) s c → r ≡ settled w 1 → r ≡ metricAfter s c
+pub metric-one : (s : List ℕ) (c w : Cursor) (b : ℕ) (r : ReadNumber) → b ≡ getD s (c .at) 0 → b ≡ 49 → w ≡ fieldAfter (word (49 ∷ 10 ∷ [])) s c → r ≡ withNumber w 1 → r ≡ metricAfter s c
 unfolding metricAfter fieldAfter fieldLength fieldValue
 metric-one s c w b r e z f q =
     let first : getD (drop (c .at) s) 0 0 ≡ 49 = first-byte s (c .at) ∙ sym e ∙ z in
     q
-    ∙ ap₂ settled
-    (f ∙ ap (λ (o : Outcome). cond (isOpen c) (reached o (c .at + 2)) c) (flag-one (drop (c .at) s) (c .at) first))
+    ∙ ap₂ withNumber
+    (f ∙ ap (λ (o : Outcome). cond (isOpen c) (cursorBy o (c .at + 2)) c) (flag-one (drop (c .at) s) (c .at) first))
     (sym (ap bit (eq-eqb (getD (drop (c .at) s) 0 0) 49 first)))
 
-pub metric-zero : (s : List ℕ) (c w : Cursor) (b : ℕ) (r : ReadNumber) → b ≡ getD s (c .at) 0 → (b ≡ 49 → ⊥) → w ≡ fieldAfter (word (48 ∷ 10 ∷ [])) s c → r ≡ settled w 0 → r ≡ metricAfter s c
+pub metric-zero : (s : List ℕ) (c w : Cursor) (b : ℕ) (r : ReadNumber) → b ≡ getD s (c .at) 0 → (b ≡ 49 → ⊥) → w ≡ fieldAfter (word (48 ∷ 10 ∷ [])) s c → r ≡ withNumber w 0 → r ≡ metricAfter s c
 unfolding metricAfter fieldAfter fieldLength fieldValue
 metric-zero s c w b r e d f q =
     let other : getD (drop (c .at) s) 0 0 ≡ 49 → ⊥ = λ z. d (e ∙ sym (first-byte s (c .at)) ∙ z) in
     q
-    ∙ ap₂ settled
-    (f ∙ ap (λ (o : Outcome). cond (isOpen c) (reached o (c .at + 2)) c) (flag-zero (drop (c .at) s) (c .at) other))
+    ∙ ap₂ withNumber
+    (f ∙ ap (λ (o : Outcome). cond (isOpen c) (cursorBy o (c .at + 2)) c) (flag-zero (drop (c .at) s) (c .at) other))
     (sym (ap bit (ne-eqb (getD (drop (c .at) s) 0 0) 49 other)))
 
 -- cursors that stand in the text
@@ -71,7 +71,7 @@ start-inside s c h e = record { limited = h; within = omega (arith, ap (λ (x : 
 
 pub metric-inside : (s : List ℕ) (c : Cursor) (r : ReadNumber) → Inside s (c .at) → r ≡ metricAfter s c → Inside s (r .cursor .at)
 unfolding metricAfter
-metric-inside s c r h e = settled-inside s (fieldAfter flag s c) _ r (field-inside flag s c _ h refl) e
+metric-inside s c r h e = withNumber-inside s (fieldAfter flag s c) _ r (field-inside flag s c _ h refl) e
 
 pub groups-inside : (s : List ℕ) (c r : Cursor) → Inside s (c .at) → r ≡ groupsAfter s c → Inside s (r .at)
 unfolding groupsAfter
@@ -83,15 +83,15 @@ unfolding overwrite
 placed-front b xs n e h = ap (take n) (placed-overwrite b xs (omega arith)) ∙ take-at xs (drop (length xs) b) n e
 
 -- sizes are stored as they are
-sizes-stored : (n : ℕ) (s : List ℕ) (c : Cursor) → isOpen (after (each declaration n) s c) ≡ true → storedSizes (valueAfter (each declaration n) s c) ≡ sizesOf (valueAfter (each declaration n) s c)
+sizes-stored : (n : ℕ) (s : List ℕ) (c : Cursor) → isOpen (cursorAfter (each declaration n) s c) ≡ true → storedSizes (valueAfter (each declaration n) s c) ≡ sizesOf (valueAfter (each declaration n) s c)
 unfolding each repeat valueAfter
 sizes-stored zero s c o = refl
 sizes-stored (suc n) s c o =
     let d : Declaration = valueAfter declaration s c in
-    let rest : isOpen (after (each declaration n) s (after declaration s c)) ≡ true = sym (ap isOpen (each-more declaration s n c)) ∙ o in
-    let small : sizeOf d % 256 ≡ sizeOf d = omega (arith, declaration-size s c (open-before (each declaration n) s (after declaration s c) rest)) in
+    let rest : isOpen (cursorAfter (each declaration n) s (cursorAfter declaration s c)) ≡ true = sym (ap isOpen (each-more declaration s n c)) ∙ o in
+    let small : sizeOf d % 256 ≡ sizeOf d = omega (arith, declaration-size s c (open-before (each declaration n) s (cursorAfter declaration s c) rest)) in
     ap storedSizes (each-value declaration s n c)
-    ∙ ap₂ _∷_ small (sizes-stored n s (after declaration s c) rest)
+    ∙ ap₂ _∷_ small (sizes-stored n s (cursorAfter declaration s c) rest)
     ∙ sym (ap sizesOf (each-value declaration s n c))
 
 module _ (s : List ℕ) (start begun : Cursor) (metric : ReadNumber) (measured : Cursor) (cnt : ReadNumber) (declared grouped opened started : Cursor)
@@ -106,17 +106,17 @@ module _ (s : List ℕ) (start begun : Cursor) (metric : ReadNumber) (measured :
     (e₇ : opened ≡ fieldAfter (word (ascii "begin_state\n")) s grouped)
     (e₈ : StartsRead s opened (cnt .value) sizes starts₀ started startsNow)
     (room : 64 ≤ length sizes₀) where
-  metric-is : metric ≡ settled (behindMetric s) (bit (metricIn s))
+  metric-is : metric ≡ withNumber (behindMetric s) (bit (metricIn s))
   unfolding metricAfter metricIn behindMetric atMetric
   metric-is = e₂ ∙ ap (metricAfter s) (e₁ ∙ ap (fieldAfter (word (ascii "begin_version\n3\nend_version\nbegin_metric\n")) s) e₀)
 
-  cnt-is : cnt ≡ settled (atVariables s) (countIn s)
+  cnt-is : cnt ≡ withNumber (atVariables s) (countIn s)
   unfolding numberBy atVariables countIn atCount
-  cnt-is = e₄ ∙ ap (numberBy (count 64) same s) (e₃ ∙ ap (fieldAfter (word (ascii "end_metric\n")) s) (settled-cursor (behindMetric s) _ metric metric-is))
+  cnt-is = e₄ ∙ ap (numberBy (count 64) same s) (e₃ ∙ ap (fieldAfter (word (ascii "end_metric\n")) s) (withNumber-cursor (behindMetric s) _ metric metric-is))
 
   declared-is : declared ≡ atGroups s
   unfolding atGroups
-  declared-is = e₅ .cursor ∙ after-settled (each declaration) s (atVariables s) (countIn s) cnt cnt-is
+  declared-is = e₅ .cursor ∙ after-withNumber (each declaration) s (atVariables s) (countIn s) cnt cnt-is
 
   opened-is : opened ≡ atStarts s
   unfolding atStarts behindGroups
@@ -131,13 +131,13 @@ module _ (s : List ℕ) (start begun : Cursor) (metric : ReadNumber) (measured :
   variables-open = open-before (each declaration (countIn s)) s (atVariables s)
 
   counted : isOpen (atGroups s) ≡ true → cnt .value ≡ countIn s
-  counted o = settled-value (atVariables s) (countIn s) cnt cnt-is (variables-open o)
+  counted o = withNumber-value (atVariables s) (countIn s) cnt cnt-is (variables-open o)
 
   sizes-are : isOpen (atGroups s) ≡ true → sizes ≡ placed sizes₀ 0 (storedSizes (declarationsIn s))
   unfolding declarationsIn
   sizes-are o =
       e₅ .stored (ap isOpen declared-is ∙ o)
-      ∙ ap (λ (r : ReadNumber). placed sizes₀ 0 (storedSizes (valueAfter (each declaration (r .value)) s (r .cursor)))) (settled-is (atVariables s) (countIn s) cnt cnt-is (variables-open o))
+      ∙ ap (λ (r : ReadNumber). placed sizes₀ 0 (storedSizes (valueAfter (each declaration (r .value)) s (r .cursor)))) (withNumber-is (atVariables s) (countIn s) cnt cnt-is (variables-open o))
 
   many : length (declarationsIn s) ≡ countIn s
   unfolding declarationsIn
@@ -159,7 +159,7 @@ module _ (s : List ℕ) (start begun : Cursor) (metric : ReadNumber) (measured :
 
   started-is : started ≡ behindStarts s
   unfolding behindStarts
-  started-is = stored .cursor ∙ ap (after (starts (declarationsIn s)) s) opened-is
+  started-is = stored .cursor ∙ ap (cursorAfter (starts (declarationsIn s)) s) opened-is
 
   starts-open : isOpen (behindStarts s) ≡ true → isOpen (atStarts s) ≡ true
   unfolding behindStarts
@@ -181,7 +181,7 @@ module _ (s : List ℕ) (start begun : Cursor) (metric : ReadNumber) (measured :
       record {
         cursor = started-is ∙ sym (front-after s);
         few = count-most s measured 64 cnt e₄;
-        metric = λ o. settled-value (behindMetric s) _ metric metric-is (metric-open (all-open o)) ∙ ap bit (sym (value-is .0));
+        metric = λ o. withNumber-value (behindMetric s) _ metric metric-is (metric-open (all-open o)) ∙ ap bit (sym (value-is .0));
         counted = λ o. counted (all-open o) ∙ sym many ∙ ap length (sym (value-is .1));
         sizesHeld = λ o. ap sizesOf (value-is .1) ∙ sizes-held (starts-open (sym (ap isOpen started-is) ∙ o));
         sizesRead = λ o. sizes-are (all-open o) ∙ ap (λ (l : List Declaration). placed sizes₀ 0 (storedSizes l)) (sym (value-is .1));

@@ -19,11 +19,11 @@ use Rattle.digits.specs.Decimal.{ascii, numberFrom, numberOf}
 use Rattle.translator.specs.declared.fields.Cursor.{Cursor}
 use Rattle.translator.specs.declared.fields.Found.{Found}
 use Rattle.translator.specs.declared.fields.ReadNumber.{ReadNumber}
-use Rattle.translator.specs.Contracts.{capped, digitsFound, numeralFound, settled, numberAfter, signedAfter, coded, judged}
+use Rattle.translator.specs.Contracts.{capped, digitsFound, numeralFound, withNumber, numberAfter, signedAfter, coded, judged}
 use Rattle.translator.specs.Fields.{number, signed, byteAt, wordAt, isDigit, digitsLength, numeralLength, numeralAt, isMinus, minusOne, signedAt, fieldAt, fieldLength, numeralValue, fieldValue}
-use Rattle.translator.specs.Format.{isOpen, cursorRefused, reached, fieldAfter}
+use Rattle.translator.specs.Format.{isOpen, cursorRefused, cursorBy, fieldAfter}
 use Rattle.translator.specs.Sas.{Separator, byteOf}
-use Rattle.translator.proofs.CursorLaws.{rest-none, rest-more, field-reached, field-refused}
+use Rattle.translator.proofs.CursorLaws.{rest-none, rest-more, field-cursorBy, field-refused}
 use Rattle.translator.proofs.NumberLaws.{numeral-within}
 
 -- capping
@@ -163,32 +163,32 @@ numeral-ended separator s at count r e h q =
     (q ∙ ap₂ (byteAt separator) (sym further) (ap (λ (n : ℕ). at + n) e))
 
 -- up to a cursor
-pub settled-open : (c : Cursor) (value : ℕ) → c .outcome .number ≡ 0 → record { cursor = c; value = value } ≡ settled c value
-unfolding settled isOpen
-settled-open c value z = rw (is-done (c .outcome) z) refl
+pub withNumber-open : (c : Cursor) (value : ℕ) → c .outcome .number ≡ 0 → record { cursor = c; value = value } ≡ withNumber c value
+unfolding withNumber isOpen
+withNumber-open c value z = rw (is-done (c .outcome) z) refl
 
-pub settled-refused : (c : Cursor) (value : ℕ) → (c .outcome .number ≡ 0 → ⊥) → record { cursor = c; value = 0 } ≡ settled c value
-unfolding settled isOpen
-settled-refused c value d = rw (is-refused (c .outcome) d) refl
+pub withNumber-refused : (c : Cursor) (value : ℕ) → (c .outcome .number ≡ 0 → ⊥) → record { cursor = c; value = 0 } ≡ withNumber c value
+unfolding withNumber isOpen
+withNumber-refused c value d = rw (is-refused (c .outcome) d) refl
 
-pub number-refused : (s : List ℕ) (c : Cursor) (byte : ℕ) (r : ReadNumber) → (c .outcome .number ≡ 0 → ⊥) → r ≡ settled c 0 → (separator : Separator) → byteOf separator ≡ byte → r ≡ numberAfter separator s c
+pub number-refused : (s : List ℕ) (c : Cursor) (byte : ℕ) (r : ReadNumber) → (c .outcome .number ≡ 0 → ⊥) → r ≡ withNumber c 0 → (separator : Separator) → byteOf separator ≡ byte → r ≡ numberAfter separator s c
 unfolding numberAfter
 number-refused s c byte r d q separator b =
-    q ∙ sym (settled-refused c 0 d) ∙ settled-refused c _ d ∙ ap (λ (x : Cursor). settled x (capped (fieldValue (number separator) (drop (c .at) s)))) (field-refused (number separator) s c d)
+    q ∙ sym (withNumber-refused c 0 d) ∙ withNumber-refused c _ d ∙ ap (λ (x : Cursor). withNumber x (capped (fieldValue (number separator) (drop (c .at) s)))) (field-refused (number separator) s c d)
 
 pub number-open : (s : List ℕ) (c : Cursor) (byte : ℕ) (r : ReadNumber) (found : Found) (o : Outcome) (moved : Cursor) → c .outcome .number ≡ 0 → found ≡ numeralFound (drop (c .at) s) → o ≡ numeralAt byte (drop (c .at) s) (c .at)
-    → moved ≡ reached o (c .at + found .count + 1) → r ≡ settled moved (found .value) → (separator : Separator) → byteOf separator ≡ byte → r ≡ numberAfter separator s c
+    → moved ≡ cursorBy o (c .at + found .count + 1) → r ≡ withNumber moved (found .value) → (separator : Separator) → byteOf separator ≡ byte → r ≡ numberAfter separator s c
 unfolding numberAfter numeralFound fieldAt fieldLength fieldValue
 number-open s c byte r found o moved z f e m q separator b =
     let rest : List ℕ = drop (c .at) s in
     let ends : c .at + found .count + 1 ≡ c .at + (numeralLength rest + 1) = omega (arith, ap (λ (x : Found). x .count) f) in
     let here : o ≡ numeralAt (byteOf separator) rest (c .at) = e ∙ ap (λ (n : ℕ). numeralAt n rest (c .at)) (sym b) in
-    q ∙ ap₂ settled (m ∙ ap₂ reached here ends ∙ field-reached (number separator) s c z) (ap (λ (x : Found). x .value) f)
+    q ∙ ap₂ withNumber (m ∙ ap₂ cursorBy here ends ∙ field-cursorBy (number separator) s c z) (ap (λ (x : Found). x .value) f)
 
-pub signed-refused : (s : List ℕ) (c : Cursor) (byte : ℕ) (r : ReadNumber) → (c .outcome .number ≡ 0 → ⊥) → r ≡ settled c 0 → (separator : Separator) → byteOf separator ≡ byte → r ≡ signedAfter separator s c
+pub signed-refused : (s : List ℕ) (c : Cursor) (byte : ℕ) (r : ReadNumber) → (c .outcome .number ≡ 0 → ⊥) → r ≡ withNumber c 0 → (separator : Separator) → byteOf separator ≡ byte → r ≡ signedAfter separator s c
 unfolding signedAfter
 signed-refused s c byte r d q separator b =
-    q ∙ sym (settled-refused c 0 d) ∙ settled-refused c _ d ∙ ap (λ (x : Cursor). settled x (coded (fieldValue (signed separator) (drop (c .at) s)))) (field-refused (signed separator) s c d)
+    q ∙ sym (withNumber-refused c 0 d) ∙ withNumber-refused c _ d ∙ ap (λ (x : Cursor). withNumber x (coded (fieldValue (signed separator) (drop (c .at) s)))) (field-refused (signed separator) s c d)
 
 pub signed-number : (s : List ℕ) (c : Cursor) (byte b : ℕ) (r : ReadNumber) → b ≡ getD s (c .at) 0 → (b ≡ 45 → ⊥) → ((separator : Separator) → byteOf separator ≡ byte → r ≡ numberAfter separator s c)
     → (separator : Separator) → byteOf separator ≡ byte → r ≡ signedAfter separator s c
@@ -197,16 +197,16 @@ signed-number s c byte b r e d q separator w =
     rw (ne-eqb (getD (drop (c .at) s) 0 0) 45 (λ z. d (e ∙ sym (first-byte s (c .at)) ∙ z))) (q separator w)
 
 pub signed-minus : (s : List ℕ) (c : Cursor) (byte b : ℕ) (r : ReadNumber) (o : Outcome) (moved : Cursor) → c .outcome .number ≡ 0 → b ≡ getD s (c .at) 0 → b ≡ 45
-    → o ≡ wordAt (45 ∷ 49 ∷ byte ∷ []) (drop (c .at) s) (c .at) → moved ≡ reached o (c .at + 3) → r ≡ settled moved 1048577
+    → o ≡ wordAt (45 ∷ 49 ∷ byte ∷ []) (drop (c .at) s) (c .at) → moved ≡ cursorBy o (c .at + 3) → r ≡ withNumber moved 1048577
     → (separator : Separator) → byteOf separator ≡ byte → r ≡ signedAfter separator s c
 unfolding signedAfter fieldAt fieldLength fieldValue signedAt isMinus minusOne ascii
 signed-minus s c byte b r o moved z e m w q t separator x =
     let first : eqb (getD (drop (c .at) s) 0 0) 45 ≡ true = eq-eqb (getD (drop (c .at) s) 0 0) 45 (first-byte s (c .at) ∙ sym e ∙ m) in
     t
-    ∙ ap₂ settled
-    (q ∙ ap₂ reached (w ∙ ap (λ (n : ℕ). wordAt (45 ∷ 49 ∷ n ∷ []) (drop (c .at) s) (c .at)) (sym x) ∙ sym (ap (λ (t : Bool). cond t (wordAt (45 ∷ 49 ∷ byteOf separator ∷ []) (drop (c .at) s) (c .at)) (numeralAt (byteOf separator) (drop (c .at) s) (c .at))) first))
+    ∙ ap₂ withNumber
+    (q ∙ ap₂ cursorBy (w ∙ ap (λ (n : ℕ). wordAt (45 ∷ 49 ∷ n ∷ []) (drop (c .at) s) (c .at)) (sym x) ∙ sym (ap (λ (t : Bool). cond t (wordAt (45 ∷ 49 ∷ byteOf separator ∷ []) (drop (c .at) s) (c .at)) (numeralAt (byteOf separator) (drop (c .at) s) (c .at))) first))
     (sym (ap (λ (t : Bool). c .at + cond t 3 (numeralLength (drop (c .at) s) + 1)) first))
-    ∙ field-reached (signed separator) s c z)
+    ∙ field-cursorBy (signed separator) s c z)
     (sym (ap (λ (t : Bool). coded (cond t none (some (numeralValue (drop (c .at) s))))) first))
 
 -- a test

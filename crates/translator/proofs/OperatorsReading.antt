@@ -8,7 +8,7 @@ use Rattle.files.specs.Bytes.{placed}
 use Rattle.files.specs.Rows.{filledRows}
 use Rattle.translator.specs.declared.fields.Cursor.{Cursor}
 use Rattle.translator.specs.OperatorContracts.{costBy, conditionsOf, effectsOf, OperatorRead, OperatorsRead}
-use Rattle.translator.specs.Format.{repeat, isOpen, after, valueAfter}
+use Rattle.translator.specs.Format.{repeat, isOpen, cursorAfter, valueAfter}
 use Rattle.translator.specs.Sas.{Operator}
 use Rattle.translator.specs.Text.{each, operator}
 use Rattle.translator.proofs.ReadingLaws.{open-before}
@@ -17,19 +17,19 @@ use Rattle.translator.proofs.RepeatReading.{each-more, each-value}
 module _ (s : List ℕ) (c : Cursor) (count : ℕ) (sizes : List ℕ) (metric : ℕ) (costs₀ conditions₀ effects₀ : List ℕ) where
   -- what is left from action a on
   pub record OperatorsLeft (here : Cursor) (a : ℕ) (costs conditions effects : List ℕ) : Type 0 where
-    pub cursor : after (each (operator sizes) (count - a)) s here ≡ after (each (operator sizes) count) s c
-    pub costsRest : isOpen (after (each (operator sizes) count) s c) ≡ true
+    pub cursor : cursorAfter (each (operator sizes) (count - a)) s here ≡ cursorAfter (each (operator sizes) count) s c
+    pub costsRest : isOpen (cursorAfter (each (operator sizes) count) s c) ≡ true
         → placed costs a (map (λ o. costBy metric (o .cost)) (valueAfter (each (operator sizes) (count - a)) s here)) ≡ placed costs₀ 0 (map (λ o. costBy metric (o .cost)) (valueAfter (each (operator sizes) count) s c))
-    pub conditionsRest : isOpen (after (each (operator sizes) count) s c) ≡ true
+    pub conditionsRest : isOpen (cursorAfter (each (operator sizes) count) s c) ≡ true
         → filledRows conditions (64 * a) (map conditionsOf (valueAfter (each (operator sizes) (count - a)) s here)) ≡ filledRows conditions₀ 0 (map conditionsOf (valueAfter (each (operator sizes) count) s c))
-    pub effectsRest : isOpen (after (each (operator sizes) count) s c) ≡ true
+    pub effectsRest : isOpen (cursorAfter (each (operator sizes) count) s c) ≡ true
         → filledRows effects (64 * a) (map effectsOf (valueAfter (each (operator sizes) (count - a)) s here)) ≡ filledRows effects₀ 0 (map effectsOf (valueAfter (each (operator sizes) count) s c))
 
   pub operators-start : OperatorsLeft c 0 costs₀ conditions₀ effects₀
   operators-start =
       let all-left : count - 0 ≡ count = omega arith in
       record {
-        cursor = ap (λ (n : ℕ). after (each (operator sizes) n) s c) all-left;
+        cursor = ap (λ (n : ℕ). cursorAfter (each (operator sizes) n) s c) all-left;
         costsRest = λ o. ap (λ (n : ℕ). placed costs₀ 0 (map (λ o. costBy metric (o .cost)) (valueAfter (each (operator sizes) n) s c))) all-left;
         conditionsRest = λ o. ap (λ (n : ℕ). filledRows conditions₀ (64 * 0) (map conditionsOf (valueAfter (each (operator sizes) n) s c))) all-left;
         effectsRest = λ o. ap (λ (n : ℕ). filledRows effects₀ (64 * 0) (map effectsOf (valueAfter (each (operator sizes) n) s c))) all-left;
@@ -43,13 +43,13 @@ module _ (s : List ℕ) (c : Cursor) (count : ℕ) (sizes : List ℕ) (metric : 
         let n : ℕ = count - (a + 1) in
         let more : count - a ≡ suc n = omega arith in
         let o : Operator = valueAfter (operator sizes) s here in
-        let moved : after (each (operator sizes) n) s next ≡ after (each (operator sizes) count) s c =
-        ap (after (each (operator sizes) n) s) (one .cursor) ∙ sym (each-more (operator sizes) s n here) ∙ sym (ap (λ (k : ℕ). after (each (operator sizes) k) s here) more) ∙ inv .cursor in
+        let moved : cursorAfter (each (operator sizes) n) s next ≡ cursorAfter (each (operator sizes) count) s c =
+        ap (cursorAfter (each (operator sizes) n) s) (one .cursor) ∙ sym (each-more (operator sizes) s n here) ∙ sym (ap (λ (k : ℕ). cursorAfter (each (operator sizes) k) s here) more) ∙ inv .cursor in
         let rest : List Operator = valueAfter (each (operator sizes) n) s next in
         let others : valueAfter (each (operator sizes) (count - a)) s here ≡ o ∷ rest =
         ap (λ (k : ℕ). valueAfter (each (operator sizes) k) s here) more ∙ each-value (operator sizes) s n here
         ∙ sym (ap (λ (x : Cursor). o ∷ valueAfter (each (operator sizes) n) s x) (one .cursor)) in
-        let open′ : isOpen (after (each (operator sizes) count) s c) ≡ true → isOpen next ≡ true = λ q. open-before (each (operator sizes) n) s next (ap isOpen moved ∙ q) in
+        let open′ : isOpen (cursorAfter (each (operator sizes) count) s c) ≡ true → isOpen next ≡ true = λ q. open-before (each (operator sizes) n) s next (ap isOpen moved ∙ q) in
         let further : 64 * (a + 1) ≡ 64 * a + 64 = omega arith in
         record {
           cursor = moved;
@@ -68,10 +68,10 @@ module _ (s : List ℕ) (c : Cursor) (count : ℕ) (sizes : List ℕ) (metric : 
         }
 
     pub operators-end : count ≤ a → OperatorsRead s c count sizes metric costs₀ conditions₀ effects₀ here costs conditions effects
-    unfolding each repeat after valueAfter placed filledRows
+    unfolding each repeat cursorAfter valueAfter placed filledRows
     operators-end h =
         let none-left : count - a ≡ 0 = omega arith in
-        let moved : here ≡ after (each (operator sizes) count) s c = sym (ap (λ (n : ℕ). after (each (operator sizes) n) s here) none-left) ∙ inv .cursor in
+        let moved : here ≡ cursorAfter (each (operator sizes) count) s c = sym (ap (λ (n : ℕ). cursorAfter (each (operator sizes) n) s here) none-left) ∙ inv .cursor in
         let empty : valueAfter (each (operator sizes) (count - a)) s here ≡ [] = ap (λ (n : ℕ). valueAfter (each (operator sizes) n) s here) none-left in
         record {
           cursor = moved;

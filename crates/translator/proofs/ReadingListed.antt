@@ -14,7 +14,7 @@ use Rattle.files.proofs.Listed.{listed-done}
 use Rattle.files.proofs.Logic.{split}
 use Rattle.translator.specs.declared.fields.Cursor.{Cursor}
 use Rattle.translator.specs.Fields.{Field, Value}
-use Rattle.translator.specs.Format.{Fault, unsupported, givenTwice, outsideLimits, outOfRange, faultNumber, Format, gives, field, cursorAt, isOpen, fieldAfter, stepAfter, after}
+use Rattle.translator.specs.Format.{Fault, unsupported, givenTwice, outsideLimits, outOfRange, faultNumber, Format, gives, field, cursorAt, isOpen, fieldAfter, stepAfter, cursorAfter}
 use Rattle.translator.specs.Translate.{textRefusals}
 use Rattle.translator.proofs.Written.{written, FieldRight}
 use Rattle.translator.proofs.ReadingLaws.{after-refused}
@@ -38,13 +38,13 @@ cursor-open at = refl
 
 -- an open cursor is read on from its offset
 field-open : {A : Type 0} (f : Field) (fault : Value f → Option Fault) (next : Value f → Format A) (s : List ℕ) (c : Cursor)
-    → isOpen c ≡ true → after (field f fault next) s c ≡ after (field f fault next) s (cursorAt (c .at))
-unfolding after stepAfter fieldAfter
+    → isOpen c ≡ true → cursorAfter (field f fault next) s c ≡ cursorAfter (field f fault next) s (cursorAt (c .at))
+unfolding cursorAfter stepAfter fieldAfter
 field-open f fault next s c e = rw (e, cursor-open (c .at)) refl
 
 module _ (fields : (f : Field) → FieldRight f) where
-  within-from : {A : Type 0} (f : Format A) (s : List ℕ) (at : ℕ) → at ≤ length s → after f s (cursorAt at) .at ≤ length s
-  unfolding after
+  within-from : {A : Type 0} (f : Format A) (s : List ℕ) (at : ℕ) → at ≤ length s → cursorAfter f s (cursorAt at) .at ≤ length s
+  unfolding cursorAfter
   within-from (gives a) s at h = h
   within-from (field f fault next) s at h =
       field-cases fields f fault s at
@@ -55,16 +55,16 @@ module _ (fields : (f : Field) → FieldRight f) where
       (λ v x text fits q. omega (arith, ap (λ (c : Cursor). c .at) (after-fault fields f fault next s at v (drop (at + length (written f v)) s) x text fits q)))
       (λ k e u. omega (arith, ap (λ (c : Cursor). c .at) (after-stopped f fault next s at (at + k) e)))
 
-  pub after-within : {A : Type 0} (f : Format A) (s : List ℕ) (c : Cursor) → c .at ≤ length s → after f s c .at ≤ length s
-  unfolding after
+  pub after-within : {A : Type 0} (f : Format A) (s : List ℕ) (c : Cursor) → c .at ≤ length s → cursorAfter f s c .at ≤ length s
+  unfolding cursorAfter
   after-within (gives a) s c h = h
   after-within (field f fault next) s c h =
       split (isOpen c)
       (λ e. omega (arith, within-from (field f fault next) s (c .at) h, ap (λ (d : Cursor). d .at) (field-open f fault next s c e)))
       (λ e. omega (arith, ap (λ (d : Cursor). d .at) (after-refused (field f fault next) s c e)))
 
-  listed-from : {A : Type 0} (f : Format A) (s : List ℕ) (at : ℕ) → at ≤ length s → listed (textRefusals s) (after f s (cursorAt at) .outcome) ≡ true
-  unfolding after
+  listed-from : {A : Type 0} (f : Format A) (s : List ℕ) (at : ℕ) → at ≤ length s → listed (textRefusals s) (cursorAfter f s (cursorAt at) .outcome) ≡ true
+  unfolding cursorAfter
   listed-from (gives a) s at h = listed-done (textRefusals s)
   listed-from (field f fault next) s at h =
       field-cases fields f fault s at
@@ -80,7 +80,7 @@ module _ (fields : (f : Field) → FieldRight f) where
       ∙ stop-listed s (at + k) (omega (arith, u .within, length-drop at s)))
 
   pub after-listed : {A : Type 0} (f : Format A) (s : List ℕ) (c : Cursor) → c .outcome ≡ done → c .at ≤ length s
-      → listed (textRefusals s) (after f s c .outcome) ≡ true
+      → listed (textRefusals s) (cursorAfter f s c .outcome) ≡ true
   after-listed f s c e h =
       let from : c ≡ cursorAt (c .at) = λ i. record { outcome = e i; at = c .at } in
-      ap (λ (d : Cursor). listed (textRefusals s) (after f s d .outcome)) from ∙ listed-from f s (c .at) h
+      ap (λ (d : Cursor). listed (textRefusals s) (cursorAfter f s d .outcome)) from ∙ listed-from f s (c .at) h

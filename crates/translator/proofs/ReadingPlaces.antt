@@ -11,7 +11,7 @@ use Rattle.files.specs.declared.Outcome.{Outcome}
 use Rattle.files.specs.Outcome.{refusal}
 use Rattle.translator.specs.declared.fields.Cursor.{Cursor}
 use Rattle.translator.specs.Fields.{Field, word, name, flag, number, signed, Value, fieldValue}
-use Rattle.translator.specs.Format.{Fault, Format, gives, field, cursorAt, after}
+use Rattle.translator.specs.Format.{Fault, Format, gives, field, cursorAt, cursorAfter}
 use Rattle.translator.specs.Sas.{isName}
 use Rattle.translator.proofs.Written.{written, writable, Unfinished, FieldRight}
 use Rattle.translator.proofs.Traces.{Trace, textOf}
@@ -112,9 +112,9 @@ module _ (fields : (f : Field) → FieldRight f) where
             agree;
       }
 
-  pub unfinished : {A : Type 0} (f : Format A) (s : List ℕ) (at place : ℕ) → after f s (cursorAt at) .outcome ≡ refusal 31 place
+  pub unfinished : {A : Type 0} (f : Format A) (s : List ℕ) (at place : ℕ) → cursorAfter f s (cursorAt at) .outcome ≡ refusal 31 place
       → (k : ℕ) × (place ≡ at + k) × Begun f (drop at s) k
-  unfolding after
+  unfolding cursorAfter
   unfinished (gives a) s at place e = absurd (let z : _≡_ {A = ℕ} 0 31 = ap (λ (o : Outcome). o .number) e in omega arith)
   unfinished (field f fault next) s at place e =
       field-cases fields f fault s at

@@ -12,7 +12,7 @@ use Rattle.files.specs.Outcome.{done, refusal, isDone}
 use Rattle.files.proofs.Logic.{split-option}
 use Rattle.translator.specs.declared.fields.Cursor.{Cursor}
 use Rattle.translator.specs.Fields.{Field, Value, fieldAt, fieldLength, fieldValue}
-use Rattle.translator.specs.Format.{Fault, unsupported, givenTwice, outsideLimits, outOfRange, faultNumber, Format, field, cursorAt, cursorRefused, isOpen, reached, fieldAfter, faultAfter, stepAfter, after, valueAfter}
+use Rattle.translator.specs.Format.{Fault, unsupported, givenTwice, outsideLimits, outOfRange, faultNumber, Format, field, cursorAt, cursorRefused, isOpen, cursorBy, fieldAfter, faultAfter, stepAfter, cursorAfter, valueAfter}
 use Rattle.translator.proofs.Written.{written, writable, Unfinished, FieldRight}
 use Rattle.translator.proofs.ReadingLaws.{fault-refused, after-refused}
 
@@ -21,9 +21,9 @@ pub drop-behind : (at : ℕ) (s piece rest : List ℕ) → drop at s ≡ piece +
 drop-behind at s piece rest e = sym (drop-drop (length piece) at s) ∙ ap (drop (length piece)) e ∙ drop-append-seam piece rest
 
 -- the outcome of a field
-field-goes : (f : Field) (s : List ℕ) (at : ℕ) (o : Outcome) → fieldAt f (drop at s) at ≡ o → fieldAfter f s (cursorAt at) ≡ reached o (at + fieldLength f (drop at s))
+field-goes : (f : Field) (s : List ℕ) (at : ℕ) (o : Outcome) → fieldAt f (drop at s) at ≡ o → fieldAfter f s (cursorAt at) ≡ cursorBy o (at + fieldLength f (drop at s))
 unfolding fieldAfter isOpen isDone
-field-goes f s at o e = ap (λ (x : Outcome). reached x (at + fieldLength f (drop at s))) e
+field-goes f s at o e = ap (λ (x : Outcome). cursorBy x (at + fieldLength f (drop at s))) e
 
 pub fault-closed : (x : Fault) (at : ℕ) → isOpen (cursorRefused (refusal (faultNumber x) at)) ≡ false
 unfolding isOpen isDone
@@ -38,13 +38,13 @@ stop-closed place = refl
 
 -- a field that is unfinished
 pub after-stopped : {A : Type 0} (f : Field) (fault : Value f → Option Fault) (next : Value f → Format A) (s : List ℕ) (at place : ℕ)
-    → fieldAt f (drop at s) at ≡ refusal 31 place → after (field f fault next) s (cursorAt at) ≡ cursorRefused (refusal 31 place)
-unfolding after stepAfter reached isOpen isDone
+    → fieldAt f (drop at s) at ≡ refusal 31 place → cursorAfter (field f fault next) s (cursorAt at) ≡ cursorRefused (refusal 31 place)
+unfolding cursorAfter stepAfter cursorBy isOpen isDone
 after-stopped f fault next s at place e =
     let value : Value f = fieldValue f (drop at s) in
     let stopped : Cursor = cursorRefused (refusal 31 place) in
-    ap (λ (c : Cursor). after (next value) s (faultAfter (fault value) at c)) (field-goes f s at (refusal 31 place) e)
-    ∙ ap (after (next value) s) (fault-refused (fault value) at stopped refl)
+    ap (λ (c : Cursor). cursorAfter (next value) s (faultAfter (fault value) at c)) (field-goes f s at (refusal 31 place) e)
+    ∙ ap (cursorAfter (next value) s) (fault-refused (fault value) at stopped refl)
     ∙ after-refused (next value) s stopped refl
 
 module _ (fields : (f : Field) → FieldRight f) where
@@ -55,7 +55,7 @@ module _ (fields : (f : Field) → FieldRight f) where
   step-written : (f : Field) (fault : Value f → Option Fault) (s : List ℕ) (at : ℕ) (v : Value f) (rest : List ℕ) (o : Option Fault)
       → drop at s ≡ written f v ++ rest → writable f v ≡ true → fault v ≡ o
       → stepAfter f fault s (cursorAt at) ≡ faultAfter o at (cursorAt (at + length (written f v)))
-  unfolding stepAfter reached isDone
+  unfolding stepAfter cursorBy isDone
   step-written f fault s at v rest o e w q =
       ap₂ (λ (x : Option Fault) (c : Cursor). faultAfter x at c)
       (ap fault (value-written f s at v rest e w) ∙ q)
@@ -65,10 +65,10 @@ module _ (fields : (f : Field) → FieldRight f) where
   -- nothing refuses the value
   pub after-fine : {A : Type 0} (f : Field) (fault : Value f → Option Fault) (next : Value f → Format A) (s : List ℕ) (at : ℕ) (v : Value f) (rest : List ℕ)
       → drop at s ≡ written f v ++ rest → writable f v ≡ true → fault v ≡ none
-      → after (field f fault next) s (cursorAt at) ≡ after (next v) s (cursorAt (at + length (written f v)))
-  unfolding after faultAfter
+      → cursorAfter (field f fault next) s (cursorAt at) ≡ cursorAfter (next v) s (cursorAt (at + length (written f v)))
+  unfolding cursorAfter faultAfter
   after-fine f fault next s at v rest e w q =
-      ap₂ (λ (u : Value f) (c : Cursor). after (next u) s c) (value-written f s at v rest e w) (step-written f fault s at v rest none e w q)
+      ap₂ (λ (u : Value f) (c : Cursor). cursorAfter (next u) s c) (value-written f s at v rest e w) (step-written f fault s at v rest none e w q)
 
   pub value-fine : {A : Type 0} (f : Field) (fault : Value f → Option Fault) (next : Value f → Format A) (s : List ℕ) (at : ℕ) (v : Value f) (rest : List ℕ)
       → drop at s ≡ written f v ++ rest → writable f v ≡ true → fault v ≡ none
@@ -80,11 +80,11 @@ module _ (fields : (f : Field) → FieldRight f) where
   -- the value is refused
   pub after-fault : {A : Type 0} (f : Field) (fault : Value f → Option Fault) (next : Value f → Format A) (s : List ℕ) (at : ℕ) (v : Value f) (rest : List ℕ) (x : Fault)
       → drop at s ≡ written f v ++ rest → writable f v ≡ true → fault v ≡ some x
-      → after (field f fault next) s (cursorAt at) ≡ cursorRefused (refusal (faultNumber x) at)
-  unfolding after faultAfter isOpen isDone
+      → cursorAfter (field f fault next) s (cursorAt at) ≡ cursorRefused (refusal (faultNumber x) at)
+  unfolding cursorAfter faultAfter isOpen isDone
   after-fault f fault next s at v rest x e w q =
       let value : Value f = fieldValue f (drop at s) in
-      ap (after (next value) s) (step-written f fault s at v rest (some x) e w q)
+      ap (cursorAfter (next value) s) (step-written f fault s at v rest (some x) e w q)
       ∙ after-refused (next value) s (cursorRefused (refusal (faultNumber x) at)) (fault-closed x at)
 
   -- every field is one of the three

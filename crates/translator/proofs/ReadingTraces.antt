@@ -10,7 +10,7 @@ use lib.ListN.{length, drop, length-append, length-drop}
 use Rattle.files.specs.Outcome.{refusal}
 use Rattle.files.proofs.Logic.{clash, split-option, and-split, and-join}
 use Rattle.translator.specs.Fields.{Field, Value}
-use Rattle.translator.specs.Format.{Fault, unsupported, givenTwice, outsideLimits, outOfRange, faultNumber, Format, gives, field, cursorAt, cursorRefused, isOpen, after, valueAfter}
+use Rattle.translator.specs.Format.{Fault, unsupported, givenTwice, outsideLimits, outOfRange, faultNumber, Format, gives, field, cursorAt, cursorRefused, isOpen, cursorAfter, valueAfter}
 use Rattle.translator.proofs.Written.{written, FieldRight}
 use Rattle.translator.proofs.Traces.{isFine, Trace, textOf, valueOf, passed}
 use Rattle.translator.proofs.ReadingSteps.{drop-behind, fault-closed, stop-closed, after-stopped, after-fine, value-fine, after-fault, field-cases}
@@ -37,8 +37,8 @@ behind-within at s piece rest h e = omega (arith, length-drop at s, ap (λ (l : 
 module _ (fields : (f : Field) → FieldRight f) where
   -- a trace that nothing refuses is read
   pub reads : {A : Type 0} (f : Format A) (t : Trace f) (s rest : List ℕ) (at : ℕ) → drop at s ≡ textOf f t ++ rest → passed f t ≡ true
-      → after f s (cursorAt at) ≡ cursorAt (at + length (textOf f t))
-  unfolding after
+      → cursorAfter f s (cursorAt at) ≡ cursorAt (at + length (textOf f t))
+  unfolding cursorAfter
   reads (gives a) t s rest at e p = ap cursorAt (sym (add-zero at))
   reads (field f fault next) t s rest at e p =
       let v : Value f = t .value in
@@ -61,7 +61,7 @@ module _ (fields : (f : Field) → FieldRight f) where
 
   -- a trace with a fault is refused for that fault
   pub faulty : {A : Type 0} (f : Format A) (t : Trace f) (s rest : List ℕ) (at : ℕ) → drop at s ≡ textOf f t ++ rest → passed f t ≡ false
-      → (x : Fault) × (place : ℕ) × (after f s (cursorAt at) ≡ cursorRefused (refusal (faultNumber x) place))
+      → (x : Fault) × (place : ℕ) × (cursorAfter f s (cursorAt at) ≡ cursorRefused (refusal (faultNumber x) place))
   faulty (gives a) t s rest at e p = clash refl p
   faulty (field f fault next) t s rest at e p =
       let v : Value f = t .value in
@@ -74,18 +74,18 @@ module _ (fields : (f : Field) → FieldRight f) where
       (λ x q. (x, at, after-fault fields f fault next s at v (textOf (next v) (t .rest) ++ rest) x text (t .fits) q))
 
   pub faulty-closed : {A : Type 0} (f : Format A) (t : Trace f) (s rest : List ℕ) (at : ℕ) → drop at s ≡ textOf f t ++ rest → passed f t ≡ false
-      → isOpen (after f s (cursorAt at)) ≡ false
+      → isOpen (cursorAfter f s (cursorAt at)) ≡ false
   faulty-closed f t s rest at e p = let found = faulty f t s rest at e p in ap isOpen (found .2) ∙ fault-closed (found .0) (found .1)
 
   -- what is read is a trace
-  pub back : {A : Type 0} (f : Format A) (s : List ℕ) (at : ℕ) → at ≤ length s → isOpen (after f s (cursorAt at)) ≡ true
+  pub back : {A : Type 0} (f : Format A) (s : List ℕ) (at : ℕ) → at ≤ length s → isOpen (cursorAfter f s (cursorAt at)) ≡ true
       → (t : Trace f)
       × (passed f t ≡ true)
       × (valueOf f t ≡ valueAfter f s (cursorAt at))
       × (drop at s ≡ textOf f t ++ drop (at + length (textOf f t)) s)
-      × (after f s (cursorAt at) ≡ cursorAt (at + length (textOf f t)))
+      × (cursorAfter f s (cursorAt at) ≡ cursorAt (at + length (textOf f t)))
       × (at + length (textOf f t) ≤ length s)
-  unfolding after valueAfter
+  unfolding cursorAfter valueAfter
   back (gives a) s at h o = (tt, refl, refl, ap (λ (n : ℕ). drop n s) (sym (add-zero at)), ap cursorAt (sym (add-zero at)), omega arith)
   back (field f fault next) s at h o =
       field-cases fields f fault s at

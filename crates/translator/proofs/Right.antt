@@ -18,9 +18,9 @@ use Rattle.files.proofs.Guards.{guard-passes, guard-refuses}
 use Rattle.files.proofs.Listed.{listed-done, listed-guard, listed-both}
 use Rattle.files.proofs.Logic.{clash, split, split-le}
 use Rattle.translator.specs.declared.fields.Cursor.{Cursor}
-use Rattle.translator.specs.Format.{outsideLimits, cursorAt, isOpen, after}
+use Rattle.translator.specs.Format.{outsideLimits, cursorAt, isOpen, cursorAfter}
 use Rattle.translator.specs.Right.{States, TextsRight, PlaceRight, PlacesRight}
-use Rattle.translator.specs.Sas.{Sas, printed, named}
+use Rattle.translator.specs.Sas.{Sas, printed, wellNamed}
 use Rattle.translator.specs.Stated.{supported, stated}
 use Rattle.translator.specs.Text.{text, formAt, checkText, sasOf, textTask}
 use Rattle.translator.specs.Translate.{textRefusals}
@@ -35,7 +35,7 @@ use Rattle.translator.proofs.TextPrints.{text-prints}
 
 -- where the reading of a text ends
 abbrev endOf : List ℕ → Cursor
-endOf s = after text s (cursorAt 0)
+endOf s = cursorAfter text s (cursorAt 0)
 
 -- a text within the size is checked for its form
 check-form : (s : List ℕ) → length s ≤ 65536 → checkText s ≡ formAt s
@@ -94,7 +94,7 @@ text-listed s =
     (λ whole. listed-done (textRefusals s))))
 
 -- the trace of what is printed
-trace-text : (x : Sas) (names : named x ≡ true) → textOf text (text-prints .trace x names) ≡ printed x
+trace-text : (x : Sas) (names : wellNamed x ≡ true) → textOf text (text-prints .trace x names) ≡ printed x
 trace-text x names = text-prints .text (text-prints .trace x names) ∙ ap printed (text-prints .value x names)
 
 -- what states something is checked, and read as it

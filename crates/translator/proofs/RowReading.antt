@@ -14,7 +14,7 @@ use Rattle.files.specs.Below.{anyOf}
 use Rattle.files.specs.Rows.{stored}
 use Rattle.translator.specs.declared.fields.Cursor.{Cursor}
 use Rattle.translator.specs.declared.fields.ReadNumber.{ReadNumber}
-use Rattle.translator.specs.Contracts.{capped, settled, numberAfter, judged, numberBy, same}
+use Rattle.translator.specs.Contracts.{capped, withNumber, numberAfter, judged, numberBy, same}
 use Rattle.translator.specs.ListContracts.{isNew, Given, variableOf}
 use Rattle.translator.specs.Fields.{number, fieldValue}
 use Rattle.translator.specs.Format.{givenTwice, outOfRange, unless, isOpen, fieldAfter, faultAfter, stepAfter}
@@ -73,7 +73,7 @@ module _ (s : List ℕ) (c : Cursor) (n : ReadNumber) (is : n ≡ numberAfter bl
 
   pub variable-read : (first second : List ℕ) (base variables : ℕ) (j k l : Cursor) (r : ReadNumber)
       (b d : Bool) → variables ≤ 64 → length sizes ≡ variables → (isOpen c ≡ true → Given first second base given) → b ≡ isNew first base (n .value) → d ≡ isNew second base (n .value)
-      → j ≡ judged (n .cursor) b 33 (c .at) → k ≡ judged j d 33 (c .at) → l ≡ judged k (ltb (n .value) variables) 5 (c .at) → r ≡ settled l (n .value)
+      → j ≡ judged (n .cursor) b 33 (c .at) → k ≡ judged j d 33 (c .at) → l ≡ judged k (ltb (n .value) variables) 5 (c .at) → r ≡ withNumber l (n .value)
       → r ≡ numberBy (variableOf sizes given) same s c
   unfolding stepAfter v
   variable-read first second base variables j k l r b d few count rows x y e f g q =

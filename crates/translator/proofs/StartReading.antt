@@ -11,10 +11,10 @@ use Rattle.files.specs.Bytes.{placed}
 use Rattle.files.proofs.Logic.{clash, split}
 use Rattle.translator.specs.declared.fields.Cursor.{Cursor}
 use Rattle.translator.specs.declared.fields.ReadNumber.{ReadNumber}
-use Rattle.translator.specs.Contracts.{Inside, settled, numberBy, same}
+use Rattle.translator.specs.Contracts.{Inside, withNumber, numberBy, same}
 use Rattle.translator.specs.VariableContracts.{sizeOf, DeclarationsRead, StartsStored, StartsRead}
 use Rattle.translator.specs.ListContracts.{valueBelow}
-use Rattle.translator.specs.Format.{Format, gives, isOpen, after, valueAfter}
+use Rattle.translator.specs.Format.{Format, gives, isOpen, cursorAfter, valueAfter}
 use Rattle.translator.specs.Sas.{Declaration}
 use Rattle.translator.specs.Stated.{sizesOf}
 use Rattle.translator.specs.Text.{each, declaration, start, starts}
@@ -22,43 +22,43 @@ use Rattle.translator.proofs.ReadingLaws.{after-refused, open-before}
 use Rattle.translator.proofs.ListReading.{number-cursor}
 use Rattle.translator.proofs.InsideReading.{number-inside}
 use Rattle.translator.proofs.RepeatReading.{first, first-after, first-value, each-empty, each-first}
-use Rattle.translator.proofs.StepReading.{settled-value}
+use Rattle.translator.proofs.StepReading.{withNumber-value}
 
 -- what is left to be read and stored gives the whole
 pub record Storing {A : Type 0} (cell : A → ℕ) (s : List ℕ) (all : Format (List A)) (from : Cursor) (before : List ℕ) (left : Format (List A)) (here : Cursor) (v : ℕ) (cells : List ℕ) : Type 0 where
-  pub onward : after left s here ≡ after all s from
-  pub stored : isOpen (after all s from) ≡ true
+  pub onward : cursorAfter left s here ≡ cursorAfter all s from
+  pub stored : isOpen (cursorAfter all s from) ≡ true
       → placed cells v (map (λ a. cell a % 256) (valueAfter left s here)) ≡ placed before 0 (map (λ a. cell a % 256) (valueAfter all s from))
 
 module _ {A : Type 0} (cell : A → ℕ) (s : List ℕ) (all : Format (List A)) (from : Cursor) (before : List ℕ) where
   storing-begin : (left : Format (List A)) → left ≡ all → Storing cell s all from before left from 0 before
   storing-begin left e =
       record {
-        onward = ap (λ (x : Format (List A)). after x s from) e;
+        onward = ap (λ (x : Format (List A)). cursorAfter x s from) e;
         stored = λ o. ap (λ (x : Format (List A)). placed before 0 (map (λ a. cell a % 256) (valueAfter x s from))) e;
       }
 
   module _ (left : Format (List A)) (here : Cursor) (v : ℕ) (cells : List ℕ) (inv : Storing cell s all from before left here v cells) where
     storing-next : (f : Format A) (rest : Format (List A)) (one : ReadNumber) → left ≡ first f (λ a. rest) → one ≡ numberBy f cell s here
         → Storing cell s all from before rest (one .cursor) (v + 1) (set cells v (one .value % 256))
-    unfolding numberBy settled placed
+    unfolding numberBy withNumber placed
     storing-next f rest one e q =
-        let moved : one .cursor ≡ after f s here = ap (λ (x : ReadNumber). x .cursor) q in
-        let onward : after rest s (after f s here) ≡ after all s from = sym (first-after f (λ a. rest) s here) ∙ sym (ap (λ (x : Format (List A)). after x s here) e) ∙ inv .onward in
-        let values : valueAfter left s here ≡ valueAfter f s here ∷ valueAfter rest s (after f s here) = ap (λ (x : Format (List A)). valueAfter x s here) e ∙ first-value f (λ a. rest) s here in
+        let moved : one .cursor ≡ cursorAfter f s here = ap (λ (x : ReadNumber). x .cursor) q in
+        let onward : cursorAfter rest s (cursorAfter f s here) ≡ cursorAfter all s from = sym (first-after f (λ a. rest) s here) ∙ sym (ap (λ (x : Format (List A)). cursorAfter x s here) e) ∙ inv .onward in
+        let values : valueAfter left s here ≡ valueAfter f s here ∷ valueAfter rest s (cursorAfter f s here) = ap (λ (x : Format (List A)). valueAfter x s here) e ∙ first-value f (λ a. rest) s here in
         record {
-          onward = ap (after rest s) moved ∙ onward;
+          onward = ap (cursorAfter rest s) moved ∙ onward;
           stored =
               λ o.
-              let value : one .value ≡ cell (valueAfter f s here) = settled-value (after f s here) (cell (valueAfter f s here)) one q (open-before rest s (after f s here) (ap isOpen onward ∙ o)) in
+              let value : one .value ≡ cell (valueAfter f s here) = withNumber-value (cursorAfter f s here) (cell (valueAfter f s here)) one q (open-before rest s (cursorAfter f s here) (ap isOpen onward ∙ o)) in
               ap₂ (λ (x : Cursor) (n : ℕ). placed (set cells v (n % 256)) (v + 1) (map (λ a. cell a % 256) (valueAfter rest s x))) moved value
               ∙ sym (ap (λ (l : List A). placed cells v (map (λ a. cell a % 256) l)) values)
               ∙ inv .stored o;
         }
 
-    storing-cursor : left ≡ gives [] → here ≡ after all s from
-    unfolding after
-    storing-cursor e = sym (ap (λ (x : Format (List A)). after x s here) e) ∙ inv .onward
+    storing-cursor : left ≡ gives [] → here ≡ cursorAfter all s from
+    unfolding cursorAfter
+    storing-cursor e = sym (ap (λ (x : Format (List A)). cursorAfter x s here) e) ∙ inv .onward
 
     storing-cells : left ≡ gives [] → isOpen here ≡ true → cells ≡ placed before 0 (map (λ a. cell a % 256) (valueAfter all s from))
     unfolding valueAfter placed
@@ -105,7 +105,7 @@ starts-first ds d others e = ap starts e
 
 -- a start value is a value below the size
 start-is : (d : Declaration) (size : ℕ) (s : List ℕ) (c : Cursor) (r : ReadNumber) → sizeOf d ≡ size → r ≡ numberBy (valueBelow size) same s c → r ≡ numberBy (start d) (λ v. v .start) s c
-unfolding numberBy start after valueAfter
+unfolding numberBy start cursorAfter valueAfter
 start-is d size s c r e q = q ∙ sym (ap (λ (n : ℕ). numberBy (valueBelow n) same s c) e)
 
 undeclared : Declaration

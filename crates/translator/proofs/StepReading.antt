@@ -12,9 +12,9 @@ use Rattle.files.proofs.Logic.{clash, split, split-le}
 use Rattle.files.specs.Outcome.{refusal}
 use Rattle.translator.specs.declared.fields.Cursor.{Cursor}
 use Rattle.translator.specs.declared.fields.ReadNumber.{ReadNumber}
-use Rattle.translator.specs.Contracts.{capped, coded, settled, numberAfter, signedAfter, judged, numberBy}
+use Rattle.translator.specs.Contracts.{capped, coded, withNumber, numberAfter, signedAfter, judged, numberBy}
 use Rattle.translator.specs.Fields.{Field, Value, number, signed, fieldValue}
-use Rattle.translator.specs.Format.{Fault, faultNumber, unless, gives, field, isOpen, cursorRefused, fieldAfter, faultAfter, stepAfter, after, valueAfter}
+use Rattle.translator.specs.Format.{Fault, faultNumber, unless, gives, field, isOpen, cursorRefused, fieldAfter, faultAfter, stepAfter, cursorAfter, valueAfter}
 use Rattle.translator.specs.Sas.{Separator}
 use Rattle.translator.specs.Stated.{isNone}
 use Rattle.translator.proofs.NumberReading.{capped-small, capped-large, capped-most}
@@ -107,33 +107,33 @@ unless-none false f others e = absurd (some-none f e)
         number (some f) = 1
 
 -- a number that is settled
-module _ (c : Cursor) (n : ℕ) (r : ReadNumber) (is : r ≡ settled c n) where
-  pub settled-cursor : r .cursor ≡ c
-  unfolding settled
-  settled-cursor = ap (λ (x : ReadNumber). x .cursor) is
+module _ (c : Cursor) (n : ℕ) (r : ReadNumber) (is : r ≡ withNumber c n) where
+  pub withNumber-cursor : r .cursor ≡ c
+  unfolding withNumber
+  withNumber-cursor = ap (λ (x : ReadNumber). x .cursor) is
 
-  pub settled-value : isOpen c ≡ true → r .value ≡ n
-  unfolding settled
-  settled-value o = ap (λ (x : ReadNumber). x .value) is ∙ rw o refl
+  pub withNumber-value : isOpen c ≡ true → r .value ≡ n
+  unfolding withNumber
+  withNumber-value o = ap (λ (x : ReadNumber). x .value) is ∙ rw o refl
 
-pub settled-is : (c : Cursor) (n : ℕ) (r : ReadNumber) → r ≡ settled c n → isOpen c ≡ true → r ≡ record { cursor = c; value = n }
-unfolding settled
-settled-is c n r e o = e ∙ rw o refl
+pub withNumber-is : (c : Cursor) (n : ℕ) (r : ReadNumber) → r ≡ withNumber c n → isOpen c ≡ true → r ≡ record { cursor = c; value = n }
+unfolding withNumber
+withNumber-is c n r e o = e ∙ rw o refl
 
-pub settled-same : (c : Cursor) (a b : ℕ) → (isOpen c ≡ true → a ≡ b) → settled c a ≡ settled c b
-unfolding settled
-settled-same c a b h = split (isOpen c) (λ e. rw (e, h e) refl) (λ e. rw e refl)
+pub withNumber-same : (c : Cursor) (a b : ℕ) → (isOpen c ≡ true → a ≡ b) → withNumber c a ≡ withNumber c b
+unfolding withNumber
+withNumber-same c a b h = split (isOpen c) (λ e. rw (e, h e) refl) (λ e. rw e refl)
 
-module _ (f : Field) (s : List ℕ) (c : Cursor) (n : ReadNumber) (v : ℕ) (is : n ≡ settled (fieldAfter f s c) v) where
+module _ (f : Field) (s : List ℕ) (c : Cursor) (n : ReadNumber) (v : ℕ) (is : n ≡ withNumber (fieldAfter f s c) v) where
   pub read-value : isOpen (fieldAfter f s c) ≡ true → n .value ≡ v
-  read-value = settled-value (fieldAfter f s c) v n is
+  read-value = withNumber-value (fieldAfter f s c) v n is
 
   pub read-tested : (x : Fault) (t : Value f → Bool) (b : Bool) (j : Cursor) → (isOpen (fieldAfter f s c) ≡ true → b ≡ t (fieldValue f (drop (c .at) s)))
       → j ≡ judged (n .cursor) b (faultNumber x) (c .at) → j ≡ stepAfter f (λ u. unless (t u) x none) s c
   unfolding stepAfter
   read-tested x t b j h e =
       e
-      ∙ ap (λ (d : Cursor). judged d b (faultNumber x) (c .at)) (settled-cursor (fieldAfter f s c) v n is)
+      ∙ ap (λ (d : Cursor). judged d b (faultNumber x) (c .at)) (withNumber-cursor (fieldAfter f s c) v n is)
       ∙ fault-judged (fieldAfter f s c) b (t (fieldValue f (drop (c .at) s))) x (c .at) h
 
   pub read-tested-twice : (x y : Fault) (t u : Value f → Bool) (b d : Bool) (j k : Cursor)
@@ -153,12 +153,12 @@ module _ (f : Field) (s : List ℕ) (c : Cursor) (n : ReadNumber) (v : ℕ) (is 
 
 -- numbers and signed numbers as they are read
 pub number-is : (separator : Separator) (s : List ℕ) (c : Cursor) (n : ReadNumber) → n ≡ numberAfter separator s c
-    → n ≡ settled (fieldAfter (number separator) s c) (capped (fieldValue (number separator) (drop (c .at) s)))
+    → n ≡ withNumber (fieldAfter (number separator) s c) (capped (fieldValue (number separator) (drop (c .at) s)))
 unfolding numberAfter
 number-is separator s c n e = e
 
 pub signed-is : (separator : Separator) (s : List ℕ) (c : Cursor) (n : ReadNumber) → n ≡ signedAfter separator s c
-    → n ≡ settled (fieldAfter (signed separator) s c) (coded (fieldValue (signed separator) (drop (c .at) s)))
+    → n ≡ withNumber (fieldAfter (signed separator) s c) (coded (fieldValue (signed separator) (drop (c .at) s)))
 unfolding signedAfter
 signed-is separator s c n e = e
 
@@ -167,22 +167,22 @@ none-coded none = refl
 none-coded (some n) = ne-eqb (capped n) 1048577 (λ e. omega (arith, capped-most n))
 
 -- a field whose value no fault refuses, and the number that stands for the value
-module _ (f : Field) (s : List ℕ) (c : Cursor) (n : ReadNumber) (code : Value f → ℕ) (is : n ≡ settled (fieldAfter f s c) (code (fieldValue f (drop (c .at) s)))) where
+module _ (f : Field) (s : List ℕ) (c : Cursor) (n : ReadNumber) (code : Value f → ℕ) (is : n ≡ withNumber (fieldAfter f s c) (code (fieldValue f (drop (c .at) s)))) where
   pub read-fine : (fault : Value f → Option Fault) (g : Value f → ℕ) (j : Cursor) (r : ReadNumber)
       → (fault (fieldValue f (drop (c .at) s)) ≡ none → code (fieldValue f (drop (c .at) s)) ≡ g (fieldValue f (drop (c .at) s)))
-      → j ≡ stepAfter f fault s c → r ≡ settled j (n .value) → r ≡ numberBy (field f fault gives) g s c
-  unfolding numberBy after valueAfter
+      → j ≡ stepAfter f fault s c → r ≡ withNumber j (n .value) → r ≡ numberBy (field f fault gives) g s c
+  unfolding numberBy cursorAfter valueAfter
   read-fine fault g j r k e q =
       let u : Value f = fieldValue f (drop (c .at) s) in
       q
-      ∙ ap (λ (y : Cursor). settled y (n .value)) e
-      ∙ settled-same (stepAfter f fault s c) (n .value) (g u) (λ o. read-value f s c n (code u) is (step-field f fault s c o) ∙ k (step-fine f fault s c o))
+      ∙ ap (λ (y : Cursor). withNumber y (n .value)) e
+      ∙ withNumber-same (stepAfter f fault s c) (n .value) (g u) (λ o. read-value f s c n (code u) is (step-field f fault s c o) ∙ k (step-fine f fault s c o))
 
   -- by a test on it
-  pub read-settled : (x : Fault) (t : Value f → Bool) (g : Value f → ℕ) (b : Bool) (j : Cursor) (r : ReadNumber)
+  pub read-withNumber : (x : Fault) (t : Value f → Bool) (g : Value f → ℕ) (b : Bool) (j : Cursor) (r : ReadNumber)
       → (isOpen (fieldAfter f s c) ≡ true → b ≡ t (fieldValue f (drop (c .at) s)))
       → (t (fieldValue f (drop (c .at) s)) ≡ true → code (fieldValue f (drop (c .at) s)) ≡ g (fieldValue f (drop (c .at) s)))
-      → j ≡ judged (n .cursor) b (faultNumber x) (c .at) → r ≡ settled j (n .value) → r ≡ numberBy (field f (λ u. unless (t u) x none) gives) g s c
-  read-settled x t g b j r h k e q =
+      → j ≡ judged (n .cursor) b (faultNumber x) (c .at) → r ≡ withNumber j (n .value) → r ≡ numberBy (field f (λ u. unless (t u) x none) gives) g s c
+  read-withNumber x t g b j r h k e q =
       let u : Value f = fieldValue f (drop (c .at) s) in
       read-fine (λ u. unless (t u) x none) g j r (λ o. k (unless-none (t u) x none o .0)) (read-tested f s c n (code u) is x t b j h e) q

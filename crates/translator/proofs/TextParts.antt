@@ -9,7 +9,7 @@ use Rattle.digits.specs.Decimal.{ascii}
 use Rattle.translator.specs.declared.fields.Cursor.{Cursor}
 use Rattle.translator.specs.VariableContracts.{groupsAfter}
 use Rattle.translator.specs.Fields.{word, flag, number, fieldValue}
-use Rattle.translator.specs.Format.{field, cursorAt, fieldAfter, faultAfter, stepAfter, after, valueAfter}
+use Rattle.translator.specs.Format.{field, cursorAt, fieldAfter, faultAfter, stepAfter, cursorAfter, valueAfter}
 use Rattle.translator.specs.Parts.{Front, front, axioms, behind}
 use Rattle.translator.specs.Sas.{Declaration, Started, Sas, lineFeed}
 use Rattle.translator.specs.Stated.{sizesOf}
@@ -34,13 +34,13 @@ module _ (s : List ℕ) where
   countIn = valueAfter (count 64) s atCount
 
   unfoldable pub atVariables : Cursor
-  atVariables = after (count 64) s atCount
+  atVariables = cursorAfter (count 64) s atCount
 
   unfoldable pub declarationsIn : List Declaration
   declarationsIn = valueAfter (each declaration countIn) s atVariables
 
   unfoldable pub atGroups : Cursor
-  atGroups = after (each declaration countIn) s atVariables
+  atGroups = cursorAfter (each declaration countIn) s atVariables
 
   unfoldable pub groupsIn : List (List Pair)
   groupsIn = valueAfter (field (number lineFeed) any (λ n. each group n)) s atGroups
@@ -55,24 +55,24 @@ module _ (s : List ℕ) where
   variablesIn = valueAfter (starts declarationsIn) s atStarts
 
   unfoldable pub behindStarts : Cursor
-  behindStarts = after (starts declarationsIn) s atStarts
+  behindStarts = cursorAfter (starts declarationsIn) s atStarts
 
-  pub front-after : after front s (cursorAt 0) ≡ behindStarts
-  unfolding front says after stepAfter faultAfter groupsAfter atMetric behindMetric atCount countIn atVariables declarationsIn atGroups behindGroups atStarts behindStarts
+  pub front-after : cursorAfter front s (cursorAt 0) ≡ behindStarts
+  unfolding front says cursorAfter stepAfter faultAfter groupsAfter atMetric behindMetric atCount countIn atVariables declarationsIn atGroups behindGroups atStarts behindStarts
   front-after = after-bind (count 64) _ s atCount ∙ after-bind (each declaration countIn) _ s atVariables ∙ after-bind (each group _) _ s _ ∙ after-bind (starts declarationsIn) _ s atStarts
 
   pub front-value : valueAfter front s (cursorAt 0) ≡ record { metric = metricIn; declarations = declarationsIn; groups = groupsIn; variables = variablesIn }
-  unfolding front says after valueAfter stepAfter faultAfter groupsAfter atMetric metricIn behindMetric atCount countIn atVariables declarationsIn atGroups groupsIn behindGroups atStarts variablesIn
+  unfolding front says cursorAfter valueAfter stepAfter faultAfter groupsAfter atMetric metricIn behindMetric atCount countIn atVariables declarationsIn atGroups groupsIn behindGroups atStarts variablesIn
   front-value = value-bind (count 64) _ s atCount ∙ value-bind (each declaration countIn) _ s atVariables ∙ value-bind (each group _) _ s _ ∙ value-bind (starts declarationsIn) _ s atStarts
 
-  pub text-after : after text s (cursorAt 0) ≡ after (behind (sizesOf (valueAfter front s (cursorAt 0) .declarations)) (valueAfter front s (cursorAt 0))) s (after front s (cursorAt 0))
-  unfolding text behind axioms says after valueAfter stepAfter faultAfter groupsAfter atMetric metricIn behindMetric atCount countIn atVariables declarationsIn atGroups groupsIn behindGroups atStarts variablesIn behindStarts
+  pub text-after : cursorAfter text s (cursorAt 0) ≡ cursorAfter (behind (sizesOf (valueAfter front s (cursorAt 0) .declarations)) (valueAfter front s (cursorAt 0))) s (cursorAfter front s (cursorAt 0))
+  unfolding text behind axioms says cursorAfter valueAfter stepAfter faultAfter groupsAfter atMetric metricIn behindMetric atCount countIn atVariables declarationsIn atGroups groupsIn behindGroups atStarts variablesIn behindStarts
   text-after =
       after-bind (count 64) _ s atCount ∙ after-bind (each declaration countIn) _ s atVariables ∙ after-bind (each group _) _ s _ ∙ after-bind (starts declarationsIn) _ s atStarts
-      ∙ sym (ap₂ (λ (x : Front) (y : Cursor). after (behind (sizesOf (x .declarations)) x) s y) front-value front-after)
+      ∙ sym (ap₂ (λ (x : Front) (y : Cursor). cursorAfter (behind (sizesOf (x .declarations)) x) s y) front-value front-after)
 
-  pub text-value : sasOf s ≡ valueAfter (behind (sizesOf (valueAfter front s (cursorAt 0) .declarations)) (valueAfter front s (cursorAt 0))) s (after front s (cursorAt 0))
-  unfolding sasOf text behind axioms says after valueAfter stepAfter faultAfter groupsAfter atMetric metricIn behindMetric atCount countIn atVariables declarationsIn atGroups groupsIn behindGroups atStarts variablesIn behindStarts
+  pub text-value : sasOf s ≡ valueAfter (behind (sizesOf (valueAfter front s (cursorAt 0) .declarations)) (valueAfter front s (cursorAt 0))) s (cursorAfter front s (cursorAt 0))
+  unfolding sasOf text behind axioms says cursorAfter valueAfter stepAfter faultAfter groupsAfter atMetric metricIn behindMetric atCount countIn atVariables declarationsIn atGroups groupsIn behindGroups atStarts variablesIn behindStarts
   text-value =
       value-bind (count 64) _ s atCount ∙ value-bind (each declaration countIn) _ s atVariables ∙ value-bind (each group _) _ s _ ∙ value-bind (starts declarationsIn) _ s atStarts
       ∙ sym (ap₂ (λ (x : Front) (y : Cursor). valueAfter (behind (sizesOf (x .declarations)) x) s y) front-value front-after)
@@ -83,7 +83,7 @@ unfolding starts start valueAfter
 starts-declared [] s c = refl
 starts-declared (d ∷ ds) s c =
     ap (map (λ v. v .declared)) (first-value (start d) (λ v. starts ds) s c)
-    ∙ ap (λ (l : List Declaration). d ∷ l) (starts-declared ds s (after (start d) s c))
+    ∙ ap (λ (l : List Declaration). d ∷ l) (starts-declared ds s (cursorAfter (start d) s c))
 
 pub front-declared : (s : List ℕ) → map (λ v. v .declared) (valueAfter front s (cursorAt 0) .variables) ≡ valueAfter front s (cursorAt 0) .declarations
 unfolding variablesIn
@@ -94,7 +94,7 @@ front-declared s =
 
 -- the first part as the second gives it
 pub behind-front : (sizes : List ℕ) (x : Front) (s : List ℕ) (c : Cursor) → (valueAfter (behind sizes x) s c .metric ≡ x .metric) × (valueAfter (behind sizes x) s c .variables ≡ x .variables)
-unfolding behind axioms says after valueAfter stepAfter faultAfter
+unfolding behind axioms says cursorAfter valueAfter stepAfter faultAfter
 behind-front sizes x s c =
     let whole = value-bind (count 64) _ s _ ∙ value-bind (conditions sizes [] _) _ s _ ∙ value-bind (count 512) _ s _ ∙ value-bind (each (operator sizes) _) _ s _ ∙ value-bind (each rule _) _ s _ in
     (ap (λ (y : Sas). y .metric) whole, ap (λ (y : Sas). y .variables) whole)

@@ -8,7 +8,7 @@ use lib.ListN.{length, length-map}
 use Rattle.files.specs.Below.{allOf}
 use Rattle.files.proofs.Logic.{and-split, and-join}
 use Rattle.translator.specs.Format.{unsupported, bind}
-use Rattle.translator.specs.Sas.{Declaration, Started, lineFeed, joined, counted, printedDeclaration, printedVariable, printedGroup, printedOperator, printedRule, printed, isName, namedDeclaration, named}
+use Rattle.translator.specs.Sas.{Declaration, Started, lineFeed, joined, counted, printedDeclaration, printedVariable, printedGroup, printedOperator, printedRule, printed, isName, namedDeclaration, wellNamed}
 use Rattle.translator.specs.Stated.{sizesOf, declaredIn, supportedDeclaration, supportedOperator, supported}
 use Rattle.translator.specs.Text.{says, each, declaration, group, operator, rule, text}
 use Rattle.translator.proofs.Written.{written, writable}
@@ -47,8 +47,8 @@ declared-printed (v ∷ vs) = ap (λ (s : List ℕ). printedDeclaration (v .decl
 declared-length : (vs : List Started) → length (declared vs) ≡ length vs
 declared-length vs = length-map vs (λ v. v .declared)
 
-pub text-prints : Prints text (λ x. named x ≡ true) printed supported
-unfolding text says bind written writable printed counted named supported
+pub text-prints : Prints text (λ x. wellNamed x ≡ true) printed supported
+unfolding text says bind written writable printed counted wellNamed supported
 text-prints =
     prints
     (field-always (λ w e.

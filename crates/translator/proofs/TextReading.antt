@@ -20,7 +20,7 @@ use Rattle.translator.specs.declared.text.Begun.{Begun}
 use Rattle.translator.specs.declared.text.Finished.{Finished}
 use Rattle.translator.specs.VariableContracts.{sizeOf, storedSizes, storedStarts}
 use Rattle.translator.specs.OperatorContracts.{costBy, conditionsOf, effectsOf}
-use Rattle.translator.specs.Format.{cursorAt, isOpen, after, valueAfter}
+use Rattle.translator.specs.Format.{cursorAt, isOpen, cursorAfter, valueAfter}
 use Rattle.translator.specs.Parts.{Front, front, behind, closedAt, FrontRead, BodyRead, TextRead}
 use Rattle.translator.specs.Sas.{Started, Sas}
 use Rattle.translator.specs.Stated.{sizesOf}
@@ -66,13 +66,13 @@ module _ (s : List ℕ) (h : Begun) (r : Finished) (sizes₀ sizes starts₀ sta
   sz : List ℕ
   sz = take (h .variables) sizes
 
-  parts-after : after (behind sz x) s (h .cursor) ≡ after text s (cursorAt 0)
+  parts-after : cursorAfter (behind sz x) s (h .cursor) ≡ cursorAfter text s (cursorAt 0)
   unfolding x sz
   parts-after =
       split (isOpen (h .cursor))
-      (λ o. ap (λ (l : List ℕ). after (behind l x) s (h .cursor)) (sym (first .sizesHeld o)))
+      (λ o. ap (λ (l : List ℕ). cursorAfter (behind l x) s (h .cursor)) (sym (first .sizesHeld o)))
       (λ o. after-refused (behind sz x) s (h .cursor) o ∙ sym (after-refused (behind (sizesOf (x .declarations)) x) s (h .cursor) o))
-      ∙ ap (after (behind (sizesOf (x .declarations)) x) s) (first .cursor)
+      ∙ ap (cursorAfter (behind (sizesOf (x .declarations)) x) s) (first .cursor)
       ∙ sym (text-after s)
 
   outcome-is : r .outcome ≡ checkText s

@@ -10,18 +10,18 @@ use lib.ListN.{drop}
 use Rattle.digits.specs.Decimal.{ascii}
 use Rattle.translator.specs.declared.fields.Cursor.{Cursor}
 use Rattle.translator.specs.declared.fields.ReadNumber.{ReadNumber}
-use Rattle.translator.specs.Contracts.{coded, settled, signedAfter, judged, numberBy, same}
+use Rattle.translator.specs.Contracts.{coded, withNumber, signedAfter, judged, numberBy, same}
 use Rattle.translator.specs.VariableContracts.{sizeOf, layerAfter}
 use Rattle.translator.specs.Fields.{word, name, signed, fieldValue}
-use Rattle.translator.specs.Format.{unsupported, gives, field, isOpen, fieldAfter, faultAfter, stepAfter, after, valueAfter}
+use Rattle.translator.specs.Format.{unsupported, gives, field, isOpen, fieldAfter, faultAfter, stepAfter, cursorAfter, valueAfter}
 use Rattle.translator.specs.Sas.{lineFeed}
 use Rattle.translator.specs.Stated.{isNone}
 use Rattle.translator.specs.Text.{any, says, size, nameLines, declaration}
 use Rattle.translator.proofs.ReadingLaws.{after-bind, value-bind, open-before}
 use Rattle.translator.proofs.CountReading.{size-most}
-use Rattle.translator.proofs.StepReading.{settled-value, settled-same, signed-is, none-coded, read-value, read-tested}
+use Rattle.translator.proofs.StepReading.{withNumber-value, withNumber-same, signed-is, none-coded, read-value, read-tested}
 use Rattle.translator.proofs.RepeatReading.{each-length, each-next, each-end}
-use Rattle.translator.proofs.InsideReading.{step-after, field-before, after-settled}
+use Rattle.translator.proofs.InsideReading.{step-after, field-before, after-withNumber}
 
 pub layer-read : (s : List ℕ) (c : Cursor) (n : ReadNumber) (j : Cursor) → n ≡ signedAfter lineFeed s c → j ≡ judged (n .cursor) (eqb (n .value) 1048577) 32 (c .at) → j ≡ layerAfter s c
 unfolding layerAfter
@@ -31,11 +31,11 @@ layer-read s c n j is e =
     (λ o. ap (λ (x : ℕ). eqb x 1048577) (read-value (signed lineFeed) s c n (coded v) (signed-is lineFeed s c n is) o) ∙ none-coded v) e
 
 -- the names of values
-pub name-next : (s : List ℕ) (left : ℕ) (here next whole : Cursor) → after (nameLines left) s here ≡ whole → 0 < left → next ≡ fieldAfter name s here → after (nameLines (left - 1)) s next ≡ whole
+pub name-next : (s : List ℕ) (left : ℕ) (here next whole : Cursor) → cursorAfter (nameLines left) s here ≡ whole → 0 < left → next ≡ fieldAfter name s here → cursorAfter (nameLines (left - 1)) s next ≡ whole
 unfolding nameLines
 name-next s left here next whole e h q = each-next (field name any gives) s left here whole e next h (q ∙ step-after name s here)
 
-pub names-end : (s : List ℕ) (left : ℕ) (here whole : Cursor) → after (nameLines left) s here ≡ whole → left ≤ 0 → here ≡ whole
+pub names-end : (s : List ℕ) (left : ℕ) (here whole : Cursor) → cursorAfter (nameLines left) s here ≡ whole → left ≤ 0 → here ≡ whole
 unfolding nameLines
 names-end s left here whole e h = each-end (field name any gives) s left here whole e h
 
@@ -48,38 +48,38 @@ module _ (s : List ℕ) (c : Cursor) where
   n = valueAfter size s front
 
   listed : Cursor
-  listed = after (nameLines n) s (after size s front)
+  listed = cursorAfter (nameLines n) s (cursorAfter size s front)
 
-  declaration-after : fieldAfter (word (ascii "end_variable\n")) s listed ≡ after declaration s c
-  unfolding declaration says nameLines after stepAfter faultAfter layerAfter front n listed
-  declaration-after = sym (after-bind size _ s front ∙ after-bind (nameLines n) _ s (after size s front))
+  declaration-after : fieldAfter (word (ascii "end_variable\n")) s listed ≡ cursorAfter declaration s c
+  unfolding declaration says nameLines cursorAfter stepAfter faultAfter layerAfter front n listed
+  declaration-after = sym (after-bind size _ s front ∙ after-bind (nameLines n) _ s (cursorAfter size s front))
 
   declaration-many : n ≡ sizeOf (valueAfter declaration s c)
-  unfolding declaration says nameLines after valueAfter stepAfter faultAfter layerAfter front n listed
-  declaration-many = sym (ap sizeOf (value-bind size _ s front ∙ value-bind (nameLines n) _ s (after size s front)) ∙ each-length (field name any gives) s n (after size s front))
+  unfolding declaration says nameLines cursorAfter valueAfter stepAfter faultAfter layerAfter front n listed
+  declaration-many = sym (ap sizeOf (value-bind size _ s front ∙ value-bind (nameLines n) _ s (cursorAfter size s front)) ∙ each-length (field name any gives) s n (cursorAfter size s front))
 
-  size-open : isOpen (fieldAfter (word (ascii "end_variable\n")) s listed) ≡ true → isOpen (after size s front) ≡ true
+  size-open : isOpen (fieldAfter (word (ascii "end_variable\n")) s listed) ≡ true → isOpen (cursorAfter size s front) ≡ true
   unfolding listed
-  size-open o = open-before (nameLines n) s (after size s front) (field-before (word (ascii "end_variable\n")) s (after (nameLines n) s (after size s front)) o)
+  size-open o = open-before (nameLines n) s (cursorAfter size s front) (field-before (word (ascii "end_variable\n")) s (cursorAfter (nameLines n) s (cursorAfter size s front)) o)
 
   pub declaration-read : (begun named layered : Cursor) (sized : ReadNumber) (values ended : Cursor) (r : ReadNumber)
       → begun ≡ fieldAfter (word (ascii "begin_variable\n")) s c
       → named ≡ fieldAfter name s begun
       → layered ≡ layerAfter s named
       → sized ≡ numberBy size same s layered
-      → values ≡ after (nameLines (sized .value)) s (sized .cursor)
+      → values ≡ cursorAfter (nameLines (sized .value)) s (sized .cursor)
       → ended ≡ fieldAfter (word (ascii "end_variable\n")) s values
-      → r ≡ settled ended (sized .value)
+      → r ≡ withNumber ended (sized .value)
       → r ≡ numberBy declaration sizeOf s c
   unfolding numberBy front n listed
   declaration-read begun named layered sized values ended r e₁ e₂ e₃ e₄ e₅ e₆ q =
-      let is : sized ≡ settled (after size s front) n = e₄ ∙ ap (λ (x : Cursor). settled (after size s x) (valueAfter size s x)) (e₃ ∙ ap (layerAfter s) (e₂ ∙ ap (fieldAfter name s) e₁)) in
-      let end : ended ≡ fieldAfter (word (ascii "end_variable\n")) s listed = e₆ ∙ ap (fieldAfter (word (ascii "end_variable\n")) s) (e₅ ∙ after-settled nameLines s (after size s front) n sized is) in
+      let is : sized ≡ withNumber (cursorAfter size s front) n = e₄ ∙ ap (λ (x : Cursor). withNumber (cursorAfter size s x) (valueAfter size s x)) (e₃ ∙ ap (layerAfter s) (e₂ ∙ ap (fieldAfter name s) e₁)) in
+      let end : ended ≡ fieldAfter (word (ascii "end_variable\n")) s listed = e₆ ∙ ap (fieldAfter (word (ascii "end_variable\n")) s) (e₅ ∙ after-withNumber nameLines s (cursorAfter size s front) n sized is) in
       q
-      ∙ settled-same ended (sized .value) n (λ o. settled-value (after size s front) n sized is (size-open (sym (ap isOpen end) ∙ o)))
-      ∙ ap₂ settled (end ∙ declaration-after) declaration-many
+      ∙ withNumber-same ended (sized .value) n (λ o. withNumber-value (cursorAfter size s front) n sized is (size-open (sym (ap isOpen end) ∙ o)))
+      ∙ ap₂ withNumber (end ∙ declaration-after) declaration-many
 
   -- a size that was read is at most 32
-  pub declaration-size : isOpen (after declaration s c) ≡ true → sizeOf (valueAfter declaration s c) ≤ 32
+  pub declaration-size : isOpen (cursorAfter declaration s c) ≡ true → sizeOf (valueAfter declaration s c) ≤ 32
   unfolding n
   declaration-size o = omega (arith, size-most s front (size-open (ap isOpen declaration-after ∙ o)), declaration-many)

@@ -12,7 +12,7 @@ use Rattle.translator.specs.declared.fields.Cursor.{Cursor}
 use Rattle.translator.specs.declared.fields.Found.{Found}
 use Rattle.translator.specs.declared.fields.ReadNumber.{ReadNumber}
 use Rattle.translator.specs.Fields.{number, signed, digitsLength, numeralLength, numeralValue, fieldValue}
-use Rattle.translator.specs.Format.{Format, isOpen, cursorRefused, fieldAfter, after, valueAfter}
+use Rattle.translator.specs.Format.{Format, isOpen, cursorRefused, fieldAfter, cursorAfter, valueAfter}
 use Rattle.translator.specs.Sas.{Separator, byteOf}
 
 -- an offset of a text that is within the limit
@@ -46,12 +46,12 @@ pub record NumeralInside (s : List ℕ) (at count : ℕ) : Type 0 where
   pub counted : count ≡ numeralLength (drop at s)
 
 -- a number that was read up to a cursor, 0 beside a refusal
-unfoldable pub settled : Cursor → ℕ → ReadNumber
-settled c value = record { cursor = c; value = cond (isOpen c) value 0 }
+unfoldable pub withNumber : Cursor → ℕ → ReadNumber
+withNumber c value = record { cursor = c; value = cond (isOpen c) value 0 }
 
 -- a number and its separator
 unfoldable pub numberAfter : Separator → List ℕ → Cursor → ReadNumber
-numberAfter separator s c = settled (fieldAfter (number separator) s c) (capped (fieldValue (number separator) (drop (c .at) s)))
+numberAfter separator s c = withNumber (fieldAfter (number separator) s c) (capped (fieldValue (number separator) (drop (c .at) s)))
 
 abbrev pub ReadsNumber : List ℕ → Cursor → ℕ → ReadNumber → Type 0
 ReadsNumber s c byte r = (separator : Separator) → byteOf separator ≡ byte → r ≡ numberAfter separator s c
@@ -62,7 +62,7 @@ coded none = 1048577
 coded (some n) = capped n
 
 unfoldable pub signedAfter : Separator → List ℕ → Cursor → ReadNumber
-signedAfter separator s c = settled (fieldAfter (signed separator) s c) (coded (fieldValue (signed separator) (drop (c .at) s)))
+signedAfter separator s c = withNumber (fieldAfter (signed separator) s c) (coded (fieldValue (signed separator) (drop (c .at) s)))
 
 abbrev pub ReadsSigned : List ℕ → Cursor → ℕ → ReadNumber → Type 0
 ReadsSigned s c byte r = (separator : Separator) → byteOf separator ≡ byte → r ≡ signedAfter separator s c
@@ -78,7 +78,7 @@ pub record CountInside (s : List ℕ) (at most : ℕ) : Type 0 where
 
 -- the number that a format gives, by what is read
 unfoldable pub numberBy : {A : Type 0} → Format A → (A → ℕ) → List ℕ → Cursor → ReadNumber
-numberBy f g s c = settled (after f s c) (g (valueAfter f s c))
+numberBy f g s c = withNumber (cursorAfter f s c) (g (valueAfter f s c))
 
 abbrev pub same : ℕ → ℕ
 same n = n

@@ -52,14 +52,14 @@ cursorRefused o = record { outcome = o; at = 0 }
 unfoldable pub isOpen : Cursor → Bool
 isOpen c = isDone (c .outcome)
 
-unfoldable pub reached : Outcome → ℕ → Cursor
-reached o end = cond (isDone o) (cursorAt end) (cursorRefused o)
+unfoldable pub cursorBy : Outcome → ℕ → Cursor
+cursorBy o end = cond (isDone o) (cursorAt end) (cursorRefused o)
 
 -- a refusal ends the reading
 unfoldable pub fieldAfter : Field → List ℕ → Cursor → Cursor
 fieldAfter f s c =
     cond (isOpen c)
-    (reached (fieldAt f (drop (c .at) s) (c .at)) (c .at + fieldLength f (drop (c .at) s)))
+    (cursorBy (fieldAt f (drop (c .at) s) (c .at)) (c .at + fieldLength f (drop (c .at) s)))
     c
 
 unfoldable pub faultAfter : Option Fault → ℕ → Cursor → Cursor
@@ -70,9 +70,9 @@ faultAfter (some fault) place c = cond (isOpen c) (cursorRefused (refusal (fault
 unfoldable pub stepAfter : (f : Field) → (Value f → Option Fault) → List ℕ → Cursor → Cursor
 stepAfter f fault s c = faultAfter (fault (fieldValue f (drop (c .at) s))) (c .at) (fieldAfter f s c)
 
-unfoldable pub after : {A : Type 0} → Format A → List ℕ → Cursor → Cursor
-after (gives a) s c = c
-after (field f fault next) s c = after (next (fieldValue f (drop (c .at) s))) s (stepAfter f fault s c)
+unfoldable pub cursorAfter : {A : Type 0} → Format A → List ℕ → Cursor → Cursor
+cursorAfter (gives a) s c = c
+cursorAfter (field f fault next) s c = cursorAfter (next (fieldValue f (drop (c .at) s))) s (stepAfter f fault s c)
 
 -- what was read, where nothing is refused
 unfoldable pub valueAfter : {A : Type 0} → Format A → List ℕ → Cursor → A

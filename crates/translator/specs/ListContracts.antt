@@ -11,7 +11,7 @@ use Rattle.files.specs.Rows.{cleared, filled}
 use Rattle.translator.specs.declared.fields.Cursor.{Cursor}
 use Rattle.translator.specs.declared.fields.ReadNumber.{ReadNumber}
 use Rattle.translator.specs.Fields.{number}
-use Rattle.translator.specs.Format.{outOfRange, unless, Format, gives, field, isOpen, after, valueAfter}
+use Rattle.translator.specs.Format.{outOfRange, unless, Format, gives, field, isOpen, cursorAfter, valueAfter}
 use Rattle.translator.specs.Sas.{blank, lineFeed}
 use Rattle.translator.specs.Stated.{variablesOf}
 use Rattle.translator.specs.Text.{variableFault, condition, conditions}
@@ -55,7 +55,7 @@ pub record PairInside (s : List ℕ) (at : ℕ) (sizes : List ℕ) (variables : 
 
 -- a pair, and a row before and after it is stored, where nothing is refused
 pub record PairStored (s : List ℕ) (c : Cursor) (sizes given before : List ℕ) (base : ℕ) (r : Cursor) (now : List ℕ) : Type 0 where
-  pub cursor : r ≡ after (condition sizes given) s c
+  pub cursor : r ≡ cursorAfter (condition sizes given) s c
   pub row : isOpen r ≡ true → now ≡ filled before base (valueAfter (condition sizes given) s c ∷ [])
   pub gives : isOpen r ≡ true → Given now now base (valueAfter (condition sizes given) s c .variable ∷ given)
 
@@ -65,6 +65,6 @@ PairRead s c sizes variables before base r now =
 
 -- pairs, in a row that is cleared first
 pub record ListRead (s : List ℕ) (c : Cursor) (count : ℕ) (sizes : List ℕ) (variables : ℕ) (before : List ℕ) (base : ℕ) (r : Cursor) (now : List ℕ) : Type 0 where
-  pub cursor : r ≡ after (conditions (take variables sizes) [] count) s c
+  pub cursor : r ≡ cursorAfter (conditions (take variables sizes) [] count) s c
   pub row : isOpen r ≡ true → now ≡ filled (cleared before base 64) base (valueAfter (conditions (take variables sizes) [] count) s c)
   pub gives : isOpen r ≡ true → Given now now base (variablesOf (valueAfter (conditions (take variables sizes) [] count) s c))

@@ -11,7 +11,7 @@ use Rattle.files.specs.Rows.{cleared, stored, filled, filledRows}
 use Rattle.files.specs.Task.{Pair}
 use Rattle.translator.specs.declared.fields.Cursor.{Cursor}
 use Rattle.translator.specs.Fields.{number, signed}
-use Rattle.translator.specs.Format.{unsupported, outOfRange, unless, Format, gives, field, isOpen, stepAfter, after, valueAfter}
+use Rattle.translator.specs.Format.{unsupported, outOfRange, unless, Format, gives, field, isOpen, stepAfter, cursorAfter, valueAfter}
 use Rattle.translator.specs.Sas.{Operator, blank}
 use Rattle.translator.specs.Stated.{oldPairs, newPairs}
 use Rattle.translator.specs.Text.{each, effect, operator}
@@ -47,7 +47,7 @@ pub record EffectInside (s : List ℕ) (at : ℕ) (sizes : List ℕ) (variables 
 
 -- an effect, and rows before and after it is stored, where nothing is refused
 pub record EffectStored (s : List ℕ) (c : Cursor) (sizes given conditions effects : List ℕ) (base : ℕ) (r : Cursor) (conditionsNow effectsNow : List ℕ) : Type 0 where
-  pub cursor : r ≡ after (effect sizes given) s c
+  pub cursor : r ≡ cursorAfter (effect sizes given) s c
   pub conditionsRow : isOpen r ≡ true → conditionsNow ≡ filled conditions base (oldPairs (valueAfter (effect sizes given) s c ∷ []))
   pub effectsRow : isOpen r ≡ true → effectsNow ≡ filled effects base (newPairs (valueAfter (effect sizes given) s c ∷ []))
   pub gives : isOpen r ≡ true → Given conditionsNow effectsNow base (valueAfter (effect sizes given) s c .variable ∷ given)
@@ -59,7 +59,7 @@ pub record EffectRead (s : List ℕ) (c : Cursor) (sizes : List ℕ) (variables 
 
 -- effects behind prevail conditions that gave variables: a row of effects that is cleared first
 pub record EffectsStored (s : List ℕ) (c : Cursor) (count : ℕ) (sizes given conditions effects : List ℕ) (base : ℕ) (r : Cursor) (conditionsNow effectsNow : List ℕ) : Type 0 where
-  pub cursor : r ≡ after (Text.effects sizes given count) s c
+  pub cursor : r ≡ cursorAfter (Text.effects sizes given count) s c
   pub conditionsRow : isOpen r ≡ true → conditionsNow ≡ filled conditions base (oldPairs (valueAfter (Text.effects sizes given count) s c))
   pub effectsRow : isOpen r ≡ true → effectsNow ≡ filled (cleared effects base 64) base (newPairs (valueAfter (Text.effects sizes given count) s c))
 
@@ -100,14 +100,14 @@ effectsOf o = newPairs (o .effects)
 
 -- an operator, and arrays before and after it is stored as action a, where nothing is refused
 pub record OperatorRead (s : List ℕ) (c : Cursor) (sizes : List ℕ) (metric : ℕ) (costs conditions effects : List ℕ) (a : ℕ) (r : Cursor) (costsNow conditionsNow effectsNow : List ℕ) : Type 0 where
-  pub cursor : r ≡ after (operator sizes) s c
+  pub cursor : r ≡ cursorAfter (operator sizes) s c
   pub cost : isOpen r ≡ true → costsNow ≡ set costs a (costBy metric (valueAfter (operator sizes) s c .cost))
   pub conditionsRow : isOpen r ≡ true → conditionsNow ≡ filled (cleared conditions (64 * a) 64) (64 * a) (conditionsOf (valueAfter (operator sizes) s c))
   pub effectsRow : isOpen r ≡ true → effectsNow ≡ filled (cleared effects (64 * a) 64) (64 * a) (effectsOf (valueAfter (operator sizes) s c))
 
 -- operators, as the actions from 0 on
 pub record OperatorsRead (s : List ℕ) (c : Cursor) (count : ℕ) (sizes : List ℕ) (metric : ℕ) (costs conditions effects : List ℕ) (r : Cursor) (costsNow conditionsNow effectsNow : List ℕ) : Type 0 where
-  pub cursor : r ≡ after (each (operator sizes) count) s c
+  pub cursor : r ≡ cursorAfter (each (operator sizes) count) s c
   pub costsRead : isOpen r ≡ true → costsNow ≡ placed costs 0 (map (λ o. costBy metric (o .cost)) (valueAfter (each (operator sizes) count) s c))
   pub conditionsRead : isOpen r ≡ true → conditionsNow ≡ filledRows conditions 0 (map conditionsOf (valueAfter (each (operator sizes) count) s c))
   pub effectsRead : isOpen r ≡ true → effectsNow ≡ filledRows effects 0 (map effectsOf (valueAfter (each (operator sizes) count) s c))

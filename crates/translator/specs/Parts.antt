@@ -17,11 +17,11 @@ use Rattle.translator.specs.declared.fields.Cursor.{Cursor}
 use Rattle.translator.specs.declared.fields.ReadNumber.{ReadNumber}
 use Rattle.translator.specs.declared.text.Begun.{Begun}
 use Rattle.translator.specs.declared.text.Finished.{Finished}
-use Rattle.translator.specs.Contracts.{Inside, settled}
+use Rattle.translator.specs.Contracts.{Inside, withNumber}
 use Rattle.translator.specs.VariableContracts.{storedSizes, storedStarts}
 use Rattle.translator.specs.OperatorContracts.{costBy, conditionsOf, effectsOf}
 use Rattle.translator.specs.Fields.{flag, number, fieldValue}
-use Rattle.translator.specs.Format.{unsupported, unless, Format, gives, field, bind, cursorAt, isOpen, fieldAfter, stepAfter, after, valueAfter}
+use Rattle.translator.specs.Format.{unsupported, unless, Format, gives, field, bind, cursorAt, isOpen, fieldAfter, stepAfter, cursorAfter, valueAfter}
 use Rattle.translator.specs.Sas.{Declaration, Started, Operator, Sas, lineFeed}
 use Rattle.translator.specs.Stated.{sizesOf}
 use Rattle.translator.specs.Text.{any, says, each, count, declaration, group, starts, conditions, operator, rule, checkText, textTask}
@@ -73,7 +73,7 @@ behind sizes f =
 
 -- a metric as a number
 unfoldable pub metricAfter : List ℕ → Cursor → ReadNumber
-metricAfter s c = settled (fieldAfter flag s c) (bit (fieldValue flag (drop (c .at) s)))
+metricAfter s c = withNumber (fieldAfter flag s c) (bit (fieldValue flag (drop (c .at) s)))
 
 -- nothing behind a text that is read
 unfoldable pub closedAt : List ℕ → Cursor → Outcome
@@ -89,7 +89,7 @@ pub record FrontInside (s sizes starts : List ℕ) : Type 0 where
 
 -- the first part: a cursor behind it; where nothing is refused, its numbers, and arrays with sizes and start values
 pub record FrontRead (s sizes starts : List ℕ) (r : Begun) (sizesNow startsNow : List ℕ) : Type 0 where
-  pub cursor : r .cursor ≡ after front s (cursorAt 0)
+  pub cursor : r .cursor ≡ cursorAfter front s (cursorAt 0)
   pub few : r .variables ≤ 64
   pub metric : isOpen (r .cursor) ≡ true → r .metric ≡ bit (valueAfter front s (cursorAt 0) .metric)
   pub counted : isOpen (r .cursor) ≡ true → r .variables ≡ length (valueAfter front s (cursorAt 0) .declarations)
@@ -117,7 +117,7 @@ pub record BodyStored (s : List ℕ) (h : Begun) (x : Sas) (goal costs condition
 pub record BodyRead (s : List ℕ) (h : Begun) (sizes goal costs conditions effects : List ℕ) (r : Finished) (goalNow costsNow conditionsNow effectsNow : List ℕ) : Type 0 where
   pub variables : r .variables ≡ h .variables
   pub fewActions : r .actions ≤ 512
-  pub outcome : (f : Front) → r .outcome ≡ closedAt s (after (behind (take (h .variables) sizes) f) s (h .cursor))
+  pub outcome : (f : Front) → r .outcome ≡ closedAt s (cursorAfter (behind (take (h .variables) sizes) f) s (h .cursor))
   pub stored : (f : Front) → r .outcome .number ≡ 0
       → BodyStored s h (valueAfter (behind (take (h .variables) sizes) f) s (h .cursor)) goal costs conditions effects r goalNow costsNow conditionsNow effectsNow
 

@@ -9,14 +9,14 @@ use Rattle.files.specs.Accepted.{acceptedTask}
 use Rattle.files.specs.Outcome.{done, refusal}
 use Rattle.files.specs.Reading.{readTask, under}
 use Rattle.files.specs.TaskFile.{taskFile}
-use Rattle.translator.specs.Sas.{Sas, printed, named}
+use Rattle.translator.specs.Sas.{Sas, printed, wellNamed}
 use Rattle.translator.specs.Stated.{supported, textual, stated, Means}
 use Rattle.translator.specs.Text.{checkText, textTask}
 use Rattle.translator.specs.Translate.{translateOutcome, translateAnswer, translatedFile}
 
 -- a text that is the printing of what it states, which is supported
 pub record States (s : List ℕ) (x : Sas) : Type 0 where
-  pub names : named x ≡ true
+  pub names : wellNamed x ≡ true
   pub within : supported x ≡ true
   pub text : printed x ≡ s
 
@@ -36,8 +36,8 @@ pub record TextRight (s : List ℕ) : Type 0 where
 -- a text of the format begins with the first p bytes; none begins with one byte more, or, where there is none, is the text
 pub record PlaceRight (s : List ℕ) (p : ℕ) : Type 0 where
   pub within : p ≤ length s
-  pub begun : (x : Sas) × (named x ≡ true) × (take p (printed x) ≡ take p s)
-  pub stops : (x : Sas) → named x ≡ true → take (p + 1) (printed x) ≡ take (p + 1) s → ⊥
+  pub begun : (x : Sas) × (wellNamed x ≡ true) × (take p (printed x) ≡ take p s)
+  pub stops : (x : Sas) → wellNamed x ≡ true → take (p + 1) (printed x) ≡ take (p + 1) s → ⊥
 
 abbrev pub TextsRight : Type 0
 TextsRight = (s : List ℕ) → length s ≤ 65536 → TextRight s

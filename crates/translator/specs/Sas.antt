@@ -147,5 +147,5 @@ unfoldable pub namedDeclaration : Declaration → Bool
 namedDeclaration d = isName (d .name) && allOf isName (d .values)
 
 -- every name is one
-unfoldable pub named : Sas → Bool
-named x = allOf (λ v. namedDeclaration (v .declared)) (x .variables) && allOf (λ o. isName (o .name)) (x .operators)
+unfoldable pub wellNamed : Sas → Bool
+wellNamed x = allOf (λ v. namedDeclaration (v .declared)) (x .variables) && allOf (λ o. isName (o .name)) (x .operators)

@@ -13,7 +13,7 @@ use Rattle.files.specs.Records.{sizeFits}
 use Rattle.files.specs.Task.{Pair, Task, pair}
 use Rattle.digits.specs.Decimal.{ascii}
 use Rattle.translator.specs.Fields.{word, name, flag, number, signed}
-use Rattle.translator.specs.Format.{Fault, unsupported, givenTwice, outsideLimits, outOfRange, unless, Format, gives, field, bind, repeat, cursorAt, after, valueAfter}
+use Rattle.translator.specs.Format.{Fault, unsupported, givenTwice, outsideLimits, outOfRange, unless, Format, gives, field, bind, repeat, cursorAt, cursorAfter, valueAfter}
 use Rattle.translator.specs.Sas.{Declaration, Started, Effect, Operator, Rule, Sas, Separator, blank, lineFeed}
 use Rattle.translator.specs.Stated.{isNone, sizesOf, variablesOf, isValue, isOldValue, stated}
 
@@ -161,7 +161,7 @@ text =
 -- a text, and nothing behind it; of any length
 unfoldable pub formAt : List ℕ → Outcome
 formAt s =
-    let end = after text s (cursorAt 0) in
+    let end = cursorAfter text s (cursorAt 0) in
     andThen (end .outcome) (guard (leb (length s) (end .at)) 31 (end .at) done)
 
 -- a text is limited in size as a file is

@@ -7,7 +7,7 @@ use lib.ListN.{length, take}
 use Rattle.files.specs.Bytes.{placed}
 use Rattle.translator.specs.declared.fields.Cursor.{Cursor}
 use Rattle.translator.specs.Fields.{number, signed}
-use Rattle.translator.specs.Format.{field, isOpen, stepAfter, after, valueAfter}
+use Rattle.translator.specs.Format.{field, isOpen, stepAfter, cursorAfter, valueAfter}
 use Rattle.translator.specs.Sas.{Declaration, Started, lineFeed}
 use Rattle.translator.specs.Stated.{sizesOf}
 use Rattle.translator.specs.Text.{any, each, layerFault, declaration, group, starts}
@@ -39,12 +39,12 @@ storedStarts variables = map (λ v. v .start % 256) variables
 
 -- a cursor behind the declarations, and an array before and after their sizes are stored, where nothing is refused
 pub record DeclarationsRead (s : List ℕ) (c : Cursor) (count : ℕ) (before : List ℕ) (r : Cursor) (now : List ℕ) : Type 0 where
-  pub cursor : r ≡ after (each declaration count) s c
+  pub cursor : r ≡ cursorAfter (each declaration count) s c
   pub stored : isOpen r ≡ true → now ≡ placed before 0 (storedSizes (valueAfter (each declaration count) s c))
 
 -- start values, of any declarations that have the sizes
 pub record StartsStored (s : List ℕ) (c : Cursor) (declarations : List Declaration) (before : List ℕ) (r : Cursor) (now : List ℕ) : Type 0 where
-  pub cursor : r ≡ after (starts declarations) s c
+  pub cursor : r ≡ cursorAfter (starts declarations) s c
   pub stored : isOpen r ≡ true → now ≡ placed before 0 (storedStarts (valueAfter (starts declarations) s c))
 
 pub record StartsRead (s : List ℕ) (c : Cursor) (count : ℕ) (sizes before : List ℕ) (r : Cursor) (now : List ℕ) : Type 0 where
@@ -53,4 +53,4 @@ pub record StartsRead (s : List ℕ) (c : Cursor) (count : ℕ) (sizes before : 
 
 -- a cursor behind the mutex groups
 unfoldable pub groupsAfter : List ℕ → Cursor → Cursor
-groupsAfter s c = after (field (number lineFeed) any (λ n. each group n)) s c
+groupsAfter s c = cursorAfter (field (number lineFeed) any (λ n. each group n)) s c

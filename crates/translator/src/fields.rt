@@ -3,9 +3,9 @@
 ghost use mathlib.Core.Path.{_≡_};
 ghost use Prim.Native.Nat.{_+_, _-_, _*_};
 ghost use lib.ListN.{drop};
-ghost use Rattle.translator.specs.Contracts.{Inside, WordInside, capped, DigitBehind, digitsFound, numeralFound, NumeralInside, settled, ReadsNumber, ReadsSigned, judged, CountInside, numberBy, same};
+ghost use Rattle.translator.specs.Contracts.{Inside, WordInside, capped, DigitBehind, digitsFound, numeralFound, NumeralInside, withNumber, ReadsNumber, ReadsSigned, judged, CountInside, numberBy, same};
 ghost use Rattle.translator.specs.Fields.{byteAt, wordAt, lineLength, numeralAt, word, name};
-ghost use Rattle.translator.specs.Format.{cursorAt, reached, fieldAfter};
+ghost use Rattle.translator.specs.Format.{cursorAt, cursorBy, fieldAfter};
 ghost use Rattle.translator.specs.Text.{count};
 use files::Outcome;
 use files::bytes;
@@ -58,7 +58,7 @@ struct Found {
 }
 
 // The start of a text.
-pub fn start() -> Cursor
+pub fn at_start() -> Cursor
     ensures { λ r. ⌜ r ≡ cursorAt 0 ⌝ }
 {
     Cursor {
@@ -68,8 +68,8 @@ pub fn start() -> Cursor
 }
 
 // The offset of an outcome that is done.
-fn reached(o: Outcome, end: usize) -> Cursor
-    ensures { λ r. ⌜ r ≡ reached o end ⌝ }
+fn cursor_by(o: Outcome, end: usize) -> Cursor
+    ensures { λ r. ⌜ r ≡ cursorBy o end ⌝ }
 {
     if o.number != 0 {
         return Cursor { outcome: o, at: 0 };
@@ -118,7 +118,7 @@ pub fn word(s: &[u8], c: Cursor, w: &[u8]) -> Cursor
         return c;
     }
     let o = word_due(s, c.at, w);
-    reached(o, c.at + w.len())
+    cursor_by(o, c.at + w.len())
 }
 
 // Where the line at `at` ends: at its line feed, or at the end of the text.
@@ -146,7 +146,7 @@ pub fn name(s: &[u8], c: Cursor) -> Cursor
     }
     let end = line_end(s, c.at);
     let o = byte_due(s, end, LINE_FEED);
-    reached(o, end + 1)
+    cursor_by(o, end + 1)
 }
 
 // A number with one digit more.
@@ -214,8 +214,8 @@ fn numeral_due(s: &[u8], at: usize, count: usize, separator: u8) -> Outcome
 }
 
 // The number that was read up to a cursor.
-pub fn settled(c: Cursor, value: usize) -> ReadNumber
-    ensures { λ r. ⌜ r ≡ settled c value ⌝ }
+pub fn with_number(c: Cursor, value: usize) -> ReadNumber
+    ensures { λ r. ⌜ r ≡ withNumber c value ⌝ }
 {
     let outcome = c.outcome;
     if outcome.number != 0 {
@@ -236,11 +236,11 @@ pub fn number(s: &[u8], c: Cursor, separator: u8) -> ReadNumber
 {
     let before = c.outcome;
     if before.number != 0 {
-        return settled(c, 0);
+        return with_number(c, 0);
     }
     let found = numeral(s, c.at);
     let o = numeral_due(s, c.at, found.count, separator);
-    settled(reached(o, c.at + found.count + 1), found.value)
+    with_number(cursor_by(o, c.at + found.count + 1), found.value)
 }
 
 // A number, or -1.
@@ -250,14 +250,14 @@ pub fn signed(s: &[u8], c: Cursor, separator: u8) -> ReadNumber
 {
     let before = c.outcome;
     if before.number != 0 {
-        return settled(c, 0);
+        return with_number(c, 0);
     }
     if bytes::byte_at(s, c.at) != 45 {
         return number(s, c, separator);
     }
     let w = [MINUS, ONE, separator];
     let o = word_due(s, c.at, &w);
-    settled(reached(o, c.at + 3), NONE)
+    with_number(cursor_by(o, c.at + 3), NONE)
 }
 
 // Refuses at a place what does not pass.
@@ -286,5 +286,5 @@ pub fn count(s: &[u8], c: Cursor, most: usize) -> ReadNumber
     let value = n.value;
     let counted = n.cursor;
     let within = judged(counted, value <= most, outcomes::OUTSIDE_LIMITS, c.at);
-    settled(within, value)
+    with_number(within, value)
 }

@@ -2,7 +2,7 @@
 ghost use mathlib.Core.Path.{_≡_};
 ghost use Rattle.translator.specs.Contracts.{Inside};
 ghost use Rattle.translator.specs.VariableContracts.{groupsAfter};
-ghost use Rattle.translator.specs.Format.{after};
+ghost use Rattle.translator.specs.Format.{cursorAfter};
 ghost use Rattle.translator.specs.Sas.{lineFeed};
 ghost use Rattle.translator.specs.Text.{each, freePair, group};
 use crate::fields;
@@ -11,7 +11,7 @@ use crate::fields::Cursor;
 // A pair that nothing refuses.
 fn pair(s: &[u8], c: Cursor) -> Cursor
     requires { ⌜ Inside (now s) (c .at) ⌝ }
-    ensures { λ r. ⌜ r ≡ after (freePair lineFeed) (now (s .entry)) c ⌝ }
+    ensures { λ r. ⌜ r ≡ cursorAfter (freePair lineFeed) (now (s .entry)) c ⌝ }
 {
     let variable = fields::number(s, c, fields::BLANK);
     let value = fields::number(s, variable.cursor, fields::LINE_FEED);
@@ -21,7 +21,7 @@ fn pair(s: &[u8], c: Cursor) -> Cursor
 // `count` pairs, up to the first that is refused.
 fn pairs(s: &[u8], c: Cursor, count: usize) -> Cursor
     requires { ⌜ Inside (now s) (c .at) ⌝ }
-    ensures { λ r. ⌜ r ≡ after (each (freePair lineFeed) count) (now (s .entry)) c ⌝ }
+    ensures { λ r. ⌜ r ≡ cursorAfter (each (freePair lineFeed) count) (now (s .entry)) c ⌝ }
 {
     let mut here = c;
     let mut left = count;
@@ -39,7 +39,7 @@ fn pairs(s: &[u8], c: Cursor, count: usize) -> Cursor
 // A group. More pairs than the text has bytes are refused where it ends, however many they are.
 fn group(s: &[u8], c: Cursor) -> Cursor
     requires { ⌜ Inside (now s) (c .at) ⌝ }
-    ensures { λ r. ⌜ r ≡ after group (now (s .entry)) c ⌝ }
+    ensures { λ r. ⌜ r ≡ cursorAfter group (now (s .entry)) c ⌝ }
 {
     let begun = fields::word(s, c, b"begin_mutex_group\n");
     let count = fields::number(s, begun, fields::LINE_FEED);
@@ -50,7 +50,7 @@ fn group(s: &[u8], c: Cursor) -> Cursor
 // `count` groups, up to the first that is refused.
 fn groups_of(s: &[u8], c: Cursor, count: usize) -> Cursor
     requires { ⌜ Inside (now s) (c .at) ⌝ }
-    ensures { λ r. ⌜ r ≡ after (each group count) (now (s .entry)) c ⌝ }
+    ensures { λ r. ⌜ r ≡ cursorAfter (each group count) (now (s .entry)) c ⌝ }
 {
     let mut here = c;
     let mut left = count;

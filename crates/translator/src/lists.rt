@@ -40,7 +40,7 @@ pub fn variable(
     let once = fields::judged(read, is_new(first, base, value), fields::GIVEN_TWICE, c.at);
     let alone = fields::judged(once, is_new(second, base, value), fields::GIVEN_TWICE, c.at);
     let known = fields::judged(alone, value < variables, outcomes::OUT_OF_RANGE, c.at);
-    fields::settled(known, value)
+    fields::with_number(known, value)
 }
 
 // A value below the size of its variable.
@@ -52,7 +52,7 @@ pub fn value(s: &[u8], c: Cursor, size: usize) -> ReadNumber
     let value = n.value;
     let read = n.cursor;
     let within = fields::judged(read, value < size, outcomes::OUT_OF_RANGE, c.at);
-    fields::settled(within, value)
+    fields::with_number(within, value)
 }
 
 // A pair, which is stored.

@@ -1,10 +1,10 @@
 // Operators: their costs, and their conditions and effects in rows of 64 cells.
 ghost use mathlib.Core.Path.{_≡_};
-ghost use Prim.Native.Nat.{_≤_};
 ghost use lib.ListN.{take};
 ghost use Rattle.translator.specs.Contracts.{Inside, CountInside, coded, numberBy};
 ghost use Rattle.translator.specs.ListContracts.{RowInside};
 ghost use Rattle.translator.specs.OperatorContracts.{plainAfter, oldBelow, isOld, storedOld, EffectInside, EffectRead, EffectsRead, costBy, OperatorInside, OperatorRead, OperatorsInside, OperatorsRead};
+ghost use Rattle.translator.specs.Text.{count};
 use crate::fields;
 use crate::fields::Cursor;
 use crate::fields::ReadNumber;
@@ -44,7 +44,7 @@ fn old(s: &[u8], c: Cursor, size: usize) -> ReadNumber
     let value = n.value;
     let read = n.cursor;
     let within = fields::judged(read, is_old(value, size), outcomes::OUT_OF_RANGE, c.at);
-    fields::settled(within, value)
+    fields::with_number(within, value)
 }
 
 // Stores an old value as a condition.
@@ -105,14 +105,31 @@ fn effects_of(
 }
 
 // What an operator costs: as written, or 1 where the metric is 0.
-fn cost_by(metric: usize, cost: usize) -> u32
-    requires { ⌜ cost ≤ 1000000 ⌝ }
-    ensures { λ r. ⌜ r ≡ costBy metric cost ⌝ }
+fn cost_by(metric: usize, written: usize) -> usize
+    ensures { λ r. ⌜ r ≡ costBy metric written ⌝ }
 {
     if metric == 0 {
         return 1;
     }
-    cost as u32
+    written
+}
+
+// The cost of an operator; it is within its limit as it is written, whatever the metric.
+fn cost(s: &[u8], c: Cursor, metric: usize) -> ReadNumber
+    requires { ⌜ Inside (now s) (c .at) ⌝ }
+    ensures { λ r. ⌜ r ≡ numberBy (count 1000000) (costBy metric) (now (s .entry)) c ⌝ }
+{
+    let n = fields::number(s, c, fields::LINE_FEED);
+    let written = n.value;
+    let read = n.cursor;
+    let spent = cost_by(metric, written);
+    let within = fields::judged(
+        read,
+        written <= limits::MOST_COST,
+        outcomes::OUTSIDE_LIMITS,
+        c.at,
+    );
+    fields::with_number(within, spent)
 }
 
 // An operator, as action `a`.
@@ -146,9 +163,9 @@ fn operator(
         effects,
         base,
     );
-    let cost = fields::count(s, changed, limits::MOST_COST);
-    costs[a] = cost_by(metric, cost.value);
-    fields::word(s, cost.cursor, b"end_operator\n")
+    let spent = cost(s, changed, metric);
+    costs[a] = spent.value as u32;
+    fields::word(s, spent.cursor, b"end_operator\n")
 }
 
 // `count` operators, as the actions from 0 on.

@@ -35,10 +35,10 @@ fn metric(s: &[u8], c: Cursor) -> ReadNumber
 {
     if bytes::byte_at(s, c.at) == 49 {
         let one = fields::word(s, c, b"1\n");
-        return fields::settled(one, 1);
+        return fields::with_number(one, 1);
     }
     let zero = fields::word(s, c, b"0\n");
-    fields::settled(zero, 0)
+    fields::with_number(zero, 0)
 }
 
 // The metric, the variables with their start values, and the groups.
@@ -46,7 +46,7 @@ fn front(s: &[u8], sizes: &mut [u8], starts: &mut [u8]) -> Begun
     requires { ⌜ FrontInside (now s) (now sizes) (now starts) ⌝ }
     ensures { λ r. ⌜ FrontRead (now (s .entry)) (now (sizes .entry)) (now (starts .entry)) r (now (sizes .exit)) (now (starts .exit)) ⌝ }
 {
-    let start = fields::start();
+    let start = fields::at_start();
     let begun = fields::word(s, start, b"begin_version\n3\nend_version\nbegin_metric\n");
     let metric = metric(s, begun);
     let measured = fields::word(s, metric.cursor, b"end_metric\n");

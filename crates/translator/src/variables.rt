@@ -3,7 +3,7 @@
 ghost use mathlib.Core.Path.{_≡_};
 ghost use Rattle.translator.specs.Contracts.{Inside, same, numberBy};
 ghost use Rattle.translator.specs.VariableContracts.{sizeOf, layerAfter, VariablesInside, DeclarationsRead, StartsInside, StartsRead};
-ghost use Rattle.translator.specs.Format.{after};
+ghost use Rattle.translator.specs.Format.{cursorAfter};
 ghost use Rattle.translator.specs.Text.{nameLines, size, declaration};
 use crate::fields;
 use crate::fields::Cursor;
@@ -27,13 +27,13 @@ fn size(s: &[u8], c: Cursor) -> ReadNumber
         outcomes::OUTSIDE_LIMITS,
         c.at,
     );
-    fields::settled(within, value)
+    fields::with_number(within, value)
 }
 
 // The names of `count` values.
 fn names(s: &[u8], c: Cursor, count: usize) -> Cursor
     requires { ⌜ Inside (now s) (c .at) ⌝ }
-    ensures { λ r. ⌜ r ≡ after (nameLines count) (now (s .entry)) c ⌝ }
+    ensures { λ r. ⌜ r ≡ cursorAfter (nameLines count) (now (s .entry)) c ⌝ }
 {
     let mut here = c;
     let mut left = count;
@@ -66,7 +66,7 @@ fn declaration(s: &[u8], c: Cursor) -> ReadNumber
     let sized = size(s, layered);
     let values = names(s, sized.cursor, sized.value);
     let ended = fields::word(s, values, b"end_variable\n");
-    fields::settled(ended, sized.value)
+    fields::with_number(ended, sized.value)
 }
 
 // The declarations of `count` variables, and their domain sizes in order.

@@ -4,11 +4,11 @@ use borrow.Author.Needs.{needs}
 use Rattle.translator.proofs.fields.signed.Statement.{statement}
 use Rattle.translator.proofs.fields.signed.Tie as tie
 
-settled-requires : tie.Need-settled-requires
-settled-requires c κs = search needs
+with-number-requires : tie.Need-with-number-requires
+with-number-requires c κs = search needs
 
 returns : tie.Need-returns
-returns c = signed-refused _ _ _ _ (c .before .if1 .taken) (c .settled .ensures)
+returns c = signed-refused _ _ _ _ (c .before .if1 .taken) (c .with-number .ensures)
 
 byte-at-requires : tie.Need-byte-at-requires
 byte-at-requires c κs = search needs
@@ -25,30 +25,30 @@ slice-aggregate-word-due c = search needs
 word-due-requires : tie.Need-word-due-requires
 word-due-requires c κs = search needs
 
-add-reached : tie.Need-add-reached
-add-reached c = search needs
+add-cursor-by : tie.Need-add-cursor-by
+add-cursor-by c = search needs
 
-reached-requires : tie.Need-reached-requires
-reached-requires c κs = search needs
+cursor-by-requires : tie.Need-cursor-by-requires
+cursor-by-requires c κs = search needs
 
-settled-requires-2 : tie.Need-settled-requires-2
-settled-requires-2 c κs = search needs
+with-number-requires-2 : tie.Need-with-number-requires-2
+with-number-requires-2 c κs = search needs
 
 returns-3 : tie.Need-returns-3
-returns-3 c = signed-minus _ _ _ _ _ _ _ (c .before .before .before .before .before .before .before .if1 .left) (c .before .before .before .before .before .before .byte-at .ensures .is) (c .before .before .before .before .before .if2 .left) (c .before .before .before .word-due .ensures) (c .before .reached .ensures) (c .settled2 .ensures)
+returns-3 c = signed-minus _ _ _ _ _ _ _ (c .before .before .before .before .before .before .before .if1 .left) (c .before .before .before .before .before .before .byte-at .ensures .is) (c .before .before .before .before .before .if2 .left) (c .before .before .before .word-due .ensures) (c .before .cursor-by .ensures) (c .with-number2 .ensures)
 
 pub signed-spec : {M : Type 1} → statement M
 signed-spec =
     tie.close
     (tie.spec
-    settled-requires
+    with-number-requires
     returns
     byte-at-requires
     number-requires
     returns-2
     slice-aggregate-word-due
     word-due-requires
-    add-reached
-    reached-requires
-    settled-requires-2
+    add-cursor-by
+    cursor-by-requires
+    with-number-requires-2
     returns-3)

@@ -10,14 +10,14 @@ returns c = search (needs, field-refused)
 word-due-requires : tie.Need-word-due-requires
 word-due-requires c κs = search needs
 
-add-reached : tie.Need-add-reached
-add-reached c = search needs
+add-cursor-by : tie.Need-add-cursor-by
+add-cursor-by c = search needs
 
-reached-requires : tie.Need-reached-requires
-reached-requires c κs = search needs
+cursor-by-requires : tie.Need-cursor-by-requires
+cursor-by-requires c κs = search needs
 
 returns-2 : tie.Need-returns-2
 returns-2 c = search (needs, word-open)
 
 pub word-spec : {M : Type 1} → statement M
-word-spec = tie.close (tie.spec returns word-due-requires add-reached reached-requires returns-2)
+word-spec = tie.close (tie.spec returns word-due-requires add-cursor-by cursor-by-requires returns-2)

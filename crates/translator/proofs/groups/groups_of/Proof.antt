@@ -1,7 +1,7 @@
 -- The groups that are left end where all end.
 use mathlib.Core.Path.{_≡_, refl}
 use Rattle.translator.specs.Contracts.{Inside}
-use Rattle.translator.specs.Format.{after}
+use Rattle.translator.specs.Format.{cursorAfter}
 use Rattle.translator.specs.Text.{each, group}
 use Rattle.translator.proofs.InsideReading.{after-inside}
 use borrow.Author.Needs.{needs}
@@ -10,7 +10,7 @@ use Rattle.translator.proofs.RepeatReading.{each-next, each-end, each-s
 use Rattle.translator.proofs.groups.groups_of.Tie as tie
 
 abbrev Inv-loop : tie.InvT-loop
-Inv-loop s count here₀ left₀ here left = (after (each group left) s here ≡ after (each group count) s here₀) × Inside s (here .at)
+Inv-loop s count here₀ left₀ here left = (cursorAfter (each group left) s here ≡ cursorAfter (each group count) s here₀) × Inside s (here .at)
 
 abbrev μ-loop : tie.MeasureT-loop
 μ-loop s count here₀ left₀ here left = left

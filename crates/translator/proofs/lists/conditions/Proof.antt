@@ -4,7 +4,7 @@ use mathlib.Core.List.{[]}
 use denote.Ref.{now}
 use lib.ListN.{length, take}
 use Rattle.translator.specs.Contracts.{Inside}
-use Rattle.translator.specs.Format.{after, valueAfter}
+use Rattle.translator.specs.Format.{cursorAfter, valueAfter}
 use Rattle.translator.specs.Text.{conditions}
 use Rattle.translator.proofs.InsideReading.{after-inside}
 use Rattle.translator.proofs.ConditionsReading.{ConditionsLeft, conditions-start, conditions-next, conditions-end}
@@ -13,7 +13,7 @@ use Rattle.translator.proofs.lists.conditions.Statement.{statement}
 use Rattle.translator.proofs.lists.conditions.Tie as tie
 
 abbrev Inv-loop : tie.InvT-loop
-Inv-loop s count sizes variables row₀ base here₀ left₀ row here left = ConditionsLeft s (take variables sizes) base (after (conditions (take variables sizes) [] count) s here₀) (valueAfter (conditions (take variables sizes) [] count) s here₀) row₀ here left row × Inside s (here .at) × (length row ≡ length row₀)
+Inv-loop s count sizes variables row₀ base here₀ left₀ row here left = ConditionsLeft s (take variables sizes) base (cursorAfter (conditions (take variables sizes) [] count) s here₀) (valueAfter (conditions (take variables sizes) [] count) s here₀) row₀ here left row × Inside s (here .at) × (length row ≡ length row₀)
 
 abbrev μ-loop : tie.MeasureT-loop
 μ-loop s count sizes variables row₀ base here₀ left₀ row here left = left

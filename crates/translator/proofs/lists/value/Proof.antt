@@ -12,11 +12,11 @@ number-requires c κs = search needs
 judged-requires : tie.Need-judged-requires
 judged-requires c κs = search needs
 
-settled-requires : tie.Need-settled-requires
-settled-requires c κs = search needs
+with-number-requires : tie.Need-with-number-requires
+with-number-requires c κs = search needs
 
 returns : tie.Need-returns
-returns c = value-read _ _ _ (c .before .before .before .number .ensures lineFeed refl) _ _ _ (c .before .before .before .before .before .pre .low) (c .before .judged .ensures) (c .settled .ensures)
+returns c = value-read _ _ _ (c .before .before .before .number .ensures lineFeed refl) _ _ _ (c .before .before .before .before .before .pre .low) (c .before .judged .ensures) (c .with-number .ensures)
 
 pub value-spec : {M : Type 1} → statement M
-value-spec = tie.close (tie.spec number-requires judged-requires settled-requires returns)
+value-spec = tie.close (tie.spec number-requires judged-requires with-number-requires returns)

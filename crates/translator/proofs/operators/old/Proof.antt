@@ -15,12 +15,12 @@ is-old-requires c κs = search needs
 judged-requires : tie.Need-judged-requires
 judged-requires c κs = search needs
 
-settled-requires : tie.Need-settled-requires
-settled-requires c κs = search needs
+with-number-requires : tie.Need-with-number-requires
+with-number-requires c κs = search needs
 
 returns : tie.Need-returns
-returns c = old-read _ _ _ _ _ _ _ (c .before .before .before .before .signed .ensures blank refl) (c .before .before .before .before .before .before .pre .low) (c .before .before .is-old .ensures) (c .before .judged .ensures) (c .settled .ensures)
+returns c = old-read _ _ _ _ _ _ _ (c .before .before .before .before .signed .ensures blank refl) (c .before .before .before .before .before .before .pre .low) (c .before .before .is-old .ensures) (c .before .judged .ensures) (c .with-number .ensures)
 
 pub old-spec : {M : Type 1} → statement M
 old-spec =
-    tie.close (tie.spec signed-requires is-old-requires judged-requires settled-requires returns)
+    tie.close (tie.spec signed-requires is-old-requires judged-requires with-number-requires returns)

@@ -3,8 +3,7 @@ use mathlib.Core.Path.{refl}
 use native.Mathlib.Omega.{arith}
 use Rattle.digits.specs.Decimal.{ascii}
 use Rattle.translator.proofs.InsideReading.{after-inside, field-inside, number-inside}
-use Rattle.translator.proofs.CountReading.{count-most}
-use Rattle.translator.proofs.OperatorReading.{operator-read}
+use Rattle.translator.proofs.OperatorReading.{cost-most, operator-read}
 use borrow.Author.Needs.{needs}
 use Rattle.translator.proofs.operators.operator.Statement.{statement}
 use Rattle.translator.proofs.operators.operator.Tie as tie
@@ -33,11 +32,11 @@ count-requires-2 c κs = record { inside = (after-inside _ _ _ _ (number-inside 
 effects-of-requires : tie.Need-effects-of-requires
 effects-of-requires c κs = record { inside = (number-inside _ _ _ _ _ (after-inside _ _ _ _ (number-inside _ _ _ _ _ (field-inside _ _ _ _ (field-inside _ _ _ _ (c .before .before .before .before .before .before .before .before .before .before .before .before .before .before .before .before .pre .inside) (c .before .before .before .before .before .before .before .before .before .word .ensures)) (c .before .before .before .before .before .before .before .before .name .ensures)) (c .before .before .before .before .before .before .before .count .ensures)) (c .before .before .before .before .before .conditions .ensures .cursor)) (c .before .before .count2 .ensures)); sizesRoom = c .before .before .before .before .before .before .before .before .before .before .before .before .before .before .before .before .pre .sizesRoom; few = c .before .before .before .before .before .before .before .before .before .before .before .before .before .before .before .before .pre .few; conditionsRoom = record { room = omega (arith, c .before .before .before .before .before .before .before .before .before .before .before .before .before .before .before .before .pre .known, c .before .before .before .before .before .before .before .before .before .before .before .before .before .before .before .before .pre .conditionsRoom) }; effectsRoom = record { room = omega (arith, c .before .before .before .before .before .before .before .before .before .before .before .before .before .before .before .before .pre .known, c .before .before .before .before .before .before .before .before .before .before .before .before .before .before .before .before .pre .effectsRoom) } }
 
-count-requires-3 : tie.Need-count-requires-3
-count-requires-3 c κs = record { inside = c .before .before .before .before .effects-of .ensures .inside; low = omega arith }
+cost-requires : tie.Need-cost-requires
+cost-requires c κs = c .before .before .before .before .effects-of .ensures .inside
 
-cost-by-requires : tie.Need-cost-by-requires
-cost-by-requires c κs = count-most _ _ _ _ (c .count3 .ensures)
+cast-costs : tie.Need-cast-costs
+cast-costs c = let few = cost-most _ _ _ _ (c .before .cost .ensures) in search needs
 
 mul-costs : tie.Need-mul-costs
 mul-costs c = let known = c .before .before .before .before .before .before .before .before .before .before .before .before .before .before .before .before .before .before .before .before .before .before .before .pre .known in search needs
@@ -49,7 +48,7 @@ slice-aggregate-word-2 : tie.Need-slice-aggregate-word-2
 slice-aggregate-word-2 c = search needs
 
 word-requires-2 : tie.Need-word-requires-2
-word-requires-2 c κs = let moved = number-inside _ _ _ _ _ (c .before .before .before .before .before .before .before .effects-of .ensures .inside) (c .before .before .count3 .ensures) in search (needs, moved)
+word-requires-2 c κs = let moved = number-inside _ _ _ _ _ (c .before .before .before .before .before .before .before .effects-of .ensures .inside) (c .before .before .cost .ensures) in search (needs, moved)
 
 same-length : tie.Need-same-length
 same-length c = search needs
@@ -62,7 +61,7 @@ same-length-3 c = search needs
 
 returns : tie.Need-returns
 unfolding ascii
-returns c = operator-read _ _ _ _ _ _ _ _ _ _ _ _ _ _ _ _ _ _ _ _ _ _ (c .before .before .before .before .before .before .before .before .before .before .before .before .before .before .before .before .before .before .word .ensures) (c .before .before .before .before .before .before .before .before .before .before .before .before .before .before .before .before .before .name .ensures) (c .before .before .before .before .before .before .before .before .before .before .before .before .before .before .before .before .count .ensures) (c .before .before .before .before .before .before .before .before .before .before .before .before .before .before .conditions .ensures) (c .before .before .before .before .before .before .before .before .before .before .before .count2 .ensures) (c .before .before .before .before .before .before .before .before .effects-of .ensures) (c .before .before .before .count3 .ensures) (c .word2 .ensures) (c .before .before .cost-by .ensures) refl
+returns c = operator-read _ _ _ _ _ _ _ _ _ _ _ _ _ _ _ _ _ _ _ _ _ (c .before .before .before .before .before .before .before .before .before .before .before .before .before .before .before .before .before .before .word .ensures) (c .before .before .before .before .before .before .before .before .before .before .before .before .before .before .before .before .before .name .ensures) (c .before .before .before .before .before .before .before .before .before .before .before .before .before .before .before .before .count .ensures) (c .before .before .before .before .before .before .before .before .before .before .before .before .before .before .conditions .ensures) (c .before .before .before .before .before .before .before .before .before .before .before .count2 .ensures) (c .before .before .before .before .before .before .before .before .effects-of .ensures) (c .before .before .before .cost .ensures) (c .word2 .ensures) refl
 
 pub operator-spec : {M : Type 1} → statement M
 operator-spec =
@@ -76,8 +75,8 @@ operator-spec =
     conditions-requires
     count-requires-2
     effects-of-requires
-    count-requires-3
-    cost-by-requires
+    cost-requires
+    cast-costs
     mul-costs
     slice-write-costs
     slice-aggregate-word-2

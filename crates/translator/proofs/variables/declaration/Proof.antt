@@ -30,12 +30,12 @@ slice-aggregate-word-2 c = search needs
 word-requires-2 : tie.Need-word-requires-2
 word-requires-2 c κs = let values = after-inside _ _ _ _ (number-inside _ _ _ _ _ (layer-inside _ _ _ (field-inside _ _ _ _ (field-inside _ _ _ _ (c .before .before .before .before .before .before .before .before .pre) (c .before .before .before .before .before .word .ensures)) (c .before .before .before .before .name .ensures)) (c .before .before .before .layer .ensures)) (c .before .before .size .ensures)) (c .before .names .ensures) in search (needs, values)
 
-settled-requires : tie.Need-settled-requires
-settled-requires c κs = search needs
+with-number-requires : tie.Need-with-number-requires
+with-number-requires c κs = search needs
 
 returns : tie.Need-returns
 unfolding ascii
-returns c = declaration-read _ _ _ _ _ _ _ _ _ (c .before .before .before .before .before .before .before .word .ensures) (c .before .before .before .before .before .before .name .ensures) (c .before .before .before .before .before .layer .ensures) (c .before .before .before .before .size .ensures) (c .before .before .before .names .ensures) (c .before .word2 .ensures) (c .settled .ensures)
+returns c = declaration-read _ _ _ _ _ _ _ _ _ (c .before .before .before .before .before .before .before .word .ensures) (c .before .before .before .before .before .before .name .ensures) (c .before .before .before .before .before .layer .ensures) (c .before .before .before .before .size .ensures) (c .before .before .before .names .ensures) (c .before .word2 .ensures) (c .with-number .ensures)
 
 pub declaration-spec : {M : Type 1} → statement M
 declaration-spec =
@@ -49,5 +49,5 @@ declaration-spec =
     names-requires
     slice-aggregate-word-2
     word-requires-2
-    settled-requires
+    with-number-requires
     returns)

@@ -2,7 +2,7 @@
 use mathlib.Core.Path.{_≡_, refl}
 use Rattle.translator.specs.Contracts.{Inside}
 use Rattle.translator.specs.Fields.{name}
-use Rattle.translator.specs.Format.{after}
+use Rattle.translator.specs.Format.{cursorAfter}
 use Rattle.translator.specs.Text.{nameLines}
 use Rattle.translator.proofs.InsideReading.{field-inside}
 use Rattle.translator.proofs.VariableReading.{name-next, names-end}
@@ -11,7 +11,7 @@ use Rattle.translator.proofs.variables.names.Statement.{statement}
 use Rattle.translator.proofs.variables.names.Tie as tie
 
 abbrev Inv-loop : tie.InvT-loop
-Inv-loop s count here₀ left₀ here left = (after (nameLines left) s here ≡ after (nameLines count) s here₀) × Inside s (here .at)
+Inv-loop s count here₀ left₀ here left = (cursorAfter (nameLines left) s here ≡ cursorAfter (nameLines count) s here₀) × Inside s (here .at)
 
 abbrev μ-loop : tie.MeasureT-loop
 μ-loop s count here₀ left₀ here left = left

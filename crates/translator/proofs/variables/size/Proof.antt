@@ -15,12 +15,12 @@ judged-requires c κs = search needs
 judged-requires-2 : tie.Need-judged-requires-2
 judged-requires-2 c κs = search needs
 
-settled-requires : tie.Need-settled-requires
-settled-requires c κs = search needs
+with-number-requires : tie.Need-with-number-requires
+with-number-requires c κs = search needs
 
 returns : tie.Need-returns
-returns c = size-read _ _ _ (c .before .before .before .before .number .ensures lineFeed refl) _ _ _ (c .before .before .judged .ensures) (c .before .judged2 .ensures) (c .settled .ensures)
+returns c = size-read _ _ _ (c .before .before .before .before .number .ensures lineFeed refl) _ _ _ (c .before .before .judged .ensures) (c .before .judged2 .ensures) (c .with-number .ensures)
 
 pub size-spec : {M : Type 1} → statement M
 size-spec =
-    tie.close (tie.spec number-requires judged-requires judged-requires-2 settled-requires returns)
+    tie.close (tie.spec number-requires judged-requires judged-requires-2 with-number-requires returns)
