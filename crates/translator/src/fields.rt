@@ -33,6 +33,13 @@ const ONE: u8 = 49;
 
 const NINE: u8 = 57;
 
+// The same, read as numbers.
+const MINUS_SIGN: usize = MINUS as usize;
+
+const DIGIT_ZERO: usize = ZERO as usize;
+
+pub const DIGIT_ONE: usize = ONE as usize;
+
 // The largest number that is told from larger ones: above every limit, and more than a text has bytes.
 const MOST: usize = 1048576;
 
@@ -154,7 +161,7 @@ fn next_value(value: usize, digit: u8) -> usize
     requires { ⌜ DigitBehind value digit ⌝ }
     ensures { λ r. ⌜ r ≡ capped (10 * value + (digit - 48)) ⌝ }
 {
-    let next = 10 * value + (digit as usize - 48);
+    let next = 10 * value + (digit as usize - DIGIT_ZERO);
     if MOST < next {
         return MOST;
     }
@@ -196,7 +203,7 @@ fn numeral(s: &[u8], at: usize) -> Found
     requires { ⌜ Inside (now s) at ⌝ }
     ensures { λ r. ⌜ r ≡ numeralFound (drop at (now (s .entry))) ⌝ }
 {
-    if bytes::byte_at(s, at) == 48 {
+    if bytes::byte_at(s, at) == DIGIT_ZERO {
         return Found { count: 1, value: 0 };
     }
     digits(s, at)
@@ -252,7 +259,7 @@ pub fn signed(s: &[u8], c: Cursor, separator: u8) -> ReadNumber
     if before.number != 0 {
         return with_number(c, 0);
     }
-    if bytes::byte_at(s, c.at) != 45 {
+    if bytes::byte_at(s, c.at) != MINUS_SIGN {
         return number(s, c, separator);
     }
     let w = [MINUS, ONE, separator];

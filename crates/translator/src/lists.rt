@@ -11,6 +11,9 @@ use files::decode;
 use files::limits;
 use files::outcomes;
 
+// A cell without a pair, read as a number.
+const NO_PAIR: usize = limits::NO_PAIR as usize;
+
 // Whether the row at `base` has no pair on a variable.
 fn is_new(row: &[u8], base: usize, variable: usize) -> bool
     requires { ⌜ RowInside (now row) base ⌝ }
@@ -19,7 +22,7 @@ fn is_new(row: &[u8], base: usize, variable: usize) -> bool
     if limits::ROW <= variable {
         return true;
     }
-    bytes::byte_at(row, base + variable) == 255
+    bytes::byte_at(row, base + variable) == NO_PAIR
 }
 
 // A variable of which neither row has a pair, and which is one of the task's.

@@ -33,7 +33,7 @@ fn metric(s: &[u8], c: Cursor) -> ReadNumber
     requires { ⌜ Inside (now s) (c .at) ⌝ }
     ensures { λ r. ⌜ r ≡ metricAfter (now (s .entry)) c ⌝ }
 {
-    if bytes::byte_at(s, c.at) == 49 {
+    if bytes::byte_at(s, c.at) == fields::DIGIT_ONE {
         let one = fields::word(s, c, b"1\n");
         return fields::with_number(one, 1);
     }
