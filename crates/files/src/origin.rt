@@ -1,21 +1,24 @@
-// Origin files: the check of each record in the order of refusals.
+// Origin files: the check of each record in the order of refusals, and what an accepted file holds.
 ghost use mathlib.Core.Path.{_≡_};
 ghost use Prim.Native.Nat.{_+_, _*_, _^_, _<_};
+ghost use lib.ListN.{length, getD};
+ghost use Rattle.files.specs.Bytes.{u16At};
 ghost use Rattle.files.specs.Contracts.{IsBelow, IsAtMost, Behind};
-ghost use Rattle.files.specs.OriginFile.{valuesIn, leastAfter, variableOriginAt, variableOriginsAt, actionOriginsAt, originVariablesIn, originActionsPlace};
-ghost use Rattle.files.specs.Records.{offsetLimit};
+ghost use Rattle.files.specs.OriginFile.{valuesIn, leastAfter, variableOriginAt, variableOriginsAt, actionOriginsAt, originVariablesIn, originActionsPlace, originOf};
+ghost use Rattle.files.specs.Records.{offsetLimit, recordsEnd};
 use crate::Outcome;
 use crate::bytes;
 use crate::limits;
 use crate::outcomes;
 use crate::records;
 use crate::runs;
+use crate::units::OriginalAction;
 
 // Up to how many variable origins are counted: one more than can pass.
 const COUNTED: usize = limits::MOST_VARIABLES + 1;
 
 // How many values the variable origin at `at` gives.
-fn values_in(s: &[u8], at: usize) -> usize
+pub fn values_in(s: &[u8], at: usize) -> usize
     ensures { λ r. ⌜ IsBelow r (valuesIn (now (s .entry)) at) 65536 ⌝ }
 {
     let body = records::body_length(s, at);
@@ -100,7 +103,7 @@ pub(crate) fn check_actions(s: &[u8], at: usize, count: usize) -> Outcome
 }
 
 // How many records of kind 6 stand in a row at the file's start, counted up to `COUNTED`.
-pub(crate) fn variables_in(s: &[u8]) -> usize
+pub fn variables_in(s: &[u8]) -> usize
     ensures { λ r. ⌜ IsAtMost r (originVariablesIn (now (s .entry))) 65 ⌝ }
 {
     COUNTED - runs::run_from(s, 0, runs::ORIGINS, COUNTED).left
@@ -111,4 +114,43 @@ pub fn actions_place(s: &[u8]) -> usize
     ensures { λ r. ⌜ IsBelow r (originActionsPlace (now (s .entry))) 8589934592 ⌝ }
 {
     runs::run_from(s, 0, runs::ORIGINS, COUNTED).at
+}
+
+// Where the origin of variable `i` stands.
+pub fn variable_place(s: &[u8], i: usize) -> usize
+    requires { ⌜ i < 65536 ⌝ }
+    ensures { λ r. ⌜ IsBelow r (recordsEnd (now (s .entry)) 0 i) 8589934592 ⌝ }
+{
+    runs::run_from(s, 0, runs::ANY, i).at
+}
+
+// The original number of the variable whose origin stands at `at`, and the new value of its old
+// value `d`.
+pub fn variable_at(s: &[u8], at: usize) -> usize
+    requires { ⌜ at < offsetLimit ⌝ }
+    ensures { λ r. ⌜ IsBelow r (u16At (now (s .entry)) (at + 4)) 65536 ⌝ }
+{
+    bytes::u16_at(s, at + 4)
+}
+
+pub fn value_at(s: &[u8], at: usize, d: usize) -> usize
+    requires { ⌜ at + 2 * d < offsetLimit ⌝ }
+    ensures { λ r. ⌜ IsBelow r (u16At (now (s .entry)) (at + 6 + 2 * d)) 65536 ⌝ }
+{
+    bytes::u16_at(s, at + 6 + 2 * d)
+}
+
+// How many actions a file names, and the original number of action `i` of them.
+pub fn actions_in(s: &[u8]) -> usize
+    ensures { λ r. ⌜ IsBelow r (length (originOf (now (s .entry)) .actions)) 32768 ⌝ }
+{
+    records::body_length(s, actions_place(s)) / 2
+}
+
+pub fn action(s: &[u8], i: usize) -> OriginalAction
+    requires { ⌜ i < length (originOf (now s) .actions) ⌝ }
+    ensures { λ r. ⌜ r .0 ≡ getD (originOf (now (s .entry)) .actions) i 0 ⌝ }
+{
+    let number = bytes::u16_at(s, actions_place(s) + 4 + 2 * i);
+    OriginalAction(number as u16)
 }

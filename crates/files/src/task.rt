@@ -84,12 +84,19 @@ pub(crate) fn check_variables(s: &[u8], at: usize, count: usize) -> Outcome
     outcomes::done()
 }
 
+// The domain size of a variable.
+pub fn size_of(s: &[u8], variable: usize) -> usize
+    requires { ⌜ variable < 65536 ⌝ }
+    ensures { λ r. ⌜ IsBelow r (sizeAt (now (s .entry)) variable) 65536 ⌝ }
+{
+    bytes::u16_at(s, 8 * variable + 8 + 4)
+}
+
 // The domain size of the variable whose number stands at `at`.
 fn size_at(s: &[u8], at: usize) -> usize
     ensures { λ r. ⌜ r ≡ sizeAt (now (s .entry)) (u16At (now (s .entry)) at) ⌝ }
 {
-    let variable = bytes::u16_at(s, at);
-    bytes::u16_at(s, 8 * variable + 8 + 4)
+    size_of(s, bytes::u16_at(s, at))
 }
 
 // The pair at `at`, whose variable is to be `at_least` or above.

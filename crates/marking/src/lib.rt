@@ -4,6 +4,7 @@ mod cells;
 mod covering;
 pub mod gains;
 pub mod links;
+pub mod marks;
 mod results;
 pub mod rounds;
 

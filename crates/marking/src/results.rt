@@ -7,6 +7,7 @@ ghost use Rattle.files.specs.Bytes.{placed};
 ghost use Rattle.files.specs.Contracts.{IsAtMost, Writable};
 ghost use Rattle.marking.specs.Contracts.{Summable, ValuesWithin, SizesWithin};
 ghost use Rattle.marking.specs.Dense.{factByte, factBytes};
+use crate::marks;
 use files::limits;
 
 // The sum of the first `count` bytes.
@@ -37,14 +38,18 @@ pub fn write_actions(marks: &mut [u8], kept: &[u8; 512], actions: usize)
     }
 }
 
-// The byte of a fact: 0; 1 relevant; 2 relevant and linked.
+// The mark of a fact.
 fn fact_mark(fact: u8, unlinked: u8) -> u8
     ensures { λ r. ⌜ r ≡ factByte fact unlinked ⌝ }
 {
     if fact != 1 {
         return 0;
     }
-    if unlinked == 1 { 1 } else { 2 }
+    if unlinked == 1 {
+        marks::RELEVANT
+    } else {
+        marks::LINKED
+    }
 }
 
 // The bytes of a variable's values, from `at` on.
