@@ -1,0 +1,66 @@
+-- The marks are printed up to a place within them, and the buffer keeps its length.
+use mathlib.Core.Path.{_≡_}
+use Prim.Native.Nat.{_-_, _≤_}
+use lib.ListN.{length}
+use borrow.Author.Needs.{needs}
+use Rattle.changeover.proofs.marks.put_kept.Statement.{statement}
+use Rattle.changeover.proofs.marks.put_kept.Tie as tie
+use Rattle.changeover.proofs.marks.put_action.Reads as put-action-reads
+use Rattle.files.proofs.task.actions_in.Reads as actions-in-reads
+
+abbrev Inv-loop : tie.InvT-loop
+Inv-loop buffer₀ file actions count next₀ a₀ buffer next a = (length buffer ≡ length buffer₀) × (a ≤ count)
+
+abbrev μ-loop : tie.MeasureT-loop
+μ-loop buffer₀ file actions count next₀ a₀ buffer next a = count - a
+
+actions-in-requires : tie.Need-actions-in-requires Inv-loop μ-loop
+actions-in-requires c κs = search needs
+
+loop-holds : tie.Need-loop-holds Inv-loop μ-loop
+loop-holds c = search needs
+
+shared-slice-read-put-action : tie.Need-shared-slice-read-put-action Inv-loop μ-loop
+shared-slice-read-put-action c = search needs
+
+put-action-requires : tie.Need-put-action-requires Inv-loop μ-loop
+put-action-requires c κs = search needs
+
+add-a : tie.Need-add-a Inv-loop μ-loop
+add-a c = search needs
+
+loop-less : tie.Need-loop-less Inv-loop μ-loop
+loop-less c = search needs
+
+loop-again : tie.Need-loop-again Inv-loop μ-loop
+loop-again c = search needs
+
+same-length : tie.Need-same-length Inv-loop μ-loop
+same-length c = search needs
+
+returns : tie.Need-returns Inv-loop μ-loop
+returns c = search needs
+
+same-length-2 : tie.Need-same-length-2 Inv-loop μ-loop
+same-length-2 c = search needs
+
+returns-2 : tie.Need-returns-2 Inv-loop μ-loop
+returns-2 c = search needs
+
+pub put-kept-spec : {M : Type 1} → statement M
+put-kept-spec =
+    tie.close
+    (tie.spec
+    Inv-loop
+    μ-loop
+    actions-in-requires
+    loop-holds
+    shared-slice-read-put-action
+    put-action-requires
+    add-a
+    loop-less
+    loop-again
+    same-length
+    returns
+    same-length-2
+    returns-2)

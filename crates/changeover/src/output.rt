@@ -1,0 +1,143 @@
+// Files written under another name and then put in place, so that a name always has a whole file.
+ghost use Rattle.io.specs.Counts.{Counts};
+
+// How far two files have come.
+pub enum Written {
+    Both,
+    NotFirst,
+    NotSecond,
+}
+
+// Writes the first `count` bytes to a file.
+pub fn write(name: &[u8], bytes: &[u8], count: usize) -> bool {
+    prepare(name, bytes, count) && place(name)
+}
+
+// Writes two files, both of them whole before the first gets its name.
+pub fn write_two(
+    first: &[u8],
+    first_bytes: &[u8],
+    first_count: usize,
+    second: &[u8],
+    second_bytes: &[u8],
+    second_count: usize,
+) -> Written {
+    if !prepare(first, first_bytes, first_count) {
+        return Written::NotFirst;
+    }
+    if !prepare(second, second_bytes, second_count) {
+        withdraw(first);
+        return Written::NotSecond;
+    }
+    if !place(first) {
+        withdraw(second);
+        return Written::NotFirst;
+    }
+    if !place(second) {
+        return Written::NotSecond;
+    }
+    Written::Both
+}
+
+// Writes the first `count` bytes, which are there, to a file NAME.new, which is not. Where the system
+// refuses, it says why, and the file is not left behind.
+fn prepare(name: &[u8], bytes: &[u8], count: usize) -> bool {
+    if bytes.len() < count {
+        return false;
+    }
+    let mut path = [0u8; 16388];
+    let length = new_name(name, &mut path);
+    if is_folder(name) {
+        os::fail(name);
+        return false;
+    }
+    let fd = os::create(&path[..length]);
+    if fd < 0 {
+        os::fail(&path[..length]);
+        return false;
+    }
+    let is_written = write_whole(fd, &bytes[0..count], &path[..length]);
+    if !is_written {
+        os::unlink(&path[..length]);
+    }
+    is_written
+}
+
+// Gives a file that is prepared its name. Where the system refuses, it says why, and the file is not
+// left behind.
+fn place(name: &[u8]) -> bool {
+    let mut path = [0u8; 16388];
+    let length = new_name(name, &mut path);
+    let is_placed = os::rename(&path[..length], name) == 0;
+    if !is_placed {
+        os::fail(name);
+        os::unlink(&path[..length]);
+    }
+    is_placed
+}
+
+// Removes a file that is prepared.
+fn withdraw(name: &[u8]) {
+    let mut path = [0u8; 16388];
+    let length = new_name(name, &mut path);
+    os::unlink(&path[..length]);
+}
+
+// Whether the name is that of a folder, whose place no file takes.
+fn is_folder(name: &[u8]) -> bool {
+    let fd = os::open_update(name);
+    if fd < 0 {
+        return os::errno() == libc::EISDIR;
+    }
+    libc::close(fd);
+    false
+}
+
+// Writes to a file up to its device, and closes it.
+fn write_whole(fd: i32, bytes: &[u8], path: &[u8]) -> bool {
+    let is_written = io::write_all(fd, bytes) && libc::fsync(fd) == 0;
+    if !is_written {
+        os::fail(path);
+    }
+    let is_closed = libc::close(fd) == 0;
+    if is_written && !is_closed {
+        os::fail(path);
+    }
+    is_written && is_closed
+}
+
+// Puts a name with its ending into `path`, and answers its length; 0, which no file's name has, where there is no
+// room.
+fn new_name(name: &[u8], path: &mut [u8]) -> usize
+    ensures { λ r. ⌜ Counts r (now (path .exit)) ⌝ }
+{
+    let length = name.len();
+    if path.len() < 4 {
+        return 0;
+    }
+    if path.len() - 4 < length {
+        return 0;
+    }
+    copy(name, path);
+    copy(b".new", &mut path[length..]);
+    within(path, length + 4)
+}
+
+// So many bytes, or 0 where there are fewer.
+fn within(bytes: &[u8], count: usize) -> usize
+    ensures { λ r. ⌜ Counts r (now (bytes .entry)) ⌝ }
+{
+    if bytes.len() < count {
+        return 0;
+    }
+    count
+}
+
+// Copies bytes, as far as there is room.
+fn copy(from: &[u8], to: &mut [u8]) {
+    let mut i: usize = 0;
+    while i < from.len() && i < to.len() {
+        to[i] = from[i];
+        i += 1;
+    }
+}
