@@ -1,5 +1,6 @@
-//! The programs that README.md shows: those that plan task E stand there whole,
-//! and one gives its file from a text of the translator.
+//! What README.md shows: the programs that plan task E stand there whole, one
+//! gives its file from a text of the translator, and each command line that
+//! has a `$` before it prints what stands below it.
 
 use std::fs::File;
 use std::path::{Path, PathBuf};
@@ -78,4 +79,39 @@ fn the_translation() {
     assert!(!none.status.success());
     assert_eq!(none.stderr, b"refused 31 at 0\n");
     assert!(none.stdout.is_empty());
+}
+
+/// The command lines of README.md, each with what it is said to print.
+fn shown() -> Vec<(&'static str, String)> {
+    let mut shown: Vec<(&str, String)> = Vec::new();
+    let mut below = false;
+    for line in README.lines() {
+        if let Some(command) = line.strip_prefix("    $ ") {
+            shown.push((command, String::new()));
+            below = true;
+        } else if let Some(text) = line.strip_prefix("    ").filter(|_| below) {
+            let printed = &mut shown.last_mut().unwrap().1;
+            printed.push_str(text);
+            printed.push('\n');
+        } else {
+            below = false;
+        }
+    }
+    shown
+}
+
+#[test]
+fn the_command_lines() {
+    let shown = shown();
+    assert!(shown.len() > 15);
+    for (command, printed) in shown {
+        let run = Command::new("sh")
+            .args(["-c", command])
+            .current_dir(at_root("."))
+            .output()
+            .unwrap();
+        let hint = "after `rt check changeover shortest cases`";
+        assert!(run.status.success(), "{hint}: {command}");
+        assert_eq!(String::from_utf8(run.stdout).unwrap(), printed, "{command}");
+    }
 }
