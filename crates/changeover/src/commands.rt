@@ -18,15 +18,13 @@ pub fn run(text: &[u8], given: Words, buffer: &mut [u8], printed: Printed) -> Pr
         return usage::failed(buffer, printed, command);
     }
     match command {
-        Command::CheckPlan => run_on_two(command, text, given, buffer, printed),
-        Command::Sheet => run_on_two(command, text, given, buffer, printed),
         // standard input has no commands that read it
         Command::Lines => usage::failed(buffer, printed, Command::Unknown),
         _ => run_on_one(command, text, given, buffer, printed),
     }
 }
 
-// Runs a command that reads one file.
+// Reads the file that a command names first.
 fn run_on_one(
     command: Command,
     text: &[u8],
@@ -41,7 +39,18 @@ fn run_on_one(
         return lines::failed(buffer, printed, name);
     }
     let length = read.length;
-    let file = &space[..length];
+    run_on_file(command, &space[..length], text, given, buffer, printed)
+}
+
+// Runs a command on its file.
+fn run_on_file(
+    command: Command,
+    file: &[u8],
+    text: &[u8],
+    given: Words,
+    buffer: &mut [u8],
+    printed: Printed,
+) -> Printed {
     match command {
         Command::Check => check(file, buffer, printed),
         Command::Show => show(file, buffer, printed),
@@ -49,37 +58,30 @@ fn run_on_one(
         Command::Reduce => reduce(file, text, given, buffer, printed),
         Command::Plan => plan(file, text, given, buffer, printed),
         Command::Translate => translate(file, text, given, buffer, printed),
-        _ => printed,
+        _ => run_on_task(command, file, text, given, buffer, printed),
     }
 }
 
-// Runs a command that reads a task file and a plan file.
-fn run_on_two(
+// Reads the plan file that a command names second, and runs the command on its two files.
+fn run_on_task(
     command: Command,
+    task: &[u8],
     text: &[u8],
     given: Words,
     buffer: &mut [u8],
     printed: Printed,
 ) -> Printed {
-    let task_name = words::word(text, given, 1);
-    let mut task_space = [0u8; 65537];
-    let task_read = input::read(task_name, &mut task_space);
-    if !task_read.is_whole {
-        return lines::failed(buffer, printed, task_name);
+    let name = words::word(text, given, 2);
+    let mut space = [0u8; 65537];
+    let read = input::read(name, &mut space);
+    if !read.is_whole {
+        return lines::failed(buffer, printed, name);
     }
-    let plan_name = words::word(text, given, 2);
-    let mut plan_space = [0u8; 65537];
-    let plan_read = input::read(plan_name, &mut plan_space);
-    if !plan_read.is_whole {
-        return lines::failed(buffer, printed, plan_name);
-    }
-    let task_length = task_read.length;
-    let plan_length = plan_read.length;
-    let task = &task_space[..task_length];
-    let plan = &plan_space[..plan_length];
+    let length = read.length;
+    let plan = &space[..length];
     match command {
         Command::Sheet => sheet(task, plan, text, given, buffer, printed),
-        _ => check_plan(task, plan, plan_name, buffer, printed),
+        _ => check_plan(task, plan, name, buffer, printed),
     }
 }
 
