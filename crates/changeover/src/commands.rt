@@ -1,135 +1,109 @@
 // What each command does: it reads its files, makes its call, writes its files and prints how it ended.
 use crate::input;
-use crate::lines;
-use crate::lines::Printed;
 use crate::marks;
 use crate::output;
 use crate::output::Written;
+use crate::printer::Printer;
 use crate::show;
 use crate::usage;
 use crate::usage::Command;
-use crate::words;
 use crate::words::Words;
 
 // Runs the command of a line or of the arguments.
-pub fn run(text: &[u8], given: Words, buffer: &mut [u8], printed: Printed) -> Printed {
-    let command = usage::named(words::word(text, given, 0));
+pub fn run(out: Printer, text: &[u8], given: Words) -> Printer {
+    let command = usage::named(given.at(text, 0));
     if !usage::fits(command, text, given) {
-        return usage::failed(buffer, printed, command);
+        return usage::failed(out, command);
     }
     match command {
-        // standard input has no commands that read it
-        Command::Lines => usage::failed(buffer, printed, Command::Unknown),
-        _ => run_on_one(command, text, given, buffer, printed),
+        // standard input has no command that reads it
+        Command::Lines => usage::failed(out, Command::Unknown),
+        _ => run_on_name(out, command, text, given),
     }
 }
 
 // Reads the file that a command names first.
-fn run_on_one(
-    command: Command,
-    text: &[u8],
-    given: Words,
-    buffer: &mut [u8],
-    printed: Printed,
-) -> Printed {
-    let name = words::word(text, given, 1);
+fn run_on_name(out: Printer, command: Command, text: &[u8], given: Words) -> Printer {
+    let name = given.at(text, 1);
     let mut space = [0u8; 65537];
     let read = input::read(name, &mut space);
     if !read.is_whole {
-        return lines::failed(buffer, printed, name);
+        return out.failed(name);
     }
     let length = read.length;
-    run_on_file(command, &space[..length], text, given, buffer, printed)
+    run_on_file(out, command, &space[..length], text, given)
 }
 
 // Runs a command on its file.
-fn run_on_file(
-    command: Command,
-    file: &[u8],
-    text: &[u8],
-    given: Words,
-    buffer: &mut [u8],
-    printed: Printed,
-) -> Printed {
+fn run_on_file(out: Printer, command: Command, file: &[u8], text: &[u8], given: Words) -> Printer {
     match command {
-        Command::Check => check(file, buffer, printed),
-        Command::Show => show(file, buffer, printed),
-        Command::Mark => mark(file, text, given, buffer, printed),
-        Command::Reduce => reduce(file, text, given, buffer, printed),
-        Command::Plan => plan(file, text, given, buffer, printed),
-        Command::Translate => translate(file, text, given, buffer, printed),
-        _ => run_on_task(command, file, text, given, buffer, printed),
+        Command::Check => check(out, file),
+        Command::Show => show(out, file),
+        Command::Mark => mark(out, file, given.number(text, 2)),
+        Command::Reduce => reduce(out, file, text, given),
+        Command::Plan => plan(out, file, given.number(text, 2), given.at(text, 3)),
+        Command::Translate => translate(out, file, given.number(text, 2), given.at(text, 3)),
+        _ => run_on_task(out, command, file, text, given),
     }
 }
 
 // Reads the plan file that a command names second, and runs the command on its two files.
-fn run_on_task(
-    command: Command,
-    task: &[u8],
-    text: &[u8],
-    given: Words,
-    buffer: &mut [u8],
-    printed: Printed,
-) -> Printed {
-    let name = words::word(text, given, 2);
+fn run_on_task(out: Printer, command: Command, task: &[u8], text: &[u8], given: Words) -> Printer {
+    let name = given.at(text, 2);
     let mut space = [0u8; 65537];
     let read = input::read(name, &mut space);
     if !read.is_whole {
-        return lines::failed(buffer, printed, name);
+        return out.failed(name);
     }
     let length = read.length;
-    let plan = &space[..length];
     match command {
-        Command::Sheet => sheet(task, plan, text, given, buffer, printed),
-        _ => check_plan(task, plan, name, buffer, printed),
+        Command::Sheet => sheet(out, task, &space[..length], name, given.at(text, 3)),
+        _ => check_plan(out, task, &space[..length], name),
     }
 }
 
-fn check(file: &[u8], buffer: &mut [u8], printed: Printed) -> Printed {
+fn check(out: Printer, file: &[u8]) -> Printer {
     let checked = show::check_file(file);
     let kind = checked.kind;
     let outcome = checked.outcome;
     if outcome.number != 0 {
-        return lines::refused(buffer, printed, outcome);
+        return out.refused(outcome, b"");
     }
-    let next = lines::put(buffer, printed, b"done ");
-    show::put_counts(buffer, next, kind, file)
+    show::put_counts(out.text(b"done "), kind, file)
 }
 
-fn show(file: &[u8], buffer: &mut [u8], printed: Printed) -> Printed {
+fn show(out: Printer, file: &[u8]) -> Printer {
     let checked = show::check_file(file);
     let kind = checked.kind;
     let outcome = checked.outcome;
     if outcome.number != 0 {
-        return lines::refused(buffer, printed, outcome);
+        return out.refused(outcome, b"");
     }
-    let next = show::put_file(buffer, printed, kind, file);
-    lines::put(buffer, next, b"done\n")
+    show::put_file(out, kind, file).text(b"done\n")
 }
 
-fn mark(file: &[u8], text: &[u8], given: Words, buffer: &mut [u8], printed: Printed) -> Printed {
-    let level = words::number(text, given, 2);
+fn mark(out: Printer, file: &[u8], level: u32) -> Printer {
     let mut actions = [0u8; 512];
     let mut facts = [0u8; 2048];
     let marked = marking::mark(file, level, &mut actions, &mut facts);
     let outcome = marked.outcome;
     if outcome.number != 0 {
-        return lines::refused(buffer, printed, outcome);
+        return out.refused(outcome, b"");
     }
-    let next = marks::put_kept(buffer, printed, file, &actions);
-    let next = marks::put_relevant(buffer, next, file, &facts);
-    lines::put_line(buffer, next, b"done rounds ", marked.rounds)
+    let next = marks::put_kept(out, file, &actions);
+    let next = marks::put_relevant(next, file, &facts);
+    next.labelled(b"done rounds ", marked.rounds).end()
 }
 
-fn reduce(file: &[u8], text: &[u8], given: Words, buffer: &mut [u8], printed: Printed) -> Printed {
+fn reduce(out: Printer, file: &[u8], text: &[u8], given: Words) -> Printer {
     let mut actions = [0u8; 512];
     let mut facts = [0u8; 2048];
     let mut task = [0u8; 65536];
     let mut origin = [0u8; 5520];
     let reduced = reduction::reduce(
         file,
-        words::number(text, given, 2),
-        words::number(text, given, 3),
+        given.number(text, 2),
+        given.number(text, 3),
         &mut actions,
         &mut facts,
         &mut task,
@@ -137,32 +111,49 @@ fn reduce(file: &[u8], text: &[u8], given: Words, buffer: &mut [u8], printed: Pr
     );
     let outcome = reduced.outcome;
     if outcome.number != 0 {
-        return lines::refused(buffer, printed, outcome);
+        return out.refused(outcome, b"");
     }
-    let first = words::word(text, given, 4);
-    let second = words::word(text, given, 5);
-    let written = output::write_two(
-        first,
+    write_reduced(
+        out,
+        reduced,
         &task,
-        reduced.reduced,
-        second,
+        given.at(text, 4),
         &origin,
+        given.at(text, 5),
+    )
+}
+
+fn write_reduced(
+    out: Printer,
+    reduced: reduction::Reduced,
+    task: &[u8],
+    task_name: &[u8],
+    origin: &[u8],
+    origin_name: &[u8],
+) -> Printer {
+    let written = output::write_two(
+        task_name,
+        task,
+        reduced.reduced,
+        origin_name,
+        origin,
         reduced.origin,
     );
     match written {
-        Written::NotFirst => lines::failed(buffer, printed, first),
-        Written::NotSecond => lines::failed(buffer, printed, second),
-        Written::Both => put_reduced(buffer, printed, reduced),
+        Written::NotFirst => out.failed(task_name),
+        Written::NotSecond => out.failed(origin_name),
+        Written::Both => put_reduced(out, reduced),
     }
 }
 
-fn put_reduced(buffer: &mut [u8], printed: Printed, reduced: reduction::Reduced) -> Printed {
-    let next = lines::put_labelled(buffer, printed, b"done rounds ", reduced.rounds);
-    let next = lines::put_labelled(buffer, next, b" reduced ", reduced.reduced);
-    lines::put_line(buffer, next, b" origin ", reduced.origin)
+fn put_reduced(out: Printer, reduced: reduction::Reduced) -> Printer {
+    let next = out.labelled(b"done rounds ", reduced.rounds);
+    next.labelled(b" reduced ", reduced.reduced)
+        .labelled(b" origin ", reduced.origin)
+        .end()
 }
 
-fn plan(file: &[u8], text: &[u8], given: Words, buffer: &mut [u8], printed: Printed) -> Printed {
+fn plan(out: Printer, file: &[u8], signer: u32, name: &[u8]) -> Printer {
     let mut actions = [0u8; 512];
     let mut facts = [0u8; 2048];
     let mut reduced = [0u8; 65536];
@@ -170,7 +161,7 @@ fn plan(file: &[u8], text: &[u8], given: Words, buffer: &mut [u8], printed: Prin
     let mut plan = [0u8; 8206];
     let planned = search::own_table::plan(
         file,
-        words::number(text, given, 2),
+        signer,
         &mut actions,
         &mut facts,
         &mut reduced,
@@ -179,81 +170,52 @@ fn plan(file: &[u8], text: &[u8], given: Words, buffer: &mut [u8], printed: Prin
     );
     let outcome = planned.outcome;
     if outcome.number != 0 {
-        return lines::refused(buffer, printed, outcome);
+        return out.refused(outcome, b"");
     }
-    let name = words::word(text, given, 3);
     if !output::write(name, &plan, planned.plan) {
-        return lines::failed(buffer, printed, name);
+        return out.failed(name);
     }
-    let next = put_total(buffer, printed, planned.cost, planned.steps);
-    lines::end(buffer, next)
+    put_total(out, planned.cost, planned.steps).end()
 }
 
-fn translate(
-    file: &[u8],
-    text: &[u8],
-    given: Words,
-    buffer: &mut [u8],
-    printed: Printed,
-) -> Printed {
-    let signer = words::number(text, given, 2);
+fn translate(out: Printer, text: &[u8], signer: u32, name: &[u8]) -> Printer {
     let mut task = [0u8; 65536];
-    let translated = translator::translate(file, signer, &mut task);
+    let translated = translator::translate(text, signer, &mut task);
     let outcome = translated.outcome;
     if outcome.number != 0 {
-        return lines::refused(buffer, printed, outcome);
+        return out.refused(outcome, b"");
     }
-    let name = words::word(text, given, 3);
     if !output::write(name, &task, translated.file) {
-        return lines::failed(buffer, printed, name);
+        return out.failed(name);
     }
-    lines::put_line(buffer, printed, b"done task ", translated.file)
+    out.labelled(b"done task ", translated.file).end()
 }
 
-fn check_plan(
-    task: &[u8],
-    plan: &[u8],
-    plan_name: &[u8],
-    buffer: &mut [u8],
-    printed: Printed,
-) -> Printed {
+fn check_plan(out: Printer, task: &[u8], plan: &[u8], plan_name: &[u8]) -> Printer {
     let checked = plans::check_plan(task, plan);
     let outcome = checked.outcome;
     if outcome.number != 0 {
-        return lines::refused_in(buffer, printed, outcome, plan_name);
+        return out.refused(outcome, plan_name);
     }
-    let next = put_total(buffer, printed, checked.cost, checked.steps);
-    lines::end(buffer, next)
+    put_total(out, checked.cost, checked.steps).end()
 }
 
-fn sheet(
-    task: &[u8],
-    plan: &[u8],
-    text: &[u8],
-    given: Words,
-    buffer: &mut [u8],
-    printed: Printed,
-) -> Printed {
+fn sheet(out: Printer, task: &[u8], plan: &[u8], plan_name: &[u8], name: &[u8]) -> Printer {
     let mut page = [0u8; 135201];
     let laid = sheets::sheet(task, plan, &mut page);
     let outcome = laid.outcome;
     if outcome.number != 0 {
-        return lines::refused_in(buffer, printed, outcome, words::word(text, given, 2));
+        return out.refused(outcome, plan_name);
     }
-    let name = words::word(text, given, 3);
     if !output::write(name, &page, laid.page) {
-        return lines::failed(buffer, printed, name);
+        return out.failed(name);
     }
-    let next = put_total(buffer, printed, laid.cost, laid.steps);
-    lines::put_line(buffer, next, b" page ", laid.page)
+    put_total(out, laid.cost, laid.steps)
+        .labelled(b" page ", laid.page)
+        .end()
 }
 
-fn put_total(
-    buffer: &mut [u8],
-    printed: Printed,
-    cost: plans::Minutes,
-    steps: plans::Steps,
-) -> Printed {
-    let next = lines::put_labelled(buffer, printed, b"done cost ", cost.0 as usize);
-    lines::put_labelled(buffer, next, b" steps ", steps.0 as usize)
+fn put_total(out: Printer, cost: plans::Minutes, steps: plans::Steps) -> Printer {
+    out.labelled(b"done cost ", cost.0 as usize)
+        .labelled(b" steps ", steps.0 as usize)
 }

@@ -1,22 +1,22 @@
 // The library's calls on files by name: one command by arguments, or a command a line of standard input.
 mod commands;
 mod input;
-mod lines;
 mod marks;
 mod output;
+mod printer;
 mod script;
 mod show;
 mod usage;
 mod words;
 
+use printer::Printer;
+
 fn main() {
     let mut text = [0u8; 16384];
-    let mut buffer = [0u8; 4096];
     let given = words::from_arguments(&mut text);
-    if words::fill(given, 1) && words::alike(words::word(&text, given, 0), b"-") {
-        script::run(&mut text, &mut buffer);
+    if given.fill(1) && words::alike(given.at(&text, 0), b"-") {
+        script::run(&mut text);
         return;
     }
-    let printed = commands::run(&text, given, &mut buffer, lines::NOTHING);
-    lines::flush(&buffer, printed);
+    commands::run(Printer::new(), &text, given).flush();
 }

@@ -25,7 +25,7 @@ pub fn write_two(
     if !prepare(first, first_bytes, first_count) {
         return Written::NotFirst;
     }
-    if !prepare(second, second_bytes, second_count) {
+    if !prepare_apart(second, second_bytes, second_count, first) {
         withdraw(first);
         return Written::NotSecond;
     }
@@ -47,7 +47,7 @@ fn prepare(name: &[u8], bytes: &[u8], count: usize) -> bool {
     }
     let mut path = [0u8; 16388];
     let length = new_name(name, &mut path);
-    if is_folder(name) {
+    if !is_for_files(name) {
         os::fail(name);
         return false;
     }
@@ -61,6 +61,21 @@ fn prepare(name: &[u8], bytes: &[u8], count: usize) -> bool {
         os::unlink(&path[..length]);
     }
     is_written
+}
+
+// The same for a second file, where the first does not take the name under which this one is written.
+fn prepare_apart(name: &[u8], bytes: &[u8], count: usize, first: &[u8]) -> bool {
+    let was_there = is_there(first);
+    if !prepare(name, bytes, count) {
+        return false;
+    }
+    if was_there || !is_there(first) {
+        return true;
+    }
+    withdraw(name);
+    io::write_all(libc::STDERR_FILENO, first);
+    io::write_all(libc::STDERR_FILENO, b": the other file is written here\n");
+    false
 }
 
 // Gives a file that is prepared its name. Where the system refuses, it says why, and the file is not
@@ -83,14 +98,26 @@ fn withdraw(name: &[u8]) {
     os::unlink(&path[..length]);
 }
 
-// Whether the name is that of a folder, whose place no file takes.
-fn is_folder(name: &[u8]) -> bool {
+// Whether a file may take the name: it is not that of a folder, a pipe or a terminal. The last two cannot
+// be written up to a device.
+fn is_for_files(name: &[u8]) -> bool {
     let fd = os::open_update(name);
     if fd < 0 {
-        return os::errno() == libc::EISDIR;
+        return os::errno() != libc::EISDIR;
+    }
+    let is_file = libc::fsync(fd) == 0;
+    libc::close(fd);
+    is_file
+}
+
+// Whether the name can be read, as that of a file that this run has made can.
+fn is_there(name: &[u8]) -> bool {
+    let fd = os::open_read(name);
+    if fd < 0 {
+        return false;
     }
     libc::close(fd);
-    false
+    true
 }
 
 // Writes to a file up to its device, and closes it.

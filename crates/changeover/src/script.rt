@@ -2,8 +2,7 @@
 use crate::commands;
 use crate::input;
 use crate::input::Source;
-use crate::lines;
-use crate::lines::Printed;
+use crate::printer::Printer;
 use crate::words;
 
 // How much of a line is in the text, whether it is a comment, which is printed as it comes, and whether some
@@ -11,95 +10,86 @@ use crate::words;
 struct Line {
     length: usize,
     is_comment: bool,
-    is_cut: bool,
-    printed: Printed,
+    is_long: bool,
+    out: Printer,
 }
 
 // Runs every line, until standard input ends or standard output takes no more.
-pub fn run(text: &mut [u8], buffer: &mut [u8]) {
+pub fn run(text: &mut [u8]) {
     let mut piece = [0u8; 4096];
-    let mut source = input::advance(&mut piece, input::START);
-    let mut line = start(lines::NOTHING);
+    let mut source = input::START;
+    let mut line = start(Printer::new());
     // a proved loop must end, and no input has so many bytes
     let mut turns = u64::MAX;
     while 0 < turns && goes_on(source, line) {
-        line = with_byte(text, buffer, line, source.byte);
         source = input::advance(&mut piece, source);
+        line = with_next(text, line, source);
         turns -= 1;
     }
-    finish(text, buffer, line, source.is_failed);
+    finish(text, line, source.is_failed);
 }
 
 fn goes_on(source: Source, line: Line) -> bool {
-    let printed = line.printed;
-    source.is_open && !printed.is_cut
+    let out = line.out;
+    source.is_open && !out.is_cut
 }
 
 // No byte of a line yet.
-fn start(printed: Printed) -> Line {
+fn start(out: Printer) -> Line {
     Line {
         length: 0,
         is_comment: false,
-        is_cut: false,
-        printed: printed,
+        is_long: false,
+        out: out,
     }
+}
+
+// The line with the next byte of standard input, where it has one.
+fn with_next(text: &mut [u8], line: Line, source: Source) -> Line {
+    if source.is_open {
+        return with_byte(text, line, source.byte);
+    }
+    line
 }
 
 // The line with one byte more, of which a line feed ends it.
-fn with_byte(text: &mut [u8], buffer: &mut [u8], line: Line, byte: u8) -> Line {
+fn with_byte(text: &mut [u8], line: Line, byte: u8) -> Line {
     if byte == b'\n' {
-        return start(run_line(text, buffer, line));
+        return start(run_line(text, line));
     }
-    if line.is_comment || line.length == 0 && byte == b'#' {
-        return Line {
-            length: line.length,
-            is_comment: true,
-            is_cut: line.is_cut,
-            printed: lines::put_byte(buffer, line.printed, byte),
-        };
-    }
-    with_text(text, line, byte)
-}
-
-// The line of a command with one byte more, where there is room.
-fn with_text(text: &mut [u8], line: Line, byte: u8) -> Line {
     let mut next = line;
     let length = line.length;
-    if length < text.len() {
+    if line.is_comment || length == 0 && byte == b'#' {
+        next.is_comment = true;
+        next.out = line.out.byte(byte);
+    } else if length < text.len() {
         text[length] = byte;
         next.length = length + 1;
     } else {
-        next.is_cut = true;
+        next.is_long = true;
     }
     next
 }
 
 // Ends a comment, or runs a command.
-fn run_line(text: &[u8], buffer: &mut [u8], line: Line) -> Printed {
+fn run_line(text: &[u8], line: Line) -> Printer {
     let length = line.length;
     if line.is_comment || text.len() < length {
-        return lines::end(buffer, line.printed);
+        return line.out.end();
     }
     let mut given = words::split(&text[0..length]);
-    given.is_whole = given.is_whole && !line.is_cut;
-    let printed = commands::run(text, given, buffer, line.printed);
-    lines::flush(buffer, printed)
+    given.is_whole = given.is_whole && !line.is_long;
+    commands::run(line.out, text, given).flush()
 }
 
 // Ends the run: what stands behind the last line feed is a line too.
-fn finish(text: &[u8], buffer: &mut [u8], line: Line, is_failed: bool) {
-    let printed = run_last(text, buffer, line);
-    if is_failed {
-        let next = lines::failed(buffer, printed, b"-");
-        lines::flush(buffer, next);
-        return;
-    }
-    lines::flush(buffer, printed);
-}
-
-fn run_last(text: &[u8], buffer: &mut [u8], line: Line) -> Printed {
+fn finish(text: &[u8], line: Line, is_failed: bool) {
+    let mut out = line.out;
     if line.is_comment || 0 < line.length {
-        return run_line(text, buffer, line);
+        out = run_line(text, line);
     }
-    line.printed
+    if is_failed {
+        out = out.failed(b"-");
+    }
+    out.flush();
 }

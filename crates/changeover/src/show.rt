@@ -1,7 +1,8 @@
 // What files hold, as lines.
-use crate::lines;
-use crate::lines::Printed;
+use crate::printer::Printer;
 use files::limits;
+
+const NO_PAIR: usize = limits::NO_PAIR as usize;
 
 pub enum Kind {
     Task,
@@ -43,51 +44,50 @@ fn begins(outcome: files::Outcome) -> bool {
 }
 
 // The kind, the counts and the signer of an accepted file.
-pub fn put_counts(buffer: &mut [u8], printed: Printed, kind: Kind, file: &[u8]) -> Printed {
+pub fn put_counts(out: Printer, kind: Kind, file: &[u8]) -> Printer {
     match kind {
-        Kind::Task => put_task_counts(buffer, printed, file),
-        Kind::Origin => put_origin_counts(buffer, printed, file),
-        Kind::Plan => put_plan_counts(buffer, printed, file),
+        Kind::Task => put_task_counts(out, file),
+        Kind::Origin => put_origin_counts(out, file),
+        Kind::Plan => put_plan_counts(out, file),
     }
 }
 
-fn put_task_counts(buffer: &mut [u8], printed: Printed, file: &[u8]) -> Printed {
-    let variables = files::task::variables_in(file);
-    let actions = files::task::actions_in(file);
-    let next = lines::put_labelled(buffer, printed, b"task variables ", variables);
-    let next = lines::put_labelled(buffer, next, b" actions ", actions);
-    put_signer(buffer, next, file)
+fn put_task_counts(out: Printer, file: &[u8]) -> Printer {
+    let next = out.labelled(b"task variables ", files::task::variables_in(file));
+    put_signer(
+        next.labelled(b" actions ", files::task::actions_in(file)),
+        file,
+    )
 }
 
-fn put_origin_counts(buffer: &mut [u8], printed: Printed, file: &[u8]) -> Printed {
-    let variables = files::origin::variables_in(file);
-    let actions = files::origin::actions_in(file);
-    let next = lines::put_labelled(buffer, printed, b"origin variables ", variables);
-    let next = lines::put_labelled(buffer, next, b" actions ", actions);
-    put_signer(buffer, next, file)
+fn put_origin_counts(out: Printer, file: &[u8]) -> Printer {
+    let next = out.labelled(b"origin variables ", files::origin::variables_in(file));
+    put_signer(
+        next.labelled(b" actions ", files::origin::actions_in(file)),
+        file,
+    )
 }
 
-fn put_plan_counts(buffer: &mut [u8], printed: Printed, file: &[u8]) -> Printed {
+fn put_plan_counts(out: Printer, file: &[u8]) -> Printer {
     let steps = files::plan::steps(file);
-    let next = lines::put_labelled(buffer, printed, b"plan steps ", steps.0 as usize);
-    put_signer(buffer, next, file)
+    put_signer(out.labelled(b"plan steps ", steps.0 as usize), file)
 }
 
-fn put_signer(buffer: &mut [u8], printed: Printed, file: &[u8]) -> Printed {
-    let next = lines::put_labelled(buffer, printed, b" signer ", files::records::signer(file));
-    lines::end(buffer, next)
+fn put_signer(out: Printer, file: &[u8]) -> Printer {
+    out.labelled(b" signer ", files::records::signer(file))
+        .end()
 }
 
 // What an accepted file holds.
-pub fn put_file(buffer: &mut [u8], printed: Printed, kind: Kind, file: &[u8]) -> Printed {
+pub fn put_file(out: Printer, kind: Kind, file: &[u8]) -> Printer {
     match kind {
-        Kind::Task => put_task(buffer, printed, file),
-        Kind::Origin => put_origin(buffer, printed, file),
-        Kind::Plan => put_plan(buffer, printed, file),
+        Kind::Task => put_task(put_signer(out.text(b"task"), file), file),
+        Kind::Origin => put_origin(put_signer(out.text(b"origin"), file), file),
+        Kind::Plan => put_steps(put_signer(out.text(b"plan"), file), file),
     }
 }
 
-fn put_task(buffer: &mut [u8], printed: Printed, file: &[u8]) -> Printed {
+fn put_task(out: Printer, file: &[u8]) -> Printer {
     let mut sizes = [0u8; 64];
     let mut starts = [0u8; 64];
     let mut goal = [0u8; 64];
@@ -103,74 +103,51 @@ fn put_task(buffer: &mut [u8], printed: Printed, file: &[u8]) -> Printed {
         &mut conditions,
         &mut effects,
     );
-    let next = lines::put(buffer, printed, b"task");
-    let next = put_signer(buffer, next, file);
-    let next = put_variables(buffer, next, file, &sizes, &starts);
-    let next = put_goal(buffer, next, &goal);
-    put_actions(buffer, next, file, &costs, &conditions, &effects)
+    let next = put_variables(out, file, &sizes, &starts);
+    let next = put_goal(next, &goal);
+    put_actions(next, file, &costs, &conditions, &effects)
 }
 
-fn put_variables(
-    buffer: &mut [u8],
-    printed: Printed,
-    file: &[u8],
-    sizes: &[u8; 64],
-    starts: &[u8; 64],
-) -> Printed {
+fn put_variables(out: Printer, file: &[u8], sizes: &[u8; 64], starts: &[u8; 64]) -> Printer {
     let variables = files::task::variables_in(file);
-    let mut next = printed;
+    let mut next = out;
     let mut v: usize = 0;
     while v < variables {
-        let size = files::bytes::byte_at(sizes, v);
-        let start = files::bytes::byte_at(starts, v);
-        next = put_variable(buffer, next, v, size, start);
+        next = next.labelled(b"variable ", v);
+        next = next.labelled(b" size ", files::bytes::byte_at(sizes, v));
+        next = next.labelled(b" start ", files::bytes::byte_at(starts, v))
+            .end();
         v += 1;
     }
     next
 }
 
-fn put_variable(
-    buffer: &mut [u8],
-    printed: Printed,
-    v: usize,
-    size: usize,
-    start: usize,
-) -> Printed {
-    let next = lines::put_labelled(buffer, printed, b"variable ", v);
-    let next = lines::put_labelled(buffer, next, b" size ", size);
-    let next = lines::put_labelled(buffer, next, b" start ", start);
-    lines::end(buffer, next)
-}
-
-fn put_goal(buffer: &mut [u8], printed: Printed, goal: &[u8; 64]) -> Printed {
-    let next = lines::put(buffer, printed, b"goal");
-    let next = put_pairs(buffer, next, b"", goal);
-    lines::end(buffer, next)
+fn put_goal(out: Printer, goal: &[u8; 64]) -> Printer {
+    put_pairs(out.text(b"goal"), b"", goal).end()
 }
 
 fn put_actions(
-    buffer: &mut [u8],
-    printed: Printed,
+    out: Printer,
     file: &[u8],
     costs: &[u32; 512],
     conditions: &[u8; 32768],
     effects: &[u8; 32768],
-) -> Printed {
+) -> Printer {
     let actions = files::task::actions_in(file);
-    let mut next = printed;
+    let mut next = out;
     let mut a: usize = 0;
     while a < actions && a < costs.len() {
-        next = put_action(
-            buffer,
-            next,
-            a,
-            costs[a],
-            row(conditions, a),
-            row(effects, a),
-        );
+        next = put_action(next, a, costs[a], row(conditions, a), row(effects, a));
         a += 1;
     }
     next
+}
+
+fn put_action(out: Printer, a: usize, cost: u32, conditions: &[u8], effects: &[u8]) -> Printer {
+    let next = out.labelled(b"action ", a)
+        .labelled(b" cost ", cost as usize);
+    let next = put_pairs(next, b" if", conditions);
+    put_pairs(next, b" set", effects).end()
 }
 
 // The cells of an action.
@@ -183,129 +160,83 @@ fn row<'a>(cells: &'a [u8], action: usize) -> &'a [u8] {
     &cells[start..end]
 }
 
-fn put_action(
-    buffer: &mut [u8],
-    printed: Printed,
-    a: usize,
-    cost: u32,
-    conditions: &[u8],
-    effects: &[u8],
-) -> Printed {
-    let next = lines::put_labelled(buffer, printed, b"action ", a);
-    let next = lines::put_labelled(buffer, next, b" cost ", cost as usize);
-    let next = put_pairs(buffer, next, b" if", conditions);
-    let next = put_pairs(buffer, next, b" set", effects);
-    lines::end(buffer, next)
-}
-
 // The pairs of a row behind their label, which is left out where there are none.
-fn put_pairs(buffer: &mut [u8], printed: Printed, label: &[u8], row: &[u8]) -> Printed {
-    let mut next = printed;
+fn put_pairs(out: Printer, label: &[u8], row: &[u8]) -> Printer {
+    let mut next = out;
     let mut is_begun = false;
     let mut v: usize = 0;
     while v < row.len() {
-        next = put_cell(buffer, next, label, is_begun, v, row[v]);
-        is_begun = is_begun || row[v] != limits::NO_PAIR;
+        let value = files::bytes::byte_at(row, v);
+        if value != NO_PAIR {
+            next = begin(next, label, is_begun).fact(v, value);
+            is_begun = true;
+        }
         v += 1;
     }
     next
 }
 
-// The pair of a cell, behind the label where it is the first.
-fn put_cell(
-    buffer: &mut [u8],
-    printed: Printed,
-    label: &[u8],
-    is_begun: bool,
-    v: usize,
-    value: u8,
-) -> Printed {
-    if value == limits::NO_PAIR {
-        return printed;
-    }
+// The label of a list, before its first element.
+fn begin(out: Printer, label: &[u8], is_begun: bool) -> Printer {
     if is_begun {
-        return lines::put_pair(buffer, printed, v, value as usize);
+        return out;
     }
-    let next = lines::put(buffer, printed, label);
-    lines::put_pair(buffer, next, v, value as usize)
+    out.text(label)
 }
 
-fn put_origin(buffer: &mut [u8], printed: Printed, file: &[u8]) -> Printed {
-    let next = lines::put(buffer, printed, b"origin");
-    let next = put_signer(buffer, next, file);
-    let next = put_variable_origins(buffer, next, file);
-    put_action_origins(buffer, next, file)
+fn put_origin(out: Printer, file: &[u8]) -> Printer {
+    let next = put_variable_origins(out, file);
+    if files::origin::actions_in(file) == 0 {
+        return next;
+    }
+    put_action_origins(next.text(b"actions"), file).end()
 }
 
-fn put_variable_origins(buffer: &mut [u8], printed: Printed, file: &[u8]) -> Printed {
+fn put_variable_origins(out: Printer, file: &[u8]) -> Printer {
     let variables = files::origin::variables_in(file);
-    let mut next = printed;
+    let mut next = out;
     let mut v: usize = 0;
     while v < variables {
-        next = put_variable_origin(buffer, next, file, v as u16);
+        next = put_variable_origin(next, file, v as u16).end();
         v += 1;
     }
     next
 }
 
-fn put_variable_origin(buffer: &mut [u8], printed: Printed, file: &[u8], v: u16) -> Printed {
-    let at = files::origin::variable_place(file, v as usize);
-    let variable = files::origin::variable_at(file, at);
-    let next = lines::put_labelled(buffer, printed, b"variable ", variable);
-    let next = lines::put(buffer, next, b" values");
-    let next = put_new_values(buffer, next, file, v);
-    lines::end(buffer, next)
-}
-
-// The new values of a variable's old values.
-fn put_new_values(buffer: &mut [u8], printed: Printed, file: &[u8], v: u16) -> Printed {
+// A variable's original number, and the new values of its old values.
+fn put_variable_origin(out: Printer, file: &[u8], v: u16) -> Printer {
     let at = files::origin::variable_place(file, v as usize);
     let values = files::origin::values_in(file, at);
-    let mut next = printed;
+    let mut next = out.labelled(b"variable ", files::origin::variable_at(file, at))
+        .text(b" values");
     let mut d: usize = 0;
     while d < values {
-        next = lines::put_labelled(buffer, next, b" ", files::origin::value_at(file, at, d));
+        next = next.labelled(b" ", files::origin::value_at(file, at, d));
         d += 1;
     }
     next
 }
 
-fn put_action_origins(buffer: &mut [u8], printed: Printed, file: &[u8]) -> Printed {
-    if files::origin::actions_in(file) == 0 {
-        return printed;
-    }
-    let next = lines::put(buffer, printed, b"actions");
-    let next = put_originals(buffer, next, file);
-    lines::end(buffer, next)
-}
-
-// The original numbers of the kept actions.
-fn put_originals(buffer: &mut [u8], printed: Printed, file: &[u8]) -> Printed {
+fn put_action_origins(out: Printer, file: &[u8]) -> Printer {
     let actions = files::origin::actions_in(file);
-    let mut next = printed;
+    let mut next = out;
     let mut a: usize = 0;
     while a < actions {
         let action = files::origin::action(file, a);
-        next = lines::put_labelled(buffer, next, b" ", action.0 as usize);
+        next = next.labelled(b" ", action.0 as usize);
         a += 1;
     }
     next
 }
 
-fn put_plan(buffer: &mut [u8], printed: Printed, file: &[u8]) -> Printed {
-    let next = lines::put(buffer, printed, b"plan");
-    let next = put_signer(buffer, next, file);
-    put_steps(buffer, next, file)
-}
-
-fn put_steps(buffer: &mut [u8], printed: Printed, file: &[u8]) -> Printed {
+fn put_steps(out: Printer, file: &[u8]) -> Printer {
     let steps = files::plan::steps(file);
     let count = steps.0 as usize;
-    let mut next = printed;
+    let mut next = out;
     let mut i: usize = 0;
     while i < count {
         let action = files::plan::step(file, i);
-        next = lines::put_line(buffer, next, b"step ", action.0 as usize);
+        next = next.labelled(b"step ", action.0 as usize).end();
         i += 1;
     }
     next

@@ -84,17 +84,38 @@ fn put_argument(text: &mut [u8], start: usize, i: usize) -> usize {
     start + length
 }
 
-// Word `i`, empty where there is none.
-pub fn word<'a>(text: &'a [u8], words: Words, i: usize) -> &'a [u8] {
-    if MOST <= i {
-        return &text[..0];
+impl Words {
+    // Word `i`, empty where there is none.
+    pub fn at<'a>(self, text: &'a [u8], i: usize) -> &'a [u8] {
+        if MOST <= i {
+            return &text[..0];
+        }
+        let start = self.starts[i];
+        let end = self.ends[i];
+        if end < start || text.len() < end {
+            return &text[..0];
+        }
+        &text[start..end]
     }
-    let start = words.starts[i];
-    let end = words.ends[i];
-    if end < start || text.len() < end {
-        return &text[..0];
+
+    // Whether the words are whole, and so many.
+    pub fn fill(self, count: usize) -> bool {
+        self.is_whole && self.count == count
     }
-    &text[start..end]
+
+    // Whether word `i` is a number: decimal digits, below 2^32.
+    pub fn has_number(self, text: &[u8], i: usize) -> bool {
+        value(self.at(text, i)) <= LARGEST
+    }
+
+    // The number that word `i` is; 0 where it is none.
+    pub fn number(self, text: &[u8], i: usize) -> u32 {
+        let value = value(self.at(text, i));
+        if LARGEST < value {
+            return 0;
+        }
+        value as u32
+    }
 }
 
 // Whether two words are alike.
@@ -110,25 +131,6 @@ pub fn alike(a: &[u8], b: &[u8]) -> bool {
         at += 1;
     }
     true
-}
-
-// Whether the words are whole, and so many.
-pub fn fill(words: Words, count: usize) -> bool {
-    words.is_whole && words.count == count
-}
-
-// Whether word `i` is a number: decimal digits, below 2^32.
-pub fn is_number(text: &[u8], words: Words, i: usize) -> bool {
-    value(word(text, words, i)) <= LARGEST
-}
-
-// The number that word `i` is; 0 where it is none.
-pub fn number(text: &[u8], words: Words, i: usize) -> u32 {
-    let value = value(word(text, words, i));
-    if LARGEST < value {
-        return 0;
-    }
-    value as u32
 }
 
 // The value of a word of decimal digits, and a larger one than the largest for a word of others and for a

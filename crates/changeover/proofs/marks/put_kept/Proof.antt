@@ -1,18 +1,17 @@
--- The marks are printed up to a place within them, and the buffer keeps its length.
-use mathlib.Core.Path.{_≡_}
+-- The marks are printed up to one of an action.
 use Prim.Native.Nat.{_-_, _≤_}
-use lib.ListN.{length}
 use borrow.Author.Needs.{needs}
 use Rattle.changeover.proofs.marks.put_kept.Statement.{statement}
 use Rattle.changeover.proofs.marks.put_kept.Tie as tie
-use Rattle.changeover.proofs.marks.put_action.Reads as put-action-reads
+use Rattle.changeover.proofs.printer.Printer.end.Reads as end-reads
+use Rattle.changeover.proofs.printer.Printer.labelled.Reads as labelled-reads
 use Rattle.files.proofs.task.actions_in.Reads as actions-in-reads
 
 abbrev Inv-loop : tie.InvT-loop
-Inv-loop buffer₀ file actions count next₀ a₀ buffer next a = (length buffer ≡ length buffer₀) × (a ≤ count)
+Inv-loop file actions count next₀ a₀ t7 next a = a ≤ count
 
 abbrev μ-loop : tie.MeasureT-loop
-μ-loop buffer₀ file actions count next₀ a₀ buffer next a = count - a
+μ-loop file actions count next₀ a₀ t7 next a = count - a
 
 actions-in-requires : tie.Need-actions-in-requires Inv-loop μ-loop
 actions-in-requires c κs = search needs
@@ -20,11 +19,17 @@ actions-in-requires c κs = search needs
 loop-holds : tie.Need-loop-holds Inv-loop μ-loop
 loop-holds c = search needs
 
-shared-slice-read-put-action : tie.Need-shared-slice-read-put-action Inv-loop μ-loop
-shared-slice-read-put-action c = search needs
+shared-slice-read-if2 : tie.Need-shared-slice-read-if2 Inv-loop μ-loop
+shared-slice-read-if2 c = search needs
 
-put-action-requires : tie.Need-put-action-requires Inv-loop μ-loop
-put-action-requires c κs = search needs
+slice-aggregate-labelled : tie.Need-slice-aggregate-labelled Inv-loop μ-loop
+slice-aggregate-labelled c = search needs
+
+labelled-requires : tie.Need-labelled-requires Inv-loop μ-loop
+labelled-requires c κs = search needs
+
+end-requires : tie.Need-end-requires Inv-loop μ-loop
+end-requires c κs = search needs
 
 add-a : tie.Need-add-a Inv-loop μ-loop
 add-a c = search needs
@@ -35,14 +40,8 @@ loop-less c = search needs
 loop-again : tie.Need-loop-again Inv-loop μ-loop
 loop-again c = search needs
 
-same-length : tie.Need-same-length Inv-loop μ-loop
-same-length c = search needs
-
 returns : tie.Need-returns Inv-loop μ-loop
 returns c = search needs
-
-same-length-2 : tie.Need-same-length-2 Inv-loop μ-loop
-same-length-2 c = search needs
 
 returns-2 : tie.Need-returns-2 Inv-loop μ-loop
 returns-2 c = search needs
@@ -55,12 +54,12 @@ put-kept-spec =
     μ-loop
     actions-in-requires
     loop-holds
-    shared-slice-read-put-action
-    put-action-requires
+    shared-slice-read-if2
+    slice-aggregate-labelled
+    labelled-requires
+    end-requires
     add-a
     loop-less
     loop-again
-    same-length
     returns
-    same-length-2
     returns-2)

@@ -1,7 +1,5 @@
--- Each variable has fewer than 65,536 values, so that no sum wraps; the buffer keeps its length.
-use mathlib.Core.Path.{_≡_}
+-- Each variable has fewer than 65,536 values, so that no sum wraps.
 use Prim.Native.Nat.{_-_, _*_, _≤_}
-use lib.ListN.{length}
 use borrow.Author.Needs.{needs}
 use Rattle.changeover.proofs.marks.put_relevant.Statement.{statement}
 use Rattle.changeover.proofs.marks.put_relevant.Tie as tie
@@ -11,10 +9,10 @@ use Rattle.files.proofs.task.size_of.Reads as size-of-reads
 use Rattle.files.proofs.task.variables_in.Reads as variables-in-reads
 
 abbrev Inv-loop : tie.InvT-loop
-Inv-loop buffer₀ file facts variables next₀ at₀ v₀ buffer next at v = (length buffer ≡ length buffer₀) × ((v ≤ variables) × (at ≤ 65536 * v))
+Inv-loop file facts variables next₀ at₀ v₀ next at v = (v ≤ variables) × (at ≤ 65536 * v)
 
 abbrev μ-loop : tie.MeasureT-loop
-μ-loop buffer₀ file facts variables next₀ at₀ v₀ buffer next at v = variables - v
+μ-loop file facts variables next₀ at₀ v₀ next at v = variables - v
 
 variables-in-requires : tie.Need-variables-in-requires Inv-loop μ-loop
 variables-in-requires c κs = search needs
@@ -43,9 +41,6 @@ loop-less c = search needs
 loop-again : tie.Need-loop-again Inv-loop μ-loop
 loop-again c = search needs
 
-same-length : tie.Need-same-length Inv-loop μ-loop
-same-length c = search needs
-
 returns : tie.Need-returns Inv-loop μ-loop
 returns c = search needs
 
@@ -64,5 +59,4 @@ put-relevant-spec =
     add-v
     loop-less
     loop-again
-    same-length
     returns)

@@ -1,26 +1,24 @@
--- Nothing has to hold from turn to turn but the buffers' lengths; the turns fall.
+-- The buffers keep their lengths, and the turns fall.
 use mathlib.Core.Path.{_≡_}
 use lib.ListN.{length}
 use borrow.Author.Needs.{needs}
 use Rattle.changeover.proofs.script.run.Statement.{statement}
 use Rattle.changeover.proofs.script.run.Tie as tie
 use Rattle.changeover.proofs.input.advance.Reads as advance-reads
+use Rattle.changeover.proofs.printer.Printer.new.Reads as new-reads
 use Rattle.changeover.proofs.script.finish.Reads as finish-reads
 use Rattle.changeover.proofs.script.goes_on.Reads as goes-on-reads
 use Rattle.changeover.proofs.script.start.Reads as start-reads
-use Rattle.changeover.proofs.script.with_byte.Reads as with-byte-reads
+use Rattle.changeover.proofs.script.with_next.Reads as with-next-reads
 
 abbrev Inv-loop : tie.InvT-loop
-Inv-loop text₀ buffer₀ piece₀ source₀ line₀ turns₀ text buffer piece source line turns = (length text ≡ length text₀) × ((length buffer ≡ length buffer₀) × (length piece ≡ length piece₀))
+Inv-loop text₀ piece₀ source₀ line₀ turns₀ text piece source line turns = (length text ≡ length text₀) × (length piece ≡ length piece₀)
 
 abbrev μ-loop : tie.MeasureT-loop
-μ-loop text₀ buffer₀ piece₀ source₀ line₀ turns₀ text buffer piece source line turns = turns
+μ-loop text₀ piece₀ source₀ line₀ turns₀ text piece source line turns = turns
 
-slice-aggregate-advance : tie.Need-slice-aggregate-advance Inv-loop μ-loop
-slice-aggregate-advance c = search needs
-
-advance-requires : tie.Need-advance-requires Inv-loop μ-loop
-advance-requires c κs = search needs
+new-requires : tie.Need-new-requires Inv-loop μ-loop
+new-requires c κs = search needs
 
 start-requires : tie.Need-start-requires Inv-loop μ-loop
 start-requires c κs = search needs
@@ -31,14 +29,14 @@ loop-holds c = search needs
 goes-on-requires : tie.Need-goes-on-requires Inv-loop μ-loop
 goes-on-requires c κs = search needs
 
-with-byte-requires : tie.Need-with-byte-requires Inv-loop μ-loop
-with-byte-requires c κs = search needs
+slice-aggregate-advance : tie.Need-slice-aggregate-advance Inv-loop μ-loop
+slice-aggregate-advance c = search needs
 
-slice-aggregate-advance-2 : tie.Need-slice-aggregate-advance-2 Inv-loop μ-loop
-slice-aggregate-advance-2 c = search needs
+advance-requires : tie.Need-advance-requires Inv-loop μ-loop
+advance-requires c κs = search needs
 
-advance-requires-2 : tie.Need-advance-requires-2 Inv-loop μ-loop
-advance-requires-2 c κs = search needs
+with-next-requires : tie.Need-with-next-requires Inv-loop μ-loop
+with-next-requires c κs = search needs
 
 sub-turns : tie.Need-sub-turns Inv-loop μ-loop
 sub-turns c = search needs
@@ -55,9 +53,6 @@ finish-requires c κs = search needs
 same-length : tie.Need-same-length Inv-loop μ-loop
 same-length c = search needs
 
-same-length-2 : tie.Need-same-length-2 Inv-loop μ-loop
-same-length-2 c = search needs
-
 returns : tie.Need-returns Inv-loop μ-loop
 returns c = search needs
 
@@ -67,18 +62,16 @@ run-spec =
     (tie.spec
     Inv-loop
     μ-loop
-    slice-aggregate-advance
-    advance-requires
+    new-requires
     start-requires
     loop-holds
     goes-on-requires
-    with-byte-requires
-    slice-aggregate-advance-2
-    advance-requires-2
+    slice-aggregate-advance
+    advance-requires
+    with-next-requires
     sub-turns
     loop-less
     loop-again
     finish-requires
     same-length
-    same-length-2
     returns)

@@ -1,7 +1,5 @@
--- The actions are printed up to one that has a cost, and the buffer keeps its length.
-use mathlib.Core.Path.{_≡_}
+-- The actions are printed up to one of them.
 use Prim.Native.Nat.{_-_, _≤_}
-use lib.ListN.{length}
 use borrow.Author.Needs.{needs}
 use Rattle.changeover.proofs.show.put_actions.Statement.{statement}
 use Rattle.changeover.proofs.show.put_actions.Tie as tie
@@ -10,10 +8,10 @@ use Rattle.changeover.proofs.show.row.Reads as row-reads
 use Rattle.files.proofs.task.actions_in.Reads as actions-in-reads
 
 abbrev Inv-loop : tie.InvT-loop
-Inv-loop buffer₀ file costs conditions effects actions next₀ a₀ buffer next a = (length buffer ≡ length buffer₀) × (a ≤ actions)
+Inv-loop file costs conditions effects actions next₀ a₀ next a = a ≤ actions
 
 abbrev μ-loop : tie.MeasureT-loop
-μ-loop buffer₀ file costs conditions effects actions next₀ a₀ buffer next a = actions - a
+μ-loop file costs conditions effects actions next₀ a₀ next a = actions - a
 
 actions-in-requires : tie.Need-actions-in-requires Inv-loop μ-loop
 actions-in-requires c κs = search needs
@@ -45,14 +43,8 @@ loop-less c = search needs
 loop-again : tie.Need-loop-again Inv-loop μ-loop
 loop-again c = search needs
 
-same-length : tie.Need-same-length Inv-loop μ-loop
-same-length c = search needs
-
 returns : tie.Need-returns Inv-loop μ-loop
 returns c = search needs
-
-same-length-2 : tie.Need-same-length-2 Inv-loop μ-loop
-same-length-2 c = search needs
 
 returns-2 : tie.Need-returns-2 Inv-loop μ-loop
 returns-2 c = search needs
@@ -73,7 +65,5 @@ put-actions-spec =
     add-a
     loop-less
     loop-again
-    same-length
     returns
-    same-length-2
     returns-2)

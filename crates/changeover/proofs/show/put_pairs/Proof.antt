@@ -1,29 +1,30 @@
--- The row is printed up to a place within it, and the buffer keeps its length.
-use mathlib.Core.Path.{_≡_}
+-- The row is printed up to a place within it.
 use Prim.Native.Nat.{_-_, _≤_}
 use lib.ListN.{length}
 use borrow.Author.Needs.{needs}
 use Rattle.changeover.proofs.show.put_pairs.Statement.{statement}
 use Rattle.changeover.proofs.show.put_pairs.Tie as tie
-use Rattle.changeover.proofs.show.put_cell.Reads as put-cell-reads
+use Rattle.changeover.proofs.printer.Printer.fact.Reads as fact-reads
+use Rattle.changeover.proofs.show.begin.Reads as begin-reads
+use Rattle.files.proofs.bytes.byte_at.Reads as byte-at-reads
 
 abbrev Inv-loop : tie.InvT-loop
-Inv-loop buffer₀ label row next₀ is-begun₀ v₀ buffer next is-begun v = (length buffer ≡ length buffer₀) × (v ≤ length row)
+Inv-loop label row next₀ is-begun₀ v₀ next is-begun v = v ≤ length row
 
 abbrev μ-loop : tie.MeasureT-loop
-μ-loop buffer₀ label row next₀ is-begun₀ v₀ buffer next is-begun v = length row - v
+μ-loop label row next₀ is-begun₀ v₀ next is-begun v = length row - v
 
 loop-holds : tie.Need-loop-holds Inv-loop μ-loop
 loop-holds c = search needs
 
-shared-slice-read-put-cell : tie.Need-shared-slice-read-put-cell Inv-loop μ-loop
-shared-slice-read-put-cell c = search needs
+byte-at-requires : tie.Need-byte-at-requires Inv-loop μ-loop
+byte-at-requires c κs = search needs
 
-put-cell-requires : tie.Need-put-cell-requires Inv-loop μ-loop
-put-cell-requires c κs = search needs
+begin-requires : tie.Need-begin-requires Inv-loop μ-loop
+begin-requires c κs = search needs
 
-shared-slice-read-is-begun : tie.Need-shared-slice-read-is-begun Inv-loop μ-loop
-shared-slice-read-is-begun c = search needs
+fact-requires : tie.Need-fact-requires Inv-loop μ-loop
+fact-requires c κs = search needs
 
 add-v : tie.Need-add-v Inv-loop μ-loop
 add-v c = search needs
@@ -33,9 +34,6 @@ loop-less c = search needs
 
 loop-again : tie.Need-loop-again Inv-loop μ-loop
 loop-again c = search needs
-
-same-length : tie.Need-same-length Inv-loop μ-loop
-same-length c = search needs
 
 returns : tie.Need-returns Inv-loop μ-loop
 returns c = search needs
@@ -47,11 +45,10 @@ put-pairs-spec =
     Inv-loop
     μ-loop
     loop-holds
-    shared-slice-read-put-cell
-    put-cell-requires
-    shared-slice-read-is-begun
+    byte-at-requires
+    begin-requires
+    fact-requires
     add-v
     loop-less
     loop-again
-    same-length
     returns)

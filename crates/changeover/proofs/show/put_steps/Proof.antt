@@ -1,19 +1,18 @@
--- The steps are printed up to one of them, and the buffer keeps its length.
-use mathlib.Core.Path.{_≡_}
+-- The steps are printed up to one of them.
 use Prim.Native.Nat.{_-_, _≤_}
-use lib.ListN.{length}
 use borrow.Author.Needs.{needs}
 use Rattle.changeover.proofs.show.put_steps.Statement.{statement}
 use Rattle.changeover.proofs.show.put_steps.Tie as tie
-use Rattle.changeover.proofs.lines.put_line.Reads as put-line-reads
+use Rattle.changeover.proofs.printer.Printer.end.Reads as end-reads
+use Rattle.changeover.proofs.printer.Printer.labelled.Reads as labelled-reads
 use Rattle.files.proofs.plan.step.Reads as step-reads
 use Rattle.files.proofs.plan.steps.Reads as steps-reads
 
 abbrev Inv-loop : tie.InvT-loop
-Inv-loop buffer₀ file count next₀ i₀ t9 buffer next i = (length buffer ≡ length buffer₀) × (i ≤ count)
+Inv-loop file count next₀ i₀ t8 next i = i ≤ count
 
 abbrev μ-loop : tie.MeasureT-loop
-μ-loop buffer₀ file count next₀ i₀ t9 buffer next i = count - i
+μ-loop file count next₀ i₀ t8 next i = count - i
 
 steps-requires : tie.Need-steps-requires Inv-loop μ-loop
 steps-requires c κs = search needs
@@ -27,14 +26,17 @@ loop-holds c = search needs
 step-requires : tie.Need-step-requires Inv-loop μ-loop
 step-requires c κs = search needs
 
-slice-aggregate-put-line : tie.Need-slice-aggregate-put-line Inv-loop μ-loop
-slice-aggregate-put-line c = search needs
+slice-aggregate-labelled : tie.Need-slice-aggregate-labelled Inv-loop μ-loop
+slice-aggregate-labelled c = search needs
 
-cast-put-line : tie.Need-cast-put-line Inv-loop μ-loop
-cast-put-line c = search needs
+cast-labelled : tie.Need-cast-labelled Inv-loop μ-loop
+cast-labelled c = search needs
 
-put-line-requires : tie.Need-put-line-requires Inv-loop μ-loop
-put-line-requires c κs = search needs
+labelled-requires : tie.Need-labelled-requires Inv-loop μ-loop
+labelled-requires c κs = search needs
+
+end-requires : tie.Need-end-requires Inv-loop μ-loop
+end-requires c κs = search needs
 
 add-i : tie.Need-add-i Inv-loop μ-loop
 add-i c = search needs
@@ -44,9 +46,6 @@ loop-less c = search needs
 
 loop-again : tie.Need-loop-again Inv-loop μ-loop
 loop-again c = search needs
-
-same-length : tie.Need-same-length Inv-loop μ-loop
-same-length c = search needs
 
 returns : tie.Need-returns Inv-loop μ-loop
 returns c = search needs
@@ -61,11 +60,11 @@ put-steps-spec =
     cast-count
     loop-holds
     step-requires
-    slice-aggregate-put-line
-    cast-put-line
-    put-line-requires
+    slice-aggregate-labelled
+    cast-labelled
+    labelled-requires
+    end-requires
     add-i
     loop-less
     loop-again
-    same-length
     returns)

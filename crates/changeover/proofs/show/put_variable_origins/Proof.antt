@@ -1,18 +1,17 @@
--- The variables are printed up to one of them, and the buffer keeps its length.
-use mathlib.Core.Path.{_≡_}
+-- The variables are printed up to one of them.
 use Prim.Native.Nat.{_-_, _≤_}
-use lib.ListN.{length}
 use borrow.Author.Needs.{needs}
 use Rattle.changeover.proofs.show.put_variable_origins.Statement.{statement}
 use Rattle.changeover.proofs.show.put_variable_origins.Tie as tie
+use Rattle.changeover.proofs.printer.Printer.end.Reads as end-reads
 use Rattle.changeover.proofs.show.put_variable_origin.Reads as put-variable-origin-reads
 use Rattle.files.proofs.origin.variables_in.Reads as variables-in-reads
 
 abbrev Inv-loop : tie.InvT-loop
-Inv-loop buffer₀ file variables next₀ v₀ buffer next v = (length buffer ≡ length buffer₀) × (v ≤ variables)
+Inv-loop file variables next₀ v₀ next v = v ≤ variables
 
 abbrev μ-loop : tie.MeasureT-loop
-μ-loop buffer₀ file variables next₀ v₀ buffer next v = variables - v
+μ-loop file variables next₀ v₀ next v = variables - v
 
 variables-in-requires : tie.Need-variables-in-requires Inv-loop μ-loop
 variables-in-requires c κs = search needs
@@ -26,6 +25,9 @@ cast-put-variable-origin c = search needs
 put-variable-origin-requires : tie.Need-put-variable-origin-requires Inv-loop μ-loop
 put-variable-origin-requires c κs = search needs
 
+end-requires : tie.Need-end-requires Inv-loop μ-loop
+end-requires c κs = search needs
+
 add-v : tie.Need-add-v Inv-loop μ-loop
 add-v c = search needs
 
@@ -34,9 +36,6 @@ loop-less c = search needs
 
 loop-again : tie.Need-loop-again Inv-loop μ-loop
 loop-again c = search needs
-
-same-length : tie.Need-same-length Inv-loop μ-loop
-same-length c = search needs
 
 returns : tie.Need-returns Inv-loop μ-loop
 returns c = search needs
@@ -51,8 +50,8 @@ put-variable-origins-spec =
     loop-holds
     cast-put-variable-origin
     put-variable-origin-requires
+    end-requires
     add-v
     loop-less
     loop-again
-    same-length
     returns)

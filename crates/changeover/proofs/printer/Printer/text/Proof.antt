@@ -1,0 +1,48 @@
+-- The text is printed up to a place within it.
+use Prim.Native.Nat.{_-_, _≤_}
+use lib.ListN.{length}
+use borrow.Author.Needs.{needs}
+use Rattle.changeover.proofs.printer.Printer.text.Statement.{statement}
+use Rattle.changeover.proofs.printer.Printer.text.Tie as tie
+use Rattle.changeover.proofs.printer.Printer.byte.Reads as byte-reads
+
+abbrev Inv-loop : tie.InvT-loop
+Inv-loop text next₀ at₀ next at = at ≤ length text
+
+abbrev μ-loop : tie.MeasureT-loop
+μ-loop text next₀ at₀ next at = length text - at
+
+loop-holds : tie.Need-loop-holds Inv-loop μ-loop
+loop-holds c = search needs
+
+shared-slice-read-byte : tie.Need-shared-slice-read-byte Inv-loop μ-loop
+shared-slice-read-byte c = search needs
+
+byte-requires : tie.Need-byte-requires Inv-loop μ-loop
+byte-requires c κs = search needs
+
+add-at : tie.Need-add-at Inv-loop μ-loop
+add-at c = search needs
+
+loop-less : tie.Need-loop-less Inv-loop μ-loop
+loop-less c = search needs
+
+loop-again : tie.Need-loop-again Inv-loop μ-loop
+loop-again c = search needs
+
+returns : tie.Need-returns Inv-loop μ-loop
+returns c = search needs
+
+pub text-spec : {M : Type 1} → statement M
+text-spec =
+    tie.close
+    (tie.spec
+    Inv-loop
+    μ-loop
+    loop-holds
+    shared-slice-read-byte
+    byte-requires
+    add-at
+    loop-less
+    loop-again
+    returns)
