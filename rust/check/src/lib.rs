@@ -1,6 +1,7 @@
-//! Checks of the planner: an independent implementation, and a comparison of
-//! the two.
+//! Checks of the planner: an independent implementation, a comparison of the
+//! two, and the program `changeover` run by tests.
 
 pub mod buffers;
 pub mod differential;
+pub mod program;
 pub mod reference;

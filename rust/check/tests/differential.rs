@@ -84,20 +84,8 @@ fn each_family_around_its_lengths() {
 
 #[test]
 fn texts_of_each_family() {
-    let families = [
-        generate::small,
-        generate::small_with_plan,
-        generate::varied,
-        generate::chain,
-        generate::many_alike,
-        generate::switches,
-        generate::counter,
-        generate::few_kept,
-        generate::largest_searched,
-        generate::largest,
-    ];
     let comparison = for_seeds(30, |comparison, random| {
-        for family in families {
+        for family in generate::FAMILIES {
             let task = family(random);
             texts::lengths_around(comparison, random, &task);
             texts::damaged(comparison, random, &task);

@@ -6,13 +6,13 @@ use std::collections::BTreeSet;
 use shortest::lent::Answer as Numbers;
 use shortest::{Entry, Outcome};
 use shortest_check::reference::files::{read_origin, read_plan, read_task, Fact, Task};
-use shortest_check::reference::generate::{self, origin_file, plan_file, task_file, Random};
+use shortest_check::reference::generate::{
+    self, origin_file, plan_file, task_file, Family, Random,
+};
 use shortest_check::reference::plans::{holds, start, step, State};
 use shortest_check::reference::search::{state_count, state_number, state_numbered};
 use shortest_check::reference::translator::read_text;
 use shortest_check::reference::{check_origin, check_plan, check_task, mark, plan, reduce};
-
-type Family = fn(&mut Random) -> Task;
 
 const FAMILIES: [(Family, u64); 10] = [
     (generate::small, 400),

@@ -22,7 +22,24 @@ pub use small::{many_alike, small, small_with_plan};
 pub use texts::{damaged_text, printed, text};
 pub use varied::varied;
 
-/// A task of any of the families below, the large ones rarely.
+/// Tasks of one make.
+pub type Family = fn(&mut Random) -> Task;
+
+/// The last two have the largest files.
+pub const FAMILIES: [Family; 10] = [
+    small,
+    small_with_plan,
+    varied,
+    chain,
+    many_alike,
+    switches,
+    counter,
+    few_kept,
+    largest_searched,
+    largest,
+];
+
+/// A task of any of the families, the large ones rarely.
 pub fn any(random: &mut Random) -> Task {
     match random.below(100) {
         0..10 => small(random),
