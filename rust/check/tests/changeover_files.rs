@@ -2,7 +2,7 @@
 //! and what stands in the folder after it has written or failed to.
 
 use std::fs::{self, Permissions};
-use std::os::unix::fs::PermissionsExt;
+use std::os::unix::fs::{FileTypeExt, PermissionsExt};
 use std::path::Path;
 use std::process::{Command, Stdio};
 
@@ -174,9 +174,25 @@ fn the_second_name_is_the_first_with_the_ending() {
 }
 
 #[test]
-#[ignore = "the first file is put over what is prepared for the second"]
 fn the_first_name_is_the_second_with_the_ending() {
     with_the_ending(&new_folder("first_ending"), "old.new", "old");
+    with_the_ending(&new_folder("first_ending"), "./old.new", "old");
+    let folder = new_folder("first_ending");
+    folder.put("old.new", b"of another run");
+    with_the_ending(&folder, "old.new", "old");
+}
+
+#[test]
+fn a_pipe_in_the_place_of_the_file() {
+    let folder = new_folder("pipe");
+    let pipe = folder.path("pipe");
+    let made = Command::new("mkfifo").arg(&pipe).status();
+    assert!(made.unwrap().success());
+    for words in writers("pipe") {
+        assert_eq!(folder.run(&words), "failed pipe\n");
+        assert!(fs::metadata(&pipe).unwrap().file_type().is_fifo());
+        assert!(!folder.path("pipe.new").exists(), "{words:?}");
+    }
 }
 
 fn set_mode(folder: &Folder, name: &str, mode: u32) {
