@@ -38,31 +38,25 @@ impl Printer {
         next
     }
 
-    pub fn byte(self, byte: u8) -> Printer {
-        let mut next = self;
-        if ROOM <= next.waiting {
-            next = self.flush();
-        }
-        let at = next.waiting;
-        if at < ROOM {
-            next.bytes[at] = byte;
-            next.waiting = at + 1;
-        }
-        next
-    }
-
     pub fn text(self, text: &[u8]) -> Printer {
         let mut next = self;
         let mut at: usize = 0;
         while at < text.len() {
-            next = next.byte(text[at]);
+            if ROOM <= next.waiting {
+                next = next.flush();
+            }
+            let place = next.waiting;
+            if place < ROOM {
+                next.bytes[place] = text[at];
+                next.waiting = place + 1;
+            }
             at += 1;
         }
         next
     }
 
     pub fn end(self) -> Printer {
-        self.byte(b'\n')
+        self.text(b"\n")
     }
 
     // A number behind its label.

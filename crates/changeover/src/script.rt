@@ -61,7 +61,7 @@ fn with_byte(text: &mut [u8], line: Line, byte: u8) -> Line {
     let length = line.length;
     if line.is_comment || length == 0 && byte == b'#' {
         next.is_comment = true;
-        next.out = line.out.byte(byte);
+        next.out = line.out.text(&[byte]);
     } else if length < text.len() {
         text[length] = byte;
         next.length = length + 1;

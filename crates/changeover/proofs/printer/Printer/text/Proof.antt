@@ -4,7 +4,7 @@ use lib.ListN.{length}
 use borrow.Author.Needs.{needs}
 use Rattle.changeover.proofs.printer.Printer.text.Statement.{statement}
 use Rattle.changeover.proofs.printer.Printer.text.Tie as tie
-use Rattle.changeover.proofs.printer.Printer.byte.Reads as byte-reads
+use Rattle.changeover.proofs.printer.Printer.flush.Reads as flush-reads
 
 abbrev Inv-loop : tie.InvT-loop
 Inv-loop text next₀ at₀ next at = at ≤ length text
@@ -15,11 +15,17 @@ abbrev μ-loop : tie.MeasureT-loop
 loop-holds : tie.Need-loop-holds Inv-loop μ-loop
 loop-holds c = search needs
 
-shared-slice-read-byte : tie.Need-shared-slice-read-byte Inv-loop μ-loop
-shared-slice-read-byte c = search needs
+flush-requires : tie.Need-flush-requires Inv-loop μ-loop
+flush-requires c κs = search needs
 
-byte-requires : tie.Need-byte-requires Inv-loop μ-loop
-byte-requires c κs = search needs
+shared-slice-read-next : tie.Need-shared-slice-read-next Inv-loop μ-loop
+shared-slice-read-next c = search needs
+
+element-write-next : tie.Need-element-write-next Inv-loop μ-loop
+element-write-next c = search needs
+
+add-next : tie.Need-add-next Inv-loop μ-loop
+add-next c = search needs
 
 add-at : tie.Need-add-at Inv-loop μ-loop
 add-at c = search needs
@@ -40,8 +46,10 @@ text-spec =
     Inv-loop
     μ-loop
     loop-holds
-    shared-slice-read-byte
-    byte-requires
+    flush-requires
+    shared-slice-read-next
+    element-write-next
+    add-next
     add-at
     loop-less
     loop-again
