@@ -8,6 +8,14 @@ use crate::show;
 use crate::usage;
 use crate::usage::Command;
 use crate::words::Words;
+use files::limits;
+
+// The most bytes of an origin file, of a plan file and of a page that a call writes.
+const ORIGIN: usize = 5520;
+
+const PLAN: usize = 8206;
+
+const PAGE: usize = 135201;
 
 // Runs the command of a line or of the arguments.
 pub fn run(out: Printer, text: &[u8], given: Words) -> Printer {
@@ -25,7 +33,7 @@ pub fn run(out: Printer, text: &[u8], given: Words) -> Printer {
 // Reads the file that a command names first.
 fn run_on_name(out: Printer, command: Command, text: &[u8], given: Words) -> Printer {
     let name = given.at(text, 1);
-    let mut space = [0u8; 65537];
+    let mut space = [0u8; input::ROOM];
     let read = input::read(name, &mut space);
     if !read.is_whole {
         return out.failed(name);
@@ -50,7 +58,7 @@ fn run_on_file(out: Printer, command: Command, file: &[u8], text: &[u8], given: 
 // Reads the plan file that a command names second, and runs the command on its two files.
 fn run_on_task(out: Printer, command: Command, task: &[u8], text: &[u8], given: Words) -> Printer {
     let name = given.at(text, 2);
-    let mut space = [0u8; 65537];
+    let mut space = [0u8; input::ROOM];
     let read = input::read(name, &mut space);
     if !read.is_whole {
         return out.failed(name);
@@ -83,8 +91,8 @@ fn show(out: Printer, file: &[u8]) -> Printer {
 }
 
 fn mark(out: Printer, file: &[u8], level: u32) -> Printer {
-    let mut actions = [0u8; 512];
-    let mut facts = [0u8; 2048];
+    let mut actions = [0u8; limits::MOST_ACTIONS];
+    let mut facts = [0u8; limits::MOST_FACTS];
     let marked = marking::mark(file, level, &mut actions, &mut facts);
     let outcome = marked.outcome;
     if outcome.number != 0 {
@@ -96,10 +104,10 @@ fn mark(out: Printer, file: &[u8], level: u32) -> Printer {
 }
 
 fn reduce(out: Printer, file: &[u8], text: &[u8], given: Words) -> Printer {
-    let mut actions = [0u8; 512];
-    let mut facts = [0u8; 2048];
-    let mut task = [0u8; 65536];
-    let mut origin = [0u8; 5520];
+    let mut actions = [0u8; limits::MOST_ACTIONS];
+    let mut facts = [0u8; limits::MOST_FACTS];
+    let mut task = [0u8; limits::MOST_BYTES];
+    let mut origin = [0u8; ORIGIN];
     let reduced = reduction::reduce(
         file,
         given.number(text, 2),
@@ -154,11 +162,11 @@ fn put_reduced(out: Printer, reduced: reduction::Reduced) -> Printer {
 }
 
 fn plan(out: Printer, file: &[u8], signer: u32, name: &[u8]) -> Printer {
-    let mut actions = [0u8; 512];
-    let mut facts = [0u8; 2048];
-    let mut reduced = [0u8; 65536];
-    let mut origin = [0u8; 5520];
-    let mut plan = [0u8; 8206];
+    let mut actions = [0u8; limits::MOST_ACTIONS];
+    let mut facts = [0u8; limits::MOST_FACTS];
+    let mut reduced = [0u8; limits::MOST_BYTES];
+    let mut origin = [0u8; ORIGIN];
+    let mut plan = [0u8; PLAN];
     let planned = search::own_table::plan(
         file,
         signer,
@@ -179,7 +187,7 @@ fn plan(out: Printer, file: &[u8], signer: u32, name: &[u8]) -> Printer {
 }
 
 fn translate(out: Printer, text: &[u8], signer: u32, name: &[u8]) -> Printer {
-    let mut task = [0u8; 65536];
+    let mut task = [0u8; limits::MOST_BYTES];
     let translated = translator::translate(text, signer, &mut task);
     let outcome = translated.outcome;
     if outcome.number != 0 {
@@ -201,7 +209,7 @@ fn check_plan(out: Printer, task: &[u8], plan: &[u8], plan_name: &[u8]) -> Print
 }
 
 fn sheet(out: Printer, task: &[u8], plan: &[u8], plan_name: &[u8], name: &[u8]) -> Printer {
-    let mut page = [0u8; 135201];
+    let mut page = [0u8; PAGE];
     let laid = sheets::sheet(task, plan, &mut page);
     let outcome = laid.outcome;
     if outcome.number != 0 {

@@ -1,21 +1,24 @@
 // Files read whole, and standard input read byte by byte.
 ghost use Rattle.io.specs.Counts.{Counts};
 
+// How much of a file is read: one byte more than it may have, so that a file over the limit is told from one at it.
+pub const ROOM: usize = files::limits::MOST_BYTES + 1;
+
 // How much of a file is in the buffer, and whether it is all that the buffer can hold of it.
-pub struct Bytes {
+pub struct Filled {
     pub length: usize,
     pub is_whole: bool,
 }
 
 // Reads a file, and of one that is longer than the buffer as much as fits; where the system refuses, it
 // says why.
-pub fn read(name: &[u8], file: &mut [u8]) -> Bytes
+pub fn read(name: &[u8], file: &mut [u8]) -> Filled
     ensures { λ r. ⌜ Counts (r .length) (now (file .exit)) ⌝ }
 {
     let fd = os::open_read(name);
     if fd < 0 {
         os::fail(name);
-        return Bytes {
+        return Filled {
             length: 0,
             is_whole: false,
         };
@@ -26,7 +29,7 @@ pub fn read(name: &[u8], file: &mut [u8]) -> Bytes
         os::fail(name);
     }
     libc::close(fd);
-    Bytes {
+    Filled {
         length: length,
         is_whole: is_whole,
     }
@@ -60,14 +63,14 @@ pub const START: Source = Source {
 // Goes to the next byte.
 pub fn advance(piece: &mut [u8], source: Source) -> Source {
     if source.at < source.count {
-        return with_byte(piece, source);
+        return take_byte(piece, source);
     }
     let next = refill(piece);
-    with_byte(piece, next)
+    take_byte(piece, next)
 }
 
 // Takes the byte that stands next in the piece.
-fn with_byte(piece: &[u8], source: Source) -> Source {
+fn take_byte(piece: &[u8], source: Source) -> Source {
     let mut next = source;
     let at = source.at;
     if at < piece.len() {

@@ -12,9 +12,9 @@ mod words;
 use printer::Printer;
 
 fn main() {
-    let mut text = [0u8; 16384];
+    let mut text = [0u8; words::LINE];
     let given = words::from_arguments(&mut text);
-    if given.fill(1) && words::alike(given.at(&text, 0), b"-") {
+    if given.are(1) && words::alike(given.at(&text, 0), b"-") {
         script::run(&mut text);
         return;
     }

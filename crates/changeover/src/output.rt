@@ -1,5 +1,9 @@
 // Files written under another name and then put in place, so that a name always has a whole file.
 ghost use Rattle.io.specs.Counts.{Counts};
+use crate::words;
+
+// Room for a name with its ending.
+const ROOM: usize = words::LINE + 4;
 
 // How far two files have come.
 pub enum Written {
@@ -45,7 +49,7 @@ fn prepare(name: &[u8], bytes: &[u8], count: usize) -> bool {
     if bytes.len() < count {
         return false;
     }
-    let mut path = [0u8; 16388];
+    let mut path = [0u8; ROOM];
     let length = new_name(name, &mut path);
     if !is_for_files(name) {
         os::fail(name);
@@ -81,7 +85,7 @@ fn prepare_apart(name: &[u8], bytes: &[u8], count: usize, first: &[u8]) -> bool 
 // Gives a file that is prepared its name. Where the system refuses, it says why, and the file is not
 // left behind.
 fn place(name: &[u8]) -> bool {
-    let mut path = [0u8; 16388];
+    let mut path = [0u8; ROOM];
     let length = new_name(name, &mut path);
     let is_placed = os::rename(&path[..length], name) == 0;
     if !is_placed {
@@ -93,7 +97,7 @@ fn place(name: &[u8]) -> bool {
 
 // Removes a file that is prepared.
 fn withdraw(name: &[u8]) {
-    let mut path = [0u8; 16388];
+    let mut path = [0u8; ROOM];
     let length = new_name(name, &mut path);
     os::unlink(&path[..length]);
 }

@@ -82,14 +82,15 @@ fn run_line(text: &[u8], line: Line) -> Printer {
     commands::run(line.out, text, given).flush()
 }
 
-// Ends the run: what stands behind the last line feed is a line too.
+// Ends the run: what stands behind the last line feed is a line too, where standard input has been read whole.
 fn finish(text: &[u8], line: Line, is_failed: bool) {
-    let mut out = line.out;
-    if line.is_comment || 0 < line.length {
-        out = run_line(text, line);
-    }
     if is_failed {
-        out = out.failed(b"-");
+        line.out.failed(b"-").flush();
+        return;
     }
-    out.flush();
+    if line.is_comment || 0 < line.length {
+        run_line(text, line).flush();
+        return;
+    }
+    line.out.flush();
 }

@@ -51,17 +51,17 @@ pub fn named(word: &[u8]) -> Command {
 // Whether the words are those that the command takes: how many, its own among them, and which are numbers.
 pub fn fits(command: Command, text: &[u8], given: Words) -> bool {
     match command {
-        Command::Check => given.fill(2),
-        Command::Show => given.fill(2),
-        Command::Mark => given.fill(3) && given.has_number(text, 2),
+        Command::Check => given.are(2),
+        Command::Show => given.are(2),
+        Command::Mark => given.are(3) && given.has_number(text, 2),
         Command::Reduce => {
-            given.fill(6) && given.has_number(text, 2) && given.has_number(text, 3)
+            given.are(6) && given.has_number(text, 2) && given.has_number(text, 3)
         }
-        Command::Plan => given.fill(4) && given.has_number(text, 2),
-        Command::CheckPlan => given.fill(3),
-        Command::Sheet => given.fill(4),
-        Command::Translate => given.fill(4) && given.has_number(text, 2),
-        Command::Lines => given.fill(1),
+        Command::Plan => given.are(4) && given.has_number(text, 2),
+        Command::CheckPlan => given.are(3),
+        Command::Sheet => given.are(4),
+        Command::Translate => given.are(4) && given.has_number(text, 2),
+        Command::Lines => given.are(1),
         Command::Unknown => false,
     }
 }

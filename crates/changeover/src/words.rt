@@ -99,7 +99,7 @@ impl Words {
     }
 
     // Whether the words are whole, and so many.
-    pub fn fill(self, count: usize) -> bool {
+    pub fn are(self, count: usize) -> bool {
         self.is_whole && self.count == count
     }
 

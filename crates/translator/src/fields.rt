@@ -40,7 +40,7 @@ const DIGIT_ZERO: usize = ZERO as usize;
 
 pub const DIGIT_ONE: usize = ONE as usize;
 
-// The largest number that is told from larger ones: above every limit, and more than a text has bytes.
+// The number that stands for all from it on: above every limit, and more than a text has bytes.
 const MOST: usize = 1048576;
 
 // In place of a number: -1.
