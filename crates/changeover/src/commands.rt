@@ -10,13 +10,6 @@ use crate::usage::Command;
 use crate::words::Words;
 use files::limits;
 
-// The most bytes of an origin file, of a plan file and of a page that a call writes.
-const ORIGIN: usize = 5520;
-
-const PLAN: usize = 8206;
-
-const PAGE: usize = 135201;
-
 // Runs the command of a line or of the arguments.
 pub fn run(out: Printer, text: &[u8], given: Words) -> Printer {
     let command = usage::named(given.at(text, 0));
@@ -107,7 +100,7 @@ fn reduce(out: Printer, file: &[u8], text: &[u8], given: Words) -> Printer {
     let mut actions = [0u8; limits::MOST_ACTIONS];
     let mut facts = [0u8; limits::MOST_FACTS];
     let mut task = [0u8; limits::MOST_BYTES];
-    let mut origin = [0u8; ORIGIN];
+    let mut origin = [0u8; limits::MOST_ORIGIN_BYTES];
     let reduced = reduction::reduce(
         file,
         given.number(text, 2),
@@ -165,8 +158,8 @@ fn plan(out: Printer, file: &[u8], signer: u32, name: &[u8]) -> Printer {
     let mut actions = [0u8; limits::MOST_ACTIONS];
     let mut facts = [0u8; limits::MOST_FACTS];
     let mut reduced = [0u8; limits::MOST_BYTES];
-    let mut origin = [0u8; ORIGIN];
-    let mut plan = [0u8; PLAN];
+    let mut origin = [0u8; limits::MOST_ORIGIN_BYTES];
+    let mut plan = [0u8; limits::MOST_PLAN_BYTES];
     let planned = search::own_table::plan(
         file,
         signer,
@@ -209,7 +202,7 @@ fn check_plan(out: Printer, task: &[u8], plan: &[u8], plan_name: &[u8]) -> Print
 }
 
 fn sheet(out: Printer, task: &[u8], plan: &[u8], plan_name: &[u8], name: &[u8]) -> Printer {
-    let mut page = [0u8; PAGE];
+    let mut page = [0u8; sheets::MOST_PAGE];
     let laid = sheets::sheet(task, plan, &mut page);
     let outcome = laid.outcome;
     if outcome.number != 0 {

@@ -6,7 +6,7 @@ const ROOM: usize = 512;
 // The bytes that wait, how many they are, and whether standard output has refused any: then nothing
 // more is printed.
 pub struct Printer {
-    pub bytes: [u8; 512],
+    pub bytes: [u8; ROOM],
     pub waiting: usize,
     pub is_cut: bool,
 }
@@ -22,7 +22,7 @@ fn print(bytes: &[u8], count: usize) -> bool {
 impl Printer {
     pub fn new() -> Printer {
         Printer {
-            bytes: [0; 512],
+            bytes: [0; ROOM],
             waiting: 0,
             is_cut: false,
         }

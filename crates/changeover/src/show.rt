@@ -4,6 +4,9 @@ use files::limits;
 
 const NO_PAIR: usize = limits::NO_PAIR as usize;
 
+// The cells of all actions.
+const CELLS: usize = limits::MOST_ACTIONS * limits::ROW;
+
 pub enum Kind {
     Task,
     Origin,
@@ -88,12 +91,12 @@ pub fn put_file(out: Printer, kind: Kind, file: &[u8]) -> Printer {
 }
 
 fn put_task(out: Printer, file: &[u8]) -> Printer {
-    let mut sizes = [0u8; 64];
-    let mut starts = [0u8; 64];
-    let mut goal = [0u8; 64];
-    let mut costs = [0u32; 512];
-    let mut conditions = [0u8; 32768];
-    let mut effects = [0u8; 32768];
+    let mut sizes = [0u8; limits::MOST_VARIABLES];
+    let mut starts = [0u8; limits::MOST_VARIABLES];
+    let mut goal = [0u8; limits::MOST_VARIABLES];
+    let mut costs = [0u32; limits::MOST_ACTIONS];
+    let mut conditions = [0u8; CELLS];
+    let mut effects = [0u8; CELLS];
     files::decode::read_task(
         file,
         &mut sizes,
@@ -108,7 +111,12 @@ fn put_task(out: Printer, file: &[u8]) -> Printer {
     put_actions(next, file, &costs, &conditions, &effects)
 }
 
-fn put_variables(out: Printer, file: &[u8], sizes: &[u8; 64], starts: &[u8; 64]) -> Printer {
+fn put_variables(
+    out: Printer,
+    file: &[u8],
+    sizes: &[u8; limits::MOST_VARIABLES],
+    starts: &[u8; limits::MOST_VARIABLES],
+) -> Printer {
     let variables = files::task::variables_in(file);
     let mut next = out;
     let mut v: usize = 0;
@@ -122,16 +130,16 @@ fn put_variables(out: Printer, file: &[u8], sizes: &[u8; 64], starts: &[u8; 64])
     next
 }
 
-fn put_goal(out: Printer, goal: &[u8; 64]) -> Printer {
+fn put_goal(out: Printer, goal: &[u8; limits::MOST_VARIABLES]) -> Printer {
     put_pairs(out.text(b"goal"), b"", goal).end()
 }
 
 fn put_actions(
     out: Printer,
     file: &[u8],
-    costs: &[u32; 512],
-    conditions: &[u8; 32768],
-    effects: &[u8; 32768],
+    costs: &[u32; limits::MOST_ACTIONS],
+    conditions: &[u8; CELLS],
+    effects: &[u8; CELLS],
 ) -> Printer {
     let actions = files::task::actions_in(file);
     let mut next = out;

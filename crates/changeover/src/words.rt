@@ -11,11 +11,11 @@ const LARGEST: u64 = u32::MAX as u64;
 
 const TOO_LARGE: u64 = LARGEST + 1;
 
-// Where each word begins and ends. Where a word is empty or has found no room, they are not whole.
+// Where each word begins and ends. Where a word is empty, has a line feed or has found no room, they are not whole.
 pub struct Words {
     pub count: usize,
-    pub starts: [usize; 8],
-    pub ends: [usize; 8],
+    pub starts: [usize; MOST],
+    pub ends: [usize; MOST],
     pub is_whole: bool,
 }
 
@@ -23,8 +23,8 @@ pub struct Words {
 pub fn none() -> Words {
     Words {
         count: 0,
-        starts: [0; 8],
-        ends: [0; 8],
+        starts: [0; MOST],
+        ends: [0; MOST],
         is_whole: true,
     }
 }
@@ -69,7 +69,20 @@ pub fn from_arguments(text: &mut [u8]) -> Words {
         start = end;
         i += 1;
     }
+    words.is_whole = words.is_whole && is_line(text, start);
     words
+}
+
+// Whether the first `count` bytes are of one line: a name with a line feed would end the line that it is printed in.
+fn is_line(text: &[u8], count: usize) -> bool {
+    let mut at: usize = 0;
+    while at < count && at < text.len() {
+        if text[at] == b'\n' {
+            return false;
+        }
+        at += 1;
+    }
+    true
 }
 
 // Copies argument `i` into a text, and answers where it ends; an argument that finds no room is empty.

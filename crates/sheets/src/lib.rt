@@ -8,6 +8,9 @@ use files::outcomes;
 use plans::Minutes;
 use plans::Steps;
 
+// The most bytes of a page.
+pub const MOST_PAGE: usize = lines::LINE * (files::limits::MOST_STEPS + 1);
+
 // What the call answers: the bytes of the page, and the plan's cost and steps; 0 beside a refusal.
 pub struct Laid {
     pub outcome: files::Outcome,

@@ -10,8 +10,8 @@ use shortest::lent::MOST_PAGE;
 use shortest_check::buffers::Buffers;
 use shortest_check::program::{program, said, Folder};
 use shortest_check::reference;
-use shortest_check::reference::files::{write_plan, Plan};
-use shortest_check::reference::generate::{self, Random};
+use shortest_check::reference::files::{write_plan, Fact, Plan, Task, Variable};
+use shortest_check::reference::generate::{self, task_file, Random};
 
 const TASK_E: &[u8] = include_bytes!("../../../crates/shortest/stdin");
 const TEXT_E: &[u8] = include_bytes!("../../../examples/e.sas");
@@ -44,6 +44,11 @@ fn writers(name: &str) -> [Vec<&str>; 5] {
         vec!["reduce", "E.task", "4", "9", name, "other"],
         vec!["reduce", "E.task", "4", "9", "other", name],
     ]
+}
+
+/// The name of the file that a command writes first.
+fn first_written<'a>(words: &[&'a str]) -> &'a str {
+    words[if words[0] == "reduce" { 4 } else { 3 }]
 }
 
 /// What each of them writes there, and to the other file.
@@ -195,6 +200,58 @@ fn a_pipe_in_the_place_of_the_file() {
     }
 }
 
+/// What the program says where no file may be longer than so many blocks: the
+/// system then refuses to write, as it does where the device is full.
+fn run_within(folder: &Folder, blocks: u32, words: &[&str]) -> String {
+    let limited = format!("trap '' XFSZ; ulimit -f {blocks}; exec \"$0\" \"$@\"");
+    let mut command = Command::new("sh");
+    command.arg("-c").arg(limited).arg(program()).args(words);
+    command.current_dir(folder.path("")).stdin(Stdio::null());
+    said(command.output().unwrap())
+}
+
+#[test]
+fn no_room_for_a_byte() {
+    let folder = new_folder("no_room");
+    let before = folder.held();
+    for words in [writers("old"), writers("new"), writers("E.task")].concat() {
+        let failed = format!("failed {}\n", first_written(&words));
+        assert_eq!(run_within(&folder, 0, &words), failed);
+        assert!(folder.held() == before, "{words:?}");
+    }
+}
+
+/// A task whose reduced file has some hundred bytes, and its origin file some
+/// thousands.
+fn with_a_long_origin() -> Task {
+    let variables = vec![Variable { size: 32, start: 0 }; 50];
+    let goal = |variable| Fact { variable, value: 1 };
+    Task {
+        variables,
+        goal: (0..50).map(goal).collect(),
+        actions: Vec::new(),
+        signer: 1,
+    }
+}
+
+/// The first file is written whole and the second in part: both are as they
+/// were.
+#[test]
+fn no_room_for_the_second() {
+    let folder = new_folder("no_room_for_two");
+    folder.put("task", &task_file(&with_a_long_origin()));
+    let before = folder.held();
+    for [reduced, origin] in [["old", "other"], ["new", "newer"], ["task", "new"]] {
+        let words = ["reduce", "task", "4", "9", reduced, origin];
+        assert_eq!(run_within(&folder, 3, &words), format!("failed {origin}\n"));
+        assert!(folder.held() == before, "{words:?}");
+    }
+    let words = ["reduce", "task", "4", "9", "old", "other"];
+    assert!(run_within(&folder, 8, &words).starts_with("done "));
+    assert!((1..=1_536).contains(&folder.get("old").len()));
+    assert!((3_073..=4_096).contains(&folder.get("other").len()));
+}
+
 fn set_mode(folder: &Folder, name: &str, mode: u32) {
     fs::set_permissions(folder.path(name), Permissions::from_mode(mode)).unwrap();
 }
@@ -211,8 +268,7 @@ fn as_user(program: &Path) -> Command {
 fn read_only(folder: &Folder, run: impl Fn(&[&str]) -> String) {
     let before = folder.held();
     for words in [writers("old"), writers("new")].concat() {
-        let first = words[if words[0] == "reduce" { 4 } else { 3 }];
-        assert_eq!(run(&words), format!("failed {first}\n"));
+        assert_eq!(run(&words), format!("failed {}\n", first_written(&words)));
         assert!(folder.held() == before, "{words:?}");
     }
     set_mode(folder, "", 0o777);
@@ -321,7 +377,7 @@ fn an_empty_file() {
 fn a_task_of_the_largest_size() {
     let folder = new_folder("largest");
     let task = generate::largest(&mut Random::new(1));
-    let mut file = generate::task_file(&task);
+    let mut file = task_file(&task);
     folder.put("largest", &file);
     assert_eq!(file.len(), 65_536);
     let signer = task.signer;

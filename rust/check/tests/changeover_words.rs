@@ -92,6 +92,26 @@ fn an_empty_word() {
     }
 }
 
+/// Such a name would be a line of its own below that which it is printed in,
+/// and perhaps one that says `done`.
+#[test]
+fn a_word_with_a_line_feed() {
+    let folder = new_folder("line_feed");
+    folder.put("task\ndone", TASK_E);
+    let before = folder.held();
+    for usage in USAGE {
+        for place in 1..words(usage).len() {
+            for word in ["task\ndone", "gone\ndone", "E.task\n", "\n4"] {
+                let mut words = words(usage);
+                words[place] = word;
+                assert_eq!(folder.run(&words), failed(usage), "{words:?}");
+            }
+        }
+        assert_eq!(folder.run(&[&format!("{usage}\n")]), no_command());
+    }
+    assert!(folder.held() == before);
+}
+
 /// Whether the file is there or not.
 #[test]
 fn words_that_are_no_numbers() {

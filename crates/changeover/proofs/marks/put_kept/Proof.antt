@@ -3,9 +3,6 @@ use Prim.Native.Nat.{_-_, _≤_}
 use borrow.Author.Needs.{needs}
 use Rattle.changeover.proofs.marks.put_kept.Statement.{statement}
 use Rattle.changeover.proofs.marks.put_kept.Tie as tie
-use Rattle.changeover.proofs.printer.Printer.end.Reads as end-reads
-use Rattle.changeover.proofs.printer.Printer.labelled.Reads as labelled-reads
-use Rattle.files.proofs.task.actions_in.Reads as actions-in-reads
 
 abbrev Inv-loop : tie.InvT-loop
 Inv-loop file actions count next₀ a₀ t7 next a = a ≤ count

@@ -3,10 +3,6 @@ use Prim.Native.Nat.{_-_, _*_, _≤_}
 use borrow.Author.Needs.{needs}
 use Rattle.changeover.proofs.marks.put_relevant.Statement.{statement}
 use Rattle.changeover.proofs.marks.put_relevant.Tie as tie
-use Rattle.changeover.proofs.marks.part.Reads as part-reads
-use Rattle.changeover.proofs.marks.put_values.Reads as put-values-reads
-use Rattle.files.proofs.task.size_of.Reads as size-of-reads
-use Rattle.files.proofs.task.variables_in.Reads as variables-in-reads
 
 abbrev Inv-loop : tie.InvT-loop
 Inv-loop file facts variables next₀ at₀ v₀ next at v = (v ≤ variables) × (at ≤ 65536 * v)

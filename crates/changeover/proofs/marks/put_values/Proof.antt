@@ -4,9 +4,6 @@ use lib.ListN.{length}
 use borrow.Author.Needs.{needs}
 use Rattle.changeover.proofs.marks.put_values.Statement.{statement}
 use Rattle.changeover.proofs.marks.put_values.Tie as tie
-use Rattle.changeover.proofs.printer.Printer.end.Reads as end-reads
-use Rattle.changeover.proofs.printer.Printer.fact.Reads as fact-reads
-use Rattle.changeover.proofs.printer.Printer.text.Reads as text-reads
 
 abbrev Inv-loop : tie.InvT-loop
 Inv-loop variable facts next₀ d₀ t6 t7 t8 next d = d ≤ length facts

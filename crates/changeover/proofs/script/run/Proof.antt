@@ -4,12 +4,6 @@ use lib.ListN.{length}
 use borrow.Author.Needs.{needs}
 use Rattle.changeover.proofs.script.run.Statement.{statement}
 use Rattle.changeover.proofs.script.run.Tie as tie
-use Rattle.changeover.proofs.input.advance.Reads as advance-reads
-use Rattle.changeover.proofs.printer.Printer.new.Reads as new-reads
-use Rattle.changeover.proofs.script.finish.Reads as finish-reads
-use Rattle.changeover.proofs.script.goes_on.Reads as goes-on-reads
-use Rattle.changeover.proofs.script.start.Reads as start-reads
-use Rattle.changeover.proofs.script.with_next.Reads as with-next-reads
 
 abbrev Inv-loop : tie.InvT-loop
 Inv-loop text₀ piece₀ source₀ line₀ turns₀ text piece source line turns = (length text ≡ length text₀) × (length piece ≡ length piece₀)

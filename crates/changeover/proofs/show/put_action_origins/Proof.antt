@@ -3,9 +3,6 @@ use Prim.Native.Nat.{_-_, _≤_}
 use borrow.Author.Needs.{needs}
 use Rattle.changeover.proofs.show.put_action_origins.Statement.{statement}
 use Rattle.changeover.proofs.show.put_action_origins.Tie as tie
-use Rattle.changeover.proofs.printer.Printer.labelled.Reads as labelled-reads
-use Rattle.files.proofs.origin.action.Reads as action-reads
-use Rattle.files.proofs.origin.actions_in.Reads as actions-in-reads
 
 abbrev Inv-loop : tie.InvT-loop
 Inv-loop file actions next₀ a₀ t7 next a = a ≤ actions

@@ -3,9 +3,6 @@ use Prim.Native.Nat.{_-_, _≤_}
 use borrow.Author.Needs.{needs}
 use Rattle.changeover.proofs.show.put_actions.Statement.{statement}
 use Rattle.changeover.proofs.show.put_actions.Tie as tie
-use Rattle.changeover.proofs.show.put_action.Reads as put-action-reads
-use Rattle.changeover.proofs.show.row.Reads as row-reads
-use Rattle.files.proofs.task.actions_in.Reads as actions-in-reads
 
 abbrev Inv-loop : tie.InvT-loop
 Inv-loop file costs conditions effects actions next₀ a₀ next a = a ≤ actions

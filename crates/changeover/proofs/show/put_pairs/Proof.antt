@@ -4,9 +4,6 @@ use lib.ListN.{length}
 use borrow.Author.Needs.{needs}
 use Rattle.changeover.proofs.show.put_pairs.Statement.{statement}
 use Rattle.changeover.proofs.show.put_pairs.Tie as tie
-use Rattle.changeover.proofs.printer.Printer.fact.Reads as fact-reads
-use Rattle.changeover.proofs.show.begin.Reads as begin-reads
-use Rattle.files.proofs.bytes.byte_at.Reads as byte-at-reads
 
 abbrev Inv-loop : tie.InvT-loop
 Inv-loop label row next₀ is-begun₀ v₀ next is-begun v = v ≤ length row

@@ -3,10 +3,6 @@ use Prim.Native.Nat.{_-_, _≤_}
 use borrow.Author.Needs.{needs}
 use Rattle.changeover.proofs.show.put_steps.Statement.{statement}
 use Rattle.changeover.proofs.show.put_steps.Tie as tie
-use Rattle.changeover.proofs.printer.Printer.end.Reads as end-reads
-use Rattle.changeover.proofs.printer.Printer.labelled.Reads as labelled-reads
-use Rattle.files.proofs.plan.step.Reads as step-reads
-use Rattle.files.proofs.plan.steps.Reads as steps-reads
 
 abbrev Inv-loop : tie.InvT-loop
 Inv-loop file count next₀ i₀ t8 next i = i ≤ count

@@ -3,12 +3,6 @@ use Prim.Native.Nat.{_-_, _≤_}
 use borrow.Author.Needs.{needs}
 use Rattle.changeover.proofs.show.put_variable_origin.Statement.{statement}
 use Rattle.changeover.proofs.show.put_variable_origin.Tie as tie
-use Rattle.changeover.proofs.printer.Printer.labelled.Reads as labelled-reads
-use Rattle.changeover.proofs.printer.Printer.text.Reads as text-reads
-use Rattle.files.proofs.origin.value_at.Reads as value-at-reads
-use Rattle.files.proofs.origin.values_in.Reads as values-in-reads
-use Rattle.files.proofs.origin.variable_at.Reads as variable-at-reads
-use Rattle.files.proofs.origin.variable_place.Reads as variable-place-reads
 
 abbrev Inv-loop : tie.InvT-loop
 Inv-loop file v at values next₀ d₀ t10 next d = d ≤ values

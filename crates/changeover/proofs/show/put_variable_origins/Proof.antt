@@ -3,9 +3,6 @@ use Prim.Native.Nat.{_-_, _≤_}
 use borrow.Author.Needs.{needs}
 use Rattle.changeover.proofs.show.put_variable_origins.Statement.{statement}
 use Rattle.changeover.proofs.show.put_variable_origins.Tie as tie
-use Rattle.changeover.proofs.printer.Printer.end.Reads as end-reads
-use Rattle.changeover.proofs.show.put_variable_origin.Reads as put-variable-origin-reads
-use Rattle.files.proofs.origin.variables_in.Reads as variables-in-reads
 
 abbrev Inv-loop : tie.InvT-loop
 Inv-loop file variables next₀ v₀ next v = v ≤ variables

@@ -3,10 +3,6 @@ use Prim.Native.Nat.{_-_, _≤_}
 use borrow.Author.Needs.{needs}
 use Rattle.changeover.proofs.show.put_variables.Statement.{statement}
 use Rattle.changeover.proofs.show.put_variables.Tie as tie
-use Rattle.changeover.proofs.printer.Printer.end.Reads as end-reads
-use Rattle.changeover.proofs.printer.Printer.labelled.Reads as labelled-reads
-use Rattle.files.proofs.bytes.byte_at.Reads as byte-at-reads
-use Rattle.files.proofs.task.variables_in.Reads as variables-in-reads
 
 abbrev Inv-loop : tie.InvT-loop
 Inv-loop file sizes starts variables next₀ v₀ t8 t9 t10 next v = v ≤ variables

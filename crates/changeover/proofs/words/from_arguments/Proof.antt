@@ -5,10 +5,6 @@ use lib.ListN.{length}
 use borrow.Author.Needs.{needs}
 use Rattle.changeover.proofs.words.from_arguments.Statement.{statement}
 use Rattle.changeover.proofs.words.from_arguments.Tie as tie
-use Rattle.changeover.proofs.words.none.Reads as none-reads
-use Rattle.changeover.proofs.words.put_argument.Reads as put-argument-reads
-use Rattle.changeover.proofs.words.with.Reads as with-reads
-use Rattle.os.proofs.arg_count.Reads as arg-count-reads
 
 abbrev Inv-loop : tie.InvT-loop
 Inv-loop text₀ words₀ start₀ i₀ text words start i = (length text ≡ length text₀) × (i ≤ 9)
@@ -40,6 +36,9 @@ loop-less c = search needs
 loop-again : tie.Need-loop-again Inv-loop μ-loop
 loop-again c = search needs
 
+is-line-requires : tie.Need-is-line-requires Inv-loop μ-loop
+is-line-requires c κs = search needs
+
 same-length : tie.Need-same-length Inv-loop μ-loop
 same-length c = search needs
 
@@ -66,6 +65,7 @@ from-arguments-spec =
     add-i
     loop-less
     loop-again
+    is-line-requires
     same-length
     returns
     same-length-2

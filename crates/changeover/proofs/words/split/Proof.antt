@@ -4,8 +4,6 @@ use lib.ListN.{length}
 use borrow.Author.Needs.{needs}
 use Rattle.changeover.proofs.words.split.Statement.{statement}
 use Rattle.changeover.proofs.words.split.Tie as tie
-use Rattle.changeover.proofs.words.none.Reads as none-reads
-use Rattle.changeover.proofs.words.with.Reads as with-reads
 
 abbrev Inv-loop : tie.InvT-loop
 Inv-loop line words₀ start₀ at₀ words start at = at ≤ length line

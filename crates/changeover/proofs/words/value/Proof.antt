@@ -4,7 +4,6 @@ use lib.ListN.{length}
 use borrow.Author.Needs.{needs}
 use Rattle.changeover.proofs.words.value.Statement.{statement}
 use Rattle.changeover.proofs.words.value.Tie as tie
-use Rattle.changeover.proofs.words.with_digit.Reads as with-digit-reads
 
 abbrev Inv-loop : tie.InvT-loop
 Inv-loop word value₀ at₀ value at = at ≤ length word

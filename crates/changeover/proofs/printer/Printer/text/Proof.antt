@@ -4,7 +4,6 @@ use lib.ListN.{length}
 use borrow.Author.Needs.{needs}
 use Rattle.changeover.proofs.printer.Printer.text.Statement.{statement}
 use Rattle.changeover.proofs.printer.Printer.text.Tie as tie
-use Rattle.changeover.proofs.printer.Printer.flush.Reads as flush-reads
 
 abbrev Inv-loop : tie.InvT-loop
 Inv-loop text next₀ at₀ next at = at ≤ length text
