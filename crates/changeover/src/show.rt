@@ -1,6 +1,7 @@
 // What files hold, as lines.
 use crate::printer::Printer;
 use files::limits;
+use plans::ReducedAction;
 
 const NO_PAIR: usize = limits::NO_PAIR as usize;
 
@@ -227,10 +228,11 @@ fn put_variable_origin(out: Printer, file: &[u8], v: u16) -> Printer {
 
 fn put_action_origins(out: Printer, file: &[u8]) -> Printer {
     let actions = files::origin::actions_in(file);
+    let place = files::origin::actions_place(file);
     let mut next = out;
     let mut a: usize = 0;
     while a < actions {
-        let action = files::origin::action(file, a);
+        let action = files::origin::original(file, place, ReducedAction(a as u16));
         next = next.labelled(b" ", action.0 as usize);
         a += 1;
     }

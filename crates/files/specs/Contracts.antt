@@ -10,6 +10,7 @@ use Rattle.files.specs.declared.records.Rule.{Rule}
 use Rattle.files.specs.declared.runs.Run.{Run}
 use Rattle.files.specs.Bytes.{u32At, placed}
 use Rattle.files.specs.Dense.{Arrays, held, arrays, OriginSizes}
+use Rattle.files.specs.OriginFile.{originOf, originActionsPlace}
 use Rattle.files.specs.Records.{bodyRule, offsetLimit, recordEnd}
 use Rattle.files.specs.Rows.{cleared, filled, filledRows, storedSizes, storedStarts, storedCosts, conditionLists, effectLists}
 use Rattle.files.specs.Runs.{runFrom}
@@ -171,3 +172,9 @@ pub record OriginsCells (sizes values : List ℕ) (count : ℕ) : Type 0 where
 pub record OriginWithin (variables actions : ℕ) (sizes : List ℕ) : Type 0 where
   pub limits : WithinLimits variables actions
   pub fewValues : OriginSizes sizes variables
+
+-- an action that an origin file names, whose record of kind 7 stands at a place
+pub record NumberAt (origin : List ℕ) (place action : ℕ) : Type 0 where
+  pub place-is : place ≡ originActionsPlace origin
+  pub place-few : place < 8589934592
+  pub inside : action < length (originOf origin .actions)

@@ -3,7 +3,7 @@ ghost use mathlib.Core.Path.{_≡_};
 ghost use Prim.Native.Nat.{_+_, _*_, _^_, _<_};
 ghost use lib.ListN.{length, getD};
 ghost use Rattle.files.specs.Bytes.{u16At};
-ghost use Rattle.files.specs.Contracts.{IsBelow, IsAtMost, Behind};
+ghost use Rattle.files.specs.Contracts.{IsBelow, IsAtMost, Behind, NumberAt};
 ghost use Rattle.files.specs.OriginFile.{valuesIn, leastAfter, variableOriginAt, variableOriginsAt, actionOriginsAt, originVariablesIn, originActionsPlace, originOf};
 ghost use Rattle.files.specs.Records.{offsetLimit, recordsEnd};
 use crate::Outcome;
@@ -13,6 +13,7 @@ use crate::outcomes;
 use crate::records;
 use crate::runs;
 use crate::units::OriginalAction;
+use crate::units::ReducedAction;
 
 // Up to how many variable origins are counted: one more than can pass.
 const COUNTED: usize = limits::MOST_VARIABLES + 1;
@@ -140,17 +141,18 @@ pub fn value_at(s: &[u8], at: usize, d: usize) -> usize
     bytes::u16_at(s, at + 6 + 2 * d)
 }
 
-// How many actions a file names, and the original number of action `i` of them.
+// How many actions a file names.
 pub fn actions_in(s: &[u8]) -> usize
     ensures { λ r. ⌜ IsBelow r (length (originOf (now (s .entry)) .actions)) 32768 ⌝ }
 {
     records::body_length(s, actions_place(s)) / 2
 }
 
-pub fn action(s: &[u8], i: usize) -> OriginalAction
-    requires { ⌜ i < length (originOf (now s) .actions) ⌝ }
-    ensures { λ r. ⌜ r .0 ≡ getD (originOf (now (s .entry)) .actions) i 0 ⌝ }
+// The number in the full task of an action, from the record of kind 7, which stands at `place`.
+pub fn original(s: &[u8], place: usize, action: ReducedAction) -> OriginalAction
+    requires { ⌜ NumberAt (now s) place (action .0) ⌝ }
+    ensures { λ r. ⌜ r .0 ≡ getD (originOf (now (s .entry)) .actions) (action .0) 0 ⌝ }
 {
-    let number = bytes::u16_at(s, actions_place(s) + 4 + 2 * i);
+    let number = bytes::u16_at(s, place + 4 + 2 * (action.0 as usize));
     OriginalAction(number as u16)
 }

@@ -184,13 +184,13 @@ module _ (first : Reduced) (reduced origin : List ℕ) (room : ℕ) (r : Searche
   pub searched-not : (first .outcome .number ≡ 0 → ⊥) → r ≡ unsearched (first .outcome) → SearchedFiles first reduced origin room r entries sizes costs conditions effects
   searched-not d q = record { refused = λ n. q; searched-in = λ z. absurd (d z); place-few = omega (arith, ap (λ (x : Searched). x .place) q) }
 
-  pub searched-files : first .outcome .number ≡ 0 → (h : Task) → h ≡ taskOf (take (first .reduced) reduced) → (place : ℕ) → place ≡ originActionsPlace (take (first .origin) origin) + 4 → place < 8589934600
+  pub searched-files : first .outcome .number ≡ 0 → (h : Task) → h ≡ taskOf (take (first .reduced) reduced) → (place : ℕ) → place ≡ originActionsPlace (take (first .origin) origin) → place < 8589934592
       → SearchedIn h room (first .origin) place r entries sizes costs conditions effects → SearchedFiles first reduced origin room r entries sizes costs conditions effects
   searched-files z h is place p few k =
       record {
         refused = λ d. absurd (d z);
         searched-in = λ _.
-            subst (λ (x : Task). SearchedIn x room (first .origin) (originActionsPlace (take (first .origin) origin) + 4) r entries sizes costs conditions effects) is
+            subst (λ (x : Task). SearchedIn x room (first .origin) (originActionsPlace (take (first .origin) origin)) r entries sizes costs conditions effects) is
             (subst (λ (n : ℕ). SearchedIn h room (first .origin) n r entries sizes costs conditions effects) p k);
         place-few =
             split (isDone (r .outcome))

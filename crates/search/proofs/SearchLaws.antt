@@ -158,7 +158,7 @@ module _ (first : Reduced) (reduced origin : List ℕ) (table : List Entry) (sea
             few = omega (arith, steps-few t valid (searched .start) (entryTotal e) start-inside here-total, found .few);
             room = room;
             named-fits = omega (arith, named-is, w .origin-fits);
-            place-is = k .searched-in (first-done z) .place-is z ∙ ap (λ (l : List ℕ). originActionsPlace l + 4) (sym same-origins);
+            place-is = k .searched-in (first-done z) .place-is z ∙ ap (λ (l : List ℕ). originActionsPlace l) (sym same-origins);
             place-few = k .place-few;
             numbers = omega (arith, found .stepped .count, w .numbers, ap (λ (l : List ℕ). length (originOf l .actions)) same-origins);
           }

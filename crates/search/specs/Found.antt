@@ -102,8 +102,8 @@ pub record SearchedIn (t : Task) (room named place : ℕ) (searched : Searched) 
 pub record SearchedFiles (first : Reduced) (reduced origin : List ℕ) (room : ℕ) (searched : Searched) (entries : List Entry) (sizes costs conditions effects : List ℕ) : Type 0 where
   pub refused : (first .outcome .number ≡ 0 → ⊥) → searched ≡ unsearched (first .outcome)
   pub searched-in : first .outcome .number ≡ 0
-      → SearchedIn (taskOf (take (first .reduced) reduced)) room (first .origin) (originActionsPlace (take (first .origin) origin) + 4) searched entries sizes costs conditions effects
-  pub place-few : searched .place < 8589934600
+      → SearchedIn (taskOf (take (first .reduced) reduced)) room (first .origin) (originActionsPlace (take (first .origin) origin)) searched entries sizes costs conditions effects
+  pub place-few : searched .place < 8589934592
 
 -- where the table is filled, by the entry of the start state: no plan, no room for it, or its file's length, its cost and its steps
 unfoldable pub planBy : ℕ → Entry → ℕ → Found

@@ -126,8 +126,8 @@ pub record CanPut (plan : List ℕ) (i action : ℕ) (searched : Searched) (orig
   pub few : i ≤ 65536
   pub room : 6 + 2 * i ≤ length plan
   pub named-fits : searched .named ≤ length origin
-  pub place-is : searched .place ≡ originActionsPlace (take (searched .named) origin) + 4
-  pub place-few : searched .place < 8589934600
+  pub place-is : searched .place ≡ originActionsPlace (take (searched .named) origin)
+  pub place-few : searched .place < 8589934592
   pub inside : action < length (originOf (take (searched .named) origin) .actions)
 
 -- step i is written, and the state is that which it leads to
@@ -144,8 +144,8 @@ pub record CanStep (look : ℕ → Entry) (plan : List ℕ) (steps : ℕ) (searc
   pub few : steps ≤ 65536
   pub room : 16 + 2 * steps ≤ length plan
   pub named-fits : searched .named ≤ length origin
-  pub place-is : searched .place ≡ originActionsPlace (take (searched .named) origin) + 4
-  pub place-few : searched .place < 8589934600
+  pub place-is : searched .place ≡ originActionsPlace (take (searched .named) origin)
+  pub place-few : searched .place < 8589934592
   pub numbers : searched .actions ≤ length (originOf (take (searched .named) origin) .actions)
 
 abbrev pub StepsToWrite : (ℕ → Entry) → List ℕ → ℕ → Searched → List ℕ → List ℕ → List ℕ → List ℕ → List ℕ → Type 0

@@ -8,7 +8,6 @@ use lib.ListN.{length, getD}
 use Rattle.files.specs.Below.{tabulate, allBelow}
 use Rattle.files.specs.Accepted.{acceptedTask}
 use Rattle.files.specs.Dense.{Arrays, rowVariable, rowPairs, rowAction, held}
-use Rattle.files.specs.OriginFile.{originOf, originActionsPlace}
 use Rattle.files.specs.Task.{Variable, Action, Task}
 use Rattle.plans.specs.State.{State, applicable, apply}
 use Rattle.plans.specs.Tally.{listState, meetsCell}
@@ -213,9 +212,3 @@ pub record CanSearch (d : Arrays) (count : ℕ) (entries : List ℕ) : Type 0 wh
 pub record TableIn (t : Task) (count : ℕ) (entries : List ℕ) (r : ℕ) : Type 0 where
   pub start : r ≡ startNumber t
   pub table : entriesIn entries count ≡ tableOf t
-
--- an action by its place in an origin file
-pub record NumberAt (origin : List ℕ) (place action : ℕ) : Type 0 where
-  pub place-is : place ≡ originActionsPlace origin + 4
-  pub place-few : place < 8589934600
-  pub inside : action < length (originOf origin .actions)

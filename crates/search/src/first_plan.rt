@@ -1,17 +1,12 @@
 // The parts of reading a plan off a table that do not look at the table: where an action leads from
 // a state, whether the state has its entry by way of it, and the steps of the plan file.
-ghost use mathlib.Core.Path.{_≡_};
 ghost use Prim.Native.Nat.{_+_};
-ghost use lib.ListN.{getD};
-ghost use Rattle.files.specs.OriginFile.{originOf};
-ghost use Rattle.search.specs.Rows.{NumberAt};
 ghost use Rattle.search.specs.ReadOff.{CanGo, GoesTo, CanScan, CanStepFrom, FirstApplicable, StepFrom, CanCompare, HasBy, LooksOn, CanPut, StepPut};
 use crate::Entry;
 use crate::entries;
 use crate::stages::Searched;
 use crate::states;
 use plans::Minutes;
-use plans::OriginalAction;
 use plans::ReducedAction;
 
 // An action, and the state that it leads to. Where the action is not applicable that is the state
@@ -134,16 +129,6 @@ pub fn looks_on(searched: Searched, step: Step, next: Entry, costs: &[u32; 512],
     !has_by(action, next, costs, own)
 }
 
-// The number in the full task of an action, from kind 7 of the origin file, whose numbers stand
-// at `place`.
-fn original(origin: &[u8], place: usize, action: ReducedAction) -> OriginalAction
-    requires { ⌜ NumberAt (now origin) place (action .0) ⌝ }
-    ensures { λ r. ⌜ r .0 ≡ getD (originOf (now (origin .entry)) .actions) (action .0) 0 ⌝ }
-{
-    let number = files::bytes::u16_at(origin, place + 2 * (action.0 as usize));
-    OriginalAction(number as u16)
-}
-
 // Writes a step as step `i` of a plan file, by its original number, and gives the state that it
 // leads to.
 pub fn put_step(plan: &mut [u8], i: usize, step: Step, searched: Searched, origin: &[u8]) -> usize
@@ -152,7 +137,7 @@ pub fn put_step(plan: &mut [u8], i: usize, step: Step, searched: Searched, origi
 {
     let named = searched.named;
     let action = step.action;
-    let number = original(&origin[0..named], searched.place, action);
+    let number = files::origin::original(&origin[0..named], searched.place, action);
     files::plan::put_step(plan, i, number);
     step.next
 }

@@ -21,7 +21,7 @@ pub const LEVEL: u32 = 4;
 
 // What the search of a task comes to before its plan is read off: how many entries are filled, the
 // number of the start state, the sizes of the task, the length of the origin file, and where the
-// numbers of the actions stand in it. All 0 beside a refusal.
+// record of its actions stands. All 0 beside a refusal.
 pub struct Searched {
     pub outcome: files::Outcome,
     pub states: usize,
@@ -57,8 +57,8 @@ fn unsearched(outcome: files::Outcome) -> Searched
     }
 }
 
-// Searches the task that arrays hold, whose actions have their numbers at `place` of an origin file
-// of `named` bytes, for a table of `room` entries.
+// Searches the task that arrays hold, whose actions an origin file of `named` bytes names in the record
+// at `place`, for a table of `room` entries.
 fn search_arrays(
     entries: &mut [u64],
     room: usize,
@@ -143,7 +143,7 @@ pub fn search_files(
         entries,
         room,
         named,
-        files::origin::actions_place(&origin[0..named]) + 4,
+        files::origin::actions_place(&origin[0..named]),
         files::task::variables_in(file),
         files::task::actions_in(file),
         sizes,

@@ -5,19 +5,25 @@ use Rattle.changeover.proofs.show.put_action_origins.Statement.{stateme
 use Rattle.changeover.proofs.show.put_action_origins.Tie as tie
 
 abbrev Inv-loop : tie.InvT-loop
-Inv-loop file actions next₀ a₀ t7 next a = a ≤ actions
+Inv-loop file actions place next₀ a₀ t8 next a = a ≤ actions
 
 abbrev μ-loop : tie.MeasureT-loop
-μ-loop file actions next₀ a₀ t7 next a = actions - a
+μ-loop file actions place next₀ a₀ t8 next a = actions - a
 
 actions-in-requires : tie.Need-actions-in-requires Inv-loop μ-loop
 actions-in-requires c κs = search needs
 
+actions-place-requires : tie.Need-actions-place-requires Inv-loop μ-loop
+actions-place-requires c κs = search needs
+
 loop-holds : tie.Need-loop-holds Inv-loop μ-loop
 loop-holds c = search needs
 
-action-requires : tie.Need-action-requires Inv-loop μ-loop
-action-requires c κs = search needs
+cast-t10 : tie.Need-cast-t10 Inv-loop μ-loop
+cast-t10 c = search needs
+
+original-requires : tie.Need-original-requires Inv-loop μ-loop
+original-requires c κs = search needs
 
 slice-aggregate-labelled : tie.Need-slice-aggregate-labelled Inv-loop μ-loop
 slice-aggregate-labelled c = search needs
@@ -47,8 +53,10 @@ put-action-origins-spec =
     Inv-loop
     μ-loop
     actions-in-requires
+    actions-place-requires
     loop-holds
-    action-requires
+    cast-t10
+    original-requires
     slice-aggregate-labelled
     cast-labelled
     labelled-requires

@@ -26,7 +26,7 @@ original-requires c κs =
     let s = c .before .before .before .before in
     let part = file-part (s .args .searched .named) (now (s .args .origin)) in
     record {
-      place-is = s .pre .place-is ∙ ap (λ (l : List ℕ). originActionsPlace l + 4) (sym part);
+      place-is = s .pre .place-is ∙ ap (λ (l : List ℕ). originActionsPlace l) (sym part);
       place-few = s .pre .place-few;
       inside = omega (arith, s .pre .inside, ap (λ (l : List ℕ). length (originOf l .actions)) part);
     }

@@ -1,5 +1,5 @@
 -- Nothing is searched beside a refusal; else the arrays hold the task of the file.
-use Prim.Native.Nat.{ℕ, _+_, _-_}
+use Prim.Native.Nat.{ℕ, _-_}
 use mathlib.Core.Path.{_≡_, ap, _∙_}
 use mathlib.Core.List.{List}
 use native.Mathlib.Omega.{arith}
@@ -68,9 +68,6 @@ part-actions-place-end c = omega (arith, c .before .before .before .before .befo
 actions-place-requires : tie.Need-actions-place-requires
 actions-place-requires c κs = search needs
 
-add-search-arrays : tie.Need-add-search-arrays
-add-search-arrays c = search needs
-
 variables-in-requires : tie.Need-variables-in-requires
 variables-in-requires c κs = search needs
 
@@ -99,7 +96,7 @@ returns-2 c =
     let is = held-by _ _ _ _ _ _ _ _ _ _ _ (a .before .variables-in .ensures .is) (a .actions-in .ensures .is) (d .read-task .ensures .task (passes d)) in
     let origins = file-part (s .args .first .origin) (now (s .args .origin)) in
     searched-files _ _ _ _ _ _ _ _ _ _ (reduced-done d) _ (is ∙ ap taskOf (file-part (s .args .first .reduced) (now (s .args .reduced)))) _
-    (ap (λ (n : ℕ). n + 4) (a .before .before .actions-place .ensures .is ∙ ap originActionsPlace origins)) (omega (arith, a .before .before .actions-place .ensures .below)) (c .before .before .search-arrays .ensures)
+    (a .before .before .actions-place .ensures .is ∙ ap originActionsPlace origins) (omega (arith, a .before .before .actions-place .ensures .below)) (c .before .before .search-arrays .ensures)
 
 pub search-files-spec : {M : Type 1} → statement M
 search-files-spec =
@@ -115,7 +112,6 @@ search-files-spec =
     part-actions-place-start
     part-actions-place-end
     actions-place-requires
-    add-search-arrays
     variables-in-requires
     actions-in-requires
     search-arrays-requires
