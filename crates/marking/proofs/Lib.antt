@@ -24,6 +24,8 @@ pub mod Progress
 pub mod RoundLinks
 pub mod RoundActions
 pub mod CoverRows
+pub mod NestedRows
+pub mod CoverTable
 pub mod RoundCovering
 pub mod RoundFacts
 pub mod RoundProgress

@@ -8,7 +8,7 @@ use lib.ListN.{length, getD}
 use Rattle.files.specs.Below.{bit}
 use Rattle.files.specs.Contracts.{WithinLimits}
 use Rattle.files.specs.Dense.{OriginSizes}
-use Rattle.marking.specs.Dense.{couldCoverAt, unlinkedAt}
+use Rattle.marking.specs.Dense.{conditionsIn, couldCoverAt, unlinkedAt}
 
 -- bytes few enough that their sum fits
 pub record Summable (bytes : List ℕ) (count : ℕ) : Type 0 where
@@ -52,11 +52,35 @@ pub record TwoRows (base other variables : ℕ) : Type 0 where
   pub within : base + 64 ≤ 32768
   pub otherWithin : other + 64 ≤ 32768
 
--- the row of action a is filled in the table of what could cover what, and the rows before it are as they were
-pub record RowFilled (costs conditions : List ℕ) (variables actions a : ℕ) (before after : List ℕ) : Type 0 where
+-- how many conditions each of the first `actions` actions has
+pub record CountsOf (conditions : List ℕ) (variables actions : ℕ) (counts : List ℕ) : Type 0 where
+  pub count : (a : ℕ) → a < actions → getD counts a 0 ≡ conditionsIn conditions (64 * a) variables
+
+-- two actions with the numbers of their conditions
+pub record TwoCounted (conditions counts : List ℕ) (variables b a : ℕ) : Type 0 where
+  pub pair : TwoActions variables b a
+  pub count : getD counts b 0 ≡ conditionsIn conditions (64 * b) variables
+  pub otherCount : getD counts a 0 ≡ conditionsIn conditions (64 * a) variables
+
+-- an action whose column in the table of what could cover what is empty
+pub record EmptyColumn (conditions counts : List ℕ) (variables actions b : ℕ) (table : List ℕ) : Type 0 where
+  pub limits : WithinLimits variables actions
+  pub known : b < actions
+  pub counted : CountsOf conditions variables actions counts
+  pub room : 262144 ≤ length table
+  pub empty : (a : ℕ) → a < actions → getD table (512 * a + b) 0 ≡ 0
+
+-- the column of action b is filled, and the others are as they were
+pub record ColumnFilled (costs conditions : List ℕ) (variables actions b : ℕ) (before after : List ℕ) : Type 0 where
   pub same : length after ≡ length before
-  pub row : (b : ℕ) → b < actions → getD after (512 * a + b) 0 ≡ bit (couldCoverAt costs conditions variables b a)
-  pub earlier : (i : ℕ) → i < 512 * a → getD after i 0 ≡ getD before i 0
+  pub column : (a : ℕ) → a < actions → getD after (512 * a + b) 0 ≡ bit (couldCoverAt costs conditions variables b a)
+  pub others : (a j : ℕ) → j < 512 → (j ≡ b → ⊥) → getD after (512 * a + j) 0 ≡ getD before (512 * a + j) 0
+
+-- a table with nothing in it
+pub record EmptyTable (variables actions : ℕ) (table : List ℕ) : Type 0 where
+  pub limits : WithinLimits variables actions
+  pub room : 262144 ≤ length table
+  pub empty : (i : ℕ) → getD table i 0 ≡ 0
 
 -- the number of an action that covers, or none below `actions`
 pub record CovererIs (r actions : ℕ) (isCovered : Bool) : Type 0 where

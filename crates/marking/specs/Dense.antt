@@ -62,6 +62,10 @@ trackedAt unlinked v = anyBelow 32 (λ d. isMarked unlinked (32 * v + d))
 unfoldable pub missing : List ℕ → ℕ → ℕ → ℕ → ℕ
 missing conditions base other count = countBelow count (λ v. otherThan (getD conditions (base + v) 0) (getD conditions (other + v) 0))
 
+-- how many conditions the row at `base` has
+unfoldable pub conditionsIn : List ℕ → ℕ → ℕ → ℕ
+conditionsIn conditions base count = countBelow count (λ v. not (eqb (getD conditions (base + v) 0) 255))
+
 -- what covering asks of an action in every round: its cost and its conditions
 abbrev pub askedBy : List ℕ → List ℕ → ℕ → ℕ → Action
 askedBy costs conditions variables a = action (getD costs a 0) (rowPairs conditions (64 * a) 0 variables) []

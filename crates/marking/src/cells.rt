@@ -1,6 +1,7 @@
 // Marks and cells of rows, one at a time.
 ghost use mathlib.Core.Path.{_≡_};
-ghost use mathlib.Core.Bool.{cond};
+ghost use mathlib.Core.Bool.{cond, not};
+ghost use lib.Dec.{eqb};
 ghost use Rattle.files.specs.Below.{bit};
 ghost use Rattle.marking.specs.Dense.{otherThan};
 use files::limits;
@@ -16,6 +17,13 @@ pub fn raised(mark: u8, test: bool) -> u8
     ensures { λ r. ⌜ r ≡ cond test 1 mark ⌝ }
 {
     if test { 1 } else { mark }
+}
+
+// Whether a cell of a row is there.
+pub fn is_there(cell: u8) -> bool
+    ensures { λ r. ⌜ r ≡ not (eqb cell 255) ⌝ }
+{
+    cell != limits::NO_PAIR
 }
 
 // Whether a cell of a row is there and is not the value given.

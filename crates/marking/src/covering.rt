@@ -1,94 +1,16 @@
-// Covered actions. What could cover what, by cost and conditions, is worked out once, in a table
-// with a row of 512 cells for each action.
+// Covered actions. What could cover what is read from a table.
 ghost use mathlib.Core.Path.{_≡_};
 ghost use Prim.Native.Nat.{ℕ, _+_, _*_, _<_};
 ghost use mathlib.Core.Bool.{_&&_, not};
 ghost use lib.Dec.{eqb};
 ghost use lib.ListN.{getD};
-ghost use Rattle.files.specs.Below.{bit};
-ghost use Rattle.files.specs.Contracts.{WithinLimits, Writable};
-ghost use Rattle.marking.specs.Contracts.{ActionAmong, TwoActions, TwoRows, RowFilled, CovererIs};
-ghost use Rattle.marking.specs.Dense.{missing, couldCoverAt, unlike, coversAt, coveredAt, countedAt};
+ghost use Rattle.files.specs.Below.{bit, anyBelow};
+ghost use Rattle.files.specs.Contracts.{WithinLimits};
+ghost use Rattle.marking.specs.Contracts.{Among, ActionAmong, TwoActions, TwoRows, CovererIs};
+ghost use Rattle.marking.specs.Dense.{isMarked, unlike, coversAt, coveredAt, countedAt};
 use crate::cells;
 use crate::rounds::Scope;
 use files::limits;
-
-// How many conditions of the row at `base` do not stand in the row at `other`.
-fn missing(conditions: &[u8; 32768], base: usize, other: usize, variables: usize) -> u8
-    requires { ⌜ TwoRows base other variables ⌝ }
-    ensures { λ r. ⌜ r ≡ missing (now (conditions .entry)) base other variables ⌝ }
-{
-    let mut count: u8 = 0;
-    let mut v: usize = 0;
-    while v < variables {
-        let lacks = cells::other_than(conditions[base + v], conditions[other + v]);
-        count += cells::bit_of(lacks);
-        v += 1;
-    }
-    count
-}
-
-// Whether b costs what a costs and has a proper subset of its conditions.
-fn pair_could_cover(
-    costs: &[u32; 512],
-    conditions: &[u8; 32768],
-    variables: usize,
-    b: usize,
-    a: usize,
-) -> bool
-    requires { ⌜ TwoActions variables b a ⌝ }
-    ensures { λ r. ⌜ r ≡ couldCoverAt (now (costs .entry)) (now (conditions .entry)) variables b a ⌝ }
-{
-    if costs[b] != costs[a] {
-        return false;
-    }
-    if missing(conditions, limits::ROW * b, limits::ROW * a, variables) != 0 {
-        return false;
-    }
-    missing(conditions, limits::ROW * a, limits::ROW * b, variables) != 0
-}
-
-// The row of one action in the table.
-fn fill_row(
-    could_cover: &mut [u8],
-    costs: &[u32; 512],
-    conditions: &[u8; 32768],
-    variables: usize,
-    actions: usize,
-    a: usize,
-)
-    requires { ⌜ Writable (ActionAmong variables actions a) 262144 (now «could_cover») ⌝ }
-    ensures { λ r. ⌜ RowFilled (now (costs .entry)) (now (conditions .entry)) variables actions a (now («could_cover» .entry)) (now («could_cover» .exit)) ⌝ }
-{
-    let mut b: usize = 0;
-    while b < actions {
-        let test = pair_could_cover(costs, conditions, variables, b, a);
-        could_cover[limits::MOST_ACTIONS * a + b] = cells::bit_of(test);
-        b += 1;
-    }
-}
-
-// The table of what could cover what, for level 4 alone.
-pub fn fill_could_cover(
-    could_cover: &mut [u8],
-    scope: Scope,
-    costs: &[u32; 512],
-    conditions: &[u8; 32768],
-)
-    requires { ⌜ Writable (WithinLimits (scope .variables) (scope .actions)) 262144 (now «could_cover») ⌝ }
-    ensures { λ r. ⌜ (scope .level ≡ 4 → (a b : ℕ) → a < scope .actions → b < scope .actions → getD (now («could_cover» .exit)) (512 * a + b) 0 ≡ bit (couldCoverAt (now (costs .entry)) (now (conditions .entry)) (scope .variables) b a)) ⌝ }
-{
-    let variables = scope.variables;
-    let actions = scope.actions;
-    if scope.level != 4 {
-        return;
-    }
-    let mut a: usize = 0;
-    while a < actions {
-        fill_row(could_cover, costs, conditions, variables, actions, a);
-        a += 1;
-    }
-}
 
 // Whether a variable is tracked and the two effects on it are unlike.
 fn is_unlike(tracked: u8, effect: u8, other: u8) -> bool
@@ -134,10 +56,10 @@ fn covers(
     requires { ⌜ TwoActions variables b a ⌝ }
     ensures { λ r. ⌜ r ≡ coversAt (now (kept .entry)) (now («could_cover» .entry)) (now (effects .entry)) (now (tracked .entry)) variables b a ⌝ }
 {
-    if kept[b] != 1 {
+    if could_cover[limits::MOST_ACTIONS * a + b] != 1 {
         return false;
     }
-    if could_cover[limits::MOST_ACTIONS * a + b] != 1 {
+    if kept[b] != 1 {
         return false;
     }
     unlike(
@@ -148,6 +70,21 @@ fn covers(
         variables,
     )
         == 0
+}
+
+// Whether nothing could cover a.
+fn is_free(could_cover: &[u8; 262144], actions: usize, a: usize) -> bool
+    requires { ⌜ Among a 512 actions ⌝ }
+    ensures { λ r. ⌜ r ≡ not (anyBelow actions (λ b. isMarked (now («could_cover» .entry)) (512 * a + b))) ⌝ }
+{
+    let mut count: u16 = 0;
+    let mut b: usize = 0;
+    while b < actions {
+        let could = could_cover[limits::MOST_ACTIONS * a + b] == 1;
+        count += cells::bit_of(could) as u16;
+        b += 1;
+    }
+    count == 0
 }
 
 // The first action that covers a, or `actions`.
@@ -193,6 +130,9 @@ fn coverer(
         if covers(kept, could_cover, effects, tracked, variables, first, a) {
             return first;
         }
+    }
+    if is_free(could_cover, scope.actions, a) {
+        return scope.actions;
     }
     find_coverer(scope, kept, could_cover, effects, tracked, a)
 }

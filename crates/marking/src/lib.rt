@@ -1,6 +1,7 @@
 // Relevance marking at levels 1 to 4.
 // The call open to callers is mark; the public modules serve the layers above.
 mod cells;
+mod cover_table;
 mod covering;
 pub mod gains;
 pub mod links;

@@ -7,6 +7,7 @@ ghost use Rattle.files.specs.Outcome.{done};
 ghost use Rattle.marking.specs.Dense.{Final};
 ghost use Rattle.marking.specs.Mark.{validLevel, noMarks, MarksTask, markBuffers};
 use crate::Marked;
+use crate::cover_table;
 use crate::covering;
 use crate::gains;
 use crate::links;
@@ -45,7 +46,7 @@ fn run(
 {
     let actions = scope.actions;
     let mut could_cover = [0u8; 262144];
-    covering::fill_could_cover(&mut could_cover, scope, costs, conditions);
+    cover_table::fill(&mut could_cover, scope, costs, conditions);
     let mut facts = [0u8; 2048];
     gains::name_row(&mut facts, scope, scope.level == 1, goal, 0, sizes);
     let mut kept = [0u8; 512];

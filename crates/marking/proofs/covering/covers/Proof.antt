@@ -1,31 +1,34 @@
--- The three tests in turn: b is kept, it could cover a, no tracked effect is unlike.
-use mathlib.Core.Path.{refl}
+-- The three tests in turn: b could cover a, it is kept, no tracked effect is unlike.
+use mathlib.Core.Path.{refl, sym}
+use mathlib.Core.Bool.{and-false}
+use denote.Ref.{now}
 use borrow.Author.Tests.{eq-eqb, ne-eqb}
 use borrow.Author.Needs.{needs}
-use Rattle.marking.specs.Dense.{coversAt}
+use Rattle.marking.specs.Dense.{isMarked, coversAt}
 use Rattle.marking.proofs.covering.covers.Statement.{statement}
 use Rattle.marking.proofs.covering.covers.Tie as tie
+
+mul-if1 : tie.Need-mul-if1
+mul-if1 c = search needs
+
+add-if1 : tie.Need-add-if1
+add-if1 c = search needs
 
 element-copy-out-if1 : tie.Need-element-copy-out-if1
 element-copy-out-if1 c = search needs
 
 returns : tie.Need-returns
 unfolding coversAt
-returns c = rw (ne-eqb _ 1 (c .if1 .taken)) refl
-
-mul-if2 : tie.Need-mul-if2
-mul-if2 c = search needs
-
-add-if2 : tie.Need-add-if2
-add-if2 c = search needs
+returns c =
+    let a = c .before .before .args in
+    rw (ne-eqb _ 1 (c .if1 .taken)) (sym (and-false (isMarked (now (a .kept)) (a .b))))
 
 element-copy-out-if2 : tie.Need-element-copy-out-if2
 element-copy-out-if2 c = search needs
 
 returns-2 : tie.Need-returns-2
 unfolding coversAt
-returns-2 c =
-    rw (eq-eqb _ 1 (c .before .before .if1 .left), ne-eqb _ 1 (c .if2 .taken)) refl
+returns-2 c = rw (ne-eqb _ 1 (c .if2 .taken)) refl
 
 mul-unlike : tie.Need-mul-unlike
 mul-unlike c = search needs
@@ -39,16 +42,16 @@ unlike-requires c κs = search needs
 returns-3 : tie.Need-returns-3
 unfolding coversAt
 returns-3 c =
-    rw (eq-eqb _ 1 (c .before .before .before .if1 .left), eq-eqb _ 1 (c .before .if2 .left), ← c .unlike .ensures) refl
+    rw (eq-eqb _ 1 (c .before .if2 .left), eq-eqb _ 1 (c .before .before .before .if1 .left), ← c .unlike .ensures) refl
 
 pub covers-spec : {M : Type 1} → statement M
 covers-spec =
     tie.close
     (tie.spec
+    mul-if1
+    add-if1
     element-copy-out-if1
     returns
-    mul-if2
-    add-if2
     element-copy-out-if2
     returns-2
     mul-unlike

@@ -6,6 +6,7 @@ use denote.Ref.{now}
 use borrow.Author.Needs.{needs}
 use Rattle.files.specs.Contracts.{WithinLimits}
 use Rattle.files.specs.Dense.{Arrays, held, arrays}
+use Rattle.files.proofs.Filling.{zeros-entry}
 use Rattle.files.proofs.Valid.{Valid, task-valid}
 use Rattle.files.proofs.HeldTask.{variables-held, actions-held}
 use Rattle.marking.proofs.Rounding.{limit, Rounding, rounding-begins, rounds-few, rounding-less, rounding-next, rounding-ends}
@@ -45,10 +46,10 @@ to-loop c = c .before .before .before .before
 abbrev to-name-row : tie.At-loop Inv-loop μ-loop → tie.After-name-row Inv-loop μ-loop
 to-name-row c = c .before .before .before .before
 
-abbrev to-fill : tie.After-name-row Inv-loop μ-loop → tie.After-fill-could-cover Inv-loop μ-loop
+abbrev to-fill : tie.After-name-row Inv-loop μ-loop → tie.After-fill Inv-loop μ-loop
 to-fill c = c .before .before .before .before .before
 
-abbrev to-start : tie.After-fill-could-cover Inv-loop μ-loop → tie.Start Inv-loop μ-loop
+abbrev to-start : tie.After-fill Inv-loop μ-loop → tie.Start Inv-loop μ-loop
 to-start c = c .before .before
 
 -- the task that the arrays hold
@@ -70,13 +71,13 @@ limits s = record { fewVariables = variables-few s; fewActions = actions-few s }
 abbrev begun : tie.At-loop Inv-loop μ-loop → tie.Start Inv-loop μ-loop
 begun c = to-start (to-fill (to-name-row c))
 
-slice-aggregate-fill-could-cover : tie.Need-slice-aggregate-fill-could-cover Inv-loop μ-loop
-slice-aggregate-fill-could-cover c = search needs
+slice-aggregate-fill : tie.Need-slice-aggregate-fill Inv-loop μ-loop
+slice-aggregate-fill c = search needs
 
-fill-could-cover-requires : tie.Need-fill-could-cover-requires Inv-loop μ-loop
-fill-could-cover-requires c κs =
+fill-requires : tie.Need-fill-requires Inv-loop μ-loop
+fill-requires c κs =
     let s : tie.Start Inv-loop μ-loop = c .before in
-    record { source = limits s; room = omega arith }
+    record { limits = limits s; room = omega arith; empty = zeros-entry 262144 }
 
 slice-aggregate-name-row : tie.Need-slice-aggregate-name-row Inv-loop μ-loop
 slice-aggregate-name-row c = search needs
@@ -172,7 +173,7 @@ returns c =
     let s = begun l in
     rounding-ends (task s) (valid s) (s .args .scope .level) _ _ _ _ _ _ _ (l .loop .rounds) (l .loop .count) (l .loop .inv) _ _ _ _ _ _
     (record {
-      table = to-fill (to-name-row l) .fill-could-cover .ensures;
+      table = to-fill (to-name-row l) .fill .ensures;
       threats-set = h .threatened .ensures;
       unlinked-at = u .unlinked .ensures .told;
       actions-set = k .gain-actions .ensures;
@@ -201,7 +202,7 @@ loop-again c =
     let s = begun l in
     rounding-next (task s) (valid s) (s .args .scope .level) _ _ _ _ _ _ _ (l .loop .rounds) (l .loop .count) (l .loop .inv) _ _ _ _ _ _
     (record {
-      table = to-fill (to-name-row l) .fill-could-cover .ensures;
+      table = to-fill (to-name-row l) .fill .ensures;
       threats-set = h .threatened .ensures;
       unlinked-at = u .unlinked .ensures .told;
       actions-set = k .gain-actions .ensures;
@@ -218,8 +219,8 @@ run-spec =
     (tie.spec
     Inv-loop
     μ-loop
-    slice-aggregate-fill-could-cover
-    fill-could-cover-requires
+    slice-aggregate-fill
+    fill-requires
     slice-aggregate-name-row
     name-row-requires
     slice-aggregate-sum

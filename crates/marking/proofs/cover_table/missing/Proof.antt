@@ -10,8 +10,8 @@ use Rattle.files.proofs.BelowLaws.{bit-most}
 use Rattle.marking.specs.Dense.{otherThan, missing}
 use Rattle.marking.proofs.SetWhere.{at-end}
 use Rattle.files.proofs.LoopCounts.{count-next}
-use Rattle.marking.proofs.covering.missing.Statement.{statement}
-use Rattle.marking.proofs.covering.missing.Tie as tie
+use Rattle.marking.proofs.cover_table.missing.Statement.{statement}
+use Rattle.marking.proofs.cover_table.missing.Tie as tie
 
 abbrev Inv-loop : tie.InvT-loop
 Inv-loop conditions base other variables count₀ v₀ count v =
