@@ -1,14 +1,16 @@
--- The cases that document 01 marks P, and its listing of task E: what the definitions find, and what the document says.
+-- The cases that document 01 marks P, its listing of task E, and 02's example of a cheaper action that covers: what the
+-- definitions find, and what the documents say.
 use Prim.Native.Nat.{ℕ}
 use mathlib.Core.List.{List, [], _∷_, _++_}
 use lib.ListN.{replicate}
 use Rattle.files.specs.Bytes.{u16Bytes}
 use Rattle.files.specs.Examples.{fileE, fileWithoutLine, fileLampAlone, used, outcomeParts, Case, case}
 use Rattle.files.specs.Records.{recordBytes}
-use Rattle.files.specs.TaskFile.{checkTask}
+use Rattle.files.specs.TaskFile.{taskFile, checkTask}
 use Rattle.files.specs.PlanFile.{planFile}
 use Rattle.plans.specs.declared.Checked.{Checked}
 use Rattle.plans.specs.Check.{checkPlan}
+use Rattle.marking.specs.Examples.{taskE1}
 use Rattle.marking.specs.Mark.{markBuffers, mark, markAfter}
 use Rattle.reduction.specs.Reduce.{buffers, reduceAfter}
 use Rattle.search.specs.Planner.{Lent, lentOf, planAnswer, planAfter}
@@ -21,16 +23,20 @@ use Rattle.demands.specs.Listing.{listing}
 abbrev pub headerOf : ℕ → List ℕ
 headerOf variables = recordBytes 1 (u16Bytes variables ++ u16Bytes 0)
 
--- the 80 bytes of E reduced at level 4
-abbrev pub reducedE : List ℕ
-reducedE =
+-- E with action 1 of cost 1
+abbrev pub fileE1 : List ℕ
+fileE1 = taskFile taskE1 7
+
+-- the 80 bytes of E reduced at level 4, and of E1: by the cost of action 1
+abbrev pub reducedAt : ℕ → List ℕ
+reducedAt cost =
     0x04 ∷ 0x00 ∷ 0x01 ∷ 0x00 ∷ 0x02 ∷ 0x00 ∷ 0x02 ∷ 0x00
     ∷ 0x04 ∷ 0x00 ∷ 0x02 ∷ 0x00 ∷ 0x02 ∷ 0x00 ∷ 0x01 ∷ 0x00
     ∷ 0x04 ∷ 0x00 ∷ 0x02 ∷ 0x00 ∷ 0x02 ∷ 0x00 ∷ 0x01 ∷ 0x00
     ∷ 0x04 ∷ 0x00 ∷ 0x03 ∷ 0x00 ∷ 0x01 ∷ 0x00 ∷ 0x00 ∷ 0x00
     ∷ 0x10 ∷ 0x00 ∷ 0x04 ∷ 0x00 ∷ 0x02 ∷ 0x00 ∷ 0x00 ∷ 0x00 ∷ 0x01 ∷ 0x00 ∷ 0x01 ∷ 0x00
     ∷ 0x00 ∷ 0x00 ∷ 0x00 ∷ 0x00 ∷ 0x01 ∷ 0x00 ∷ 0x00 ∷ 0x00
-    ∷ 0x0C ∷ 0x00 ∷ 0x04 ∷ 0x00 ∷ 0x02 ∷ 0x00 ∷ 0x00 ∷ 0x00 ∷ 0x00 ∷ 0x00 ∷ 0x01 ∷ 0x00
+    ∷ 0x0C ∷ 0x00 ∷ 0x04 ∷ 0x00 ∷ cost ∷ 0x00 ∷ 0x00 ∷ 0x00 ∷ 0x00 ∷ 0x00 ∷ 0x01 ∷ 0x00
     ∷ 0x01 ∷ 0x00 ∷ 0x00 ∷ 0x00
     ∷ 0x08 ∷ 0x00 ∷ 0x05 ∷ 0x00 ∷ 0x07 ∷ 0x00 ∷ 0x00 ∷ 0x00 ∷ 0x44 ∷ 0x00 ∷ 0x00 ∷ 0x00
     ∷ []
@@ -78,7 +84,12 @@ cases =
     ∷ case (planNumbers (planAnswer fileLampAlone 7 smallBuffers)) (0 ∷ 0 ∷ 0 ∷ 0 ∷ 0 ∷ [])
     ∷ case (planAfter fileLampAlone 7 smallBuffers .plan) (planFile [] 7 ++ used 4)
     -- E reduced at level 4; elements past the result are untouched
-    ∷ case (reduceAfter fileE 4 7 (buffers (used 8) (used 9) (used 82) (used 60)) .reduced) (reducedE ++ used 2)
+    ∷ case (reduceAfter fileE 4 7 (buffers (used 8) (used 9) (used 82) (used 60)) .reduced) (reducedAt 2 ++ used 2)
     -- what `shortest` prints for E
     ∷ case (listing fileE) (ascii "task 3 7\nkept 2 2\nstep 1\ncost 2 steps 1\n")
+    -- 02, U3: if action 1 costs 1, level 4 keeps 0 and 1, in 2 rounds
+    ∷ case (keptNumbers fileE1 4) (0 ∷ 0 ∷ 0 ∷ 2 ∷ 1 ∷ 1 ∷ 0 ∷ 0 ∷ 0 ∷ 0 ∷ 0 ∷ [])
+    ∷ case (markAfter fileE1 4 (markBuffers (used 7) (used 8)) .facts) (0 ∷ 0 ∷ 0 ∷ 0 ∷ 2 ∷ 0 ∷ 1 ∷ 0 ∷ [])
+    ∷ case (reduceAfter fileE1 4 7 (buffers (used 8) (used 9) (used 82) (used 60)) .reduced) (reducedAt 1 ++ used 2)
+    ∷ case (listing fileE1) (ascii "task 3 7\nkept 2 2\nstep 1\ncost 1 steps 1\n")
     ∷ []

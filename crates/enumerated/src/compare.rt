@@ -3,7 +3,7 @@ use crate::bytes::same;
 use crate::enumerate::Found;
 
 // The first `count` bytes of a buffer, or all where it has fewer.
-fn part(buffer: &[u8], count: usize) -> &[u8] {
+pub fn part(buffer: &[u8], count: usize) -> &[u8] {
     if buffer.len() < count {
         return buffer;
     }

@@ -59,7 +59,7 @@ fn next_place(file: &[u8; 512], at: usize) -> usize {
 }
 
 // Where each action stands in a file, 1000 where there is none.
-fn places(file: &[u8; 512]) -> [usize; 10] {
+pub fn places(file: &[u8; 512]) -> [usize; 10] {
     let actions = number(file, 6);
     let mut places = [1000usize; 10];
     let mut at = next_place(file, goal_place(file));
@@ -74,6 +74,28 @@ fn places(file: &[u8; 512]) -> [usize; 10] {
     places
 }
 
+// Where the effects of the action at a place begin.
+pub fn effects_place(file: &[u8; 512], place: usize) -> usize
+    requires { ⌜ place ≤ 512 ⌝ }
+    ensures { λ r. ⌜ r ≤ 300000 ⌝ }
+{
+    place + 12 + 4 * number(file, place + 8)
+}
+
+// Where the effects of the action at a place end.
+pub fn effects_end(file: &[u8; 512], place: usize) -> usize
+    requires { ⌜ place ≤ 512 ⌝ }
+{
+    effects_place(file, place) + 4 * number(file, place + 10)
+}
+
+// The cost of the action at a place.
+pub fn cost_in(file: &[u8; 512], place: usize) -> usize
+    requires { ⌜ place ≤ 512 ⌝ }
+{
+    number(file, place + 4) + 65536 * number(file, place + 6)
+}
+
 // The state after an action.
 fn successor(file: &[u8; 512], place: usize, state: usize) -> usize
     ensures { λ r. ⌜ r ≤ 256 ⌝ }
@@ -84,12 +106,11 @@ fn successor(file: &[u8; 512], place: usize, state: usize) -> usize
     if states::limit(file) <= state {
         return 256;
     }
-    let middle = place + 12 + 4 * number(file, place + 8);
+    let middle = effects_place(file, place);
     if !states::hold(file, place + 12, middle, state) {
         return 256;
     }
-    let end = middle + 4 * number(file, place + 10);
-    states::after(file, middle, end, state)
+    states::after(file, middle, effects_end(file, place), state)
 }
 
 // The number at a place of the graph.
@@ -101,7 +122,7 @@ fn edge(file: &[u8; 512], places: &[usize; 10], at: usize) -> usize {
     if 512 < place {
         return 0;
     }
-    number(file, place + 4) + 65536 * number(file, place + 6)
+    cost_in(file, place)
 }
 
 fn fill_graph(file: &[u8; 512], graph: &mut [usize; 2570]) {

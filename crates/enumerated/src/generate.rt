@@ -2,7 +2,9 @@
 //
 // A task has four rows of values, each by a seed of its own; the first has the start values. The
 // conditions of an action are some pairs of a row, its effects some of the next, so that plans have
-// several steps. There are few effects to a row, so that actions are alike and one covers another.
+// several steps. There are few effects to a row, so that actions are alike and one covers another, at
+// the same cost or at a lower one.
+ghost use Prim.Native.Nat.{_≤_};
 use crate::bytes::number;
 use crate::bytes::put;
 use crate::bytes::put_sign_off;
@@ -79,7 +81,9 @@ fn span(from: usize, to: usize) -> usize {
 }
 
 // The domain size of a variable in a file, 0 where there is no such variable.
-fn size_in(file: &[u8; 512], variable: usize) -> usize {
+pub fn size_in(file: &[u8; 512], variable: usize) -> usize
+    ensures { λ r. ⌜ r ≤ 65535 ⌝ }
+{
     if number(file, 4) <= variable {
         return 0;
     }
@@ -198,14 +202,25 @@ fn put_head(file: &mut [u8; 512], at: usize, middle: usize, end: usize, cost: us
     put(file, counts, span(from, middle) / 4, span(middle, end) / 4)
 }
 
+// The cost of an action, half as much where it has few conditions: others with more of the same are
+// dearer then.
+fn lowered(cost: usize, density: usize) -> usize {
+    if density < 6 {
+        return cost / 2;
+    }
+    cost
+}
+
 // Writes a random action and answers where the next goes.
 fn put_random(file: &mut [u8; 512], at: usize, seed: usize, state: &mut u64) -> usize {
-    let cost = cost(seed, draw(state));
-    let from = put_head(file, at, at, at, cost);
+    let drawn = cost(seed, draw(state));
     let row = draw(state) % 4;
-    let middle = put_row(file, from, row_seed(seed, row), draw(state) % 12);
-    let density = 6 + draw(state) % 2 * 6;
-    let end = put_row(file, middle, row_seed(seed, row + 1), density);
+    let density = draw(state) % 12;
+    let cost = lowered(drawn, density);
+    let from = put_head(file, at, at, at, cost);
+    let middle = put_row(file, from, row_seed(seed, row), density);
+    let many = 6 + draw(state) % 2 * 6;
+    let end = put_row(file, middle, row_seed(seed, row + 1), many);
     put_head(file, at, middle, end, cost);
     end
 }

@@ -4,6 +4,7 @@
 // and lines of totals.
 mod bytes;
 mod compare;
+mod covering;
 mod enumerate;
 mod generate;
 mod random;
@@ -14,7 +15,8 @@ use crate::enumerate::Found;
 const TASKS: usize = 4000;
 
 // The places of totals: differences; tasks without a plan, with an empty plan, with several best plans;
-// the steps of all plans, and the most of one; and at 6 and a level, the tasks with actions struck.
+// the steps of all plans, and the most of one; at 6 and a level, the tasks with actions struck; and the
+// actions that only a cheaper one covers.
 const DIFFERENCES: usize = 0;
 
 const NONE: usize = 1;
@@ -28,6 +30,8 @@ const STEPS: usize = 4;
 const MOST: usize = 5;
 
 const STRUCK: usize = 6;
+
+const COVERED: usize = 11;
 
 fn main() {
     let mut state: u64 = 20240608;
@@ -72,6 +76,7 @@ fn run_task(task: usize, state: &mut u64, sums: &mut [usize; 12]) {
     run_level(&file, count, 2, found, task, sums);
     run_level(&file, count, 3, found, task, sums);
     run_level(&file, count, 4, found, task, sums);
+    add(sums, COVERED, covering::by_cheaper_alone(&file, count));
 }
 
 // One task reduced at a level: what is found in the reduced task is the same.
@@ -131,5 +136,6 @@ fn print_totals(sums: &[usize; 12]) {
     print_line(b"with actions struck at level 2: ", sums[8]);
     print_line(b"with actions struck at level 3: ", sums[9]);
     print_line(b"with actions struck at level 4: ", sums[10]);
+    print_line(b"actions that only a cheaper one covers: ", sums[COVERED]);
     print_line(b"differences ", sums[DIFFERENCES]);
 }

@@ -13,7 +13,7 @@ fn value(state: usize, variable: usize) -> usize {
 }
 
 // The state with another value of a variable.
-fn with(state: usize, variable: usize, value: usize) -> usize
+pub fn with(state: usize, variable: usize, value: usize) -> usize
     ensures { λ r. ⌜ r ≤ 255 ⌝ }
 {
     let digit = value % 4;

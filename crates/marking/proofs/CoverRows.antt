@@ -3,7 +3,7 @@ use Prim.Native.Nat.{ℕ, _+_}
 use mathlib.Core.Path.{_≡_, refl, sym, ap, ap₂, _∙_}
 use mathlib.Core.Bool.{Bool, true, false, not, _&&_}
 use mathlib.Core.List.{List}
-use lib.Dec.{eqb}
+use lib.Dec.{eqb, leb}
 use lib.ListN.{getD}
 use borrow.Author.Tests.{eqb-true, eqb-false, eq-eqb, ne-eqb}
 use Rattle.files.specs.Dense.{rowPairs}
@@ -57,4 +57,4 @@ within-rows conditions base other variables =
 pub could-same : (b b′ a a′ : Action) → b .cost ≡ b′ .cost → b .conditions ≡ b′ .conditions → a .cost ≡ a′ .cost → a .conditions ≡ a′ .conditions → couldCover b a ≡ couldCover b′ a′
 unfolding couldCover
 could-same b b′ a a′ bc bs ac as′ =
-    ap₂ (λ (c w : Bool). c && w) (ap₂ eqb bc ac) (ap₂ (λ (w x : Bool). w && not x) (ap₂ within bs as′) (ap₂ within as′ bs))
+    ap₂ (λ (c w : Bool). c && w) (ap₂ leb bc ac) (ap₂ (λ (w x : Bool). w && not x) (ap₂ within bs as′) (ap₂ within as′ bs))

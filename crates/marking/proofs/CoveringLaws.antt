@@ -5,10 +5,9 @@ use mathlib.Core.Bool.{Bool, true, false, not, _||_}
 use mathlib.Core.List.{List}
 use mathlib.Core.Logic.{⊎-elim}
 use mathlib.Core.Option.{Option, none, some}
-use native.Mathlib.Omega.{arith}
-use lib.Dec.{eqb}
+use lib.Dec.{leb}
 use lib.ListN.{length}
-use borrow.Author.Tests.{eqb-true, not-true}
+use borrow.Author.Tests.{eqb-true, leb-true, not-true}
 use Rattle.files.specs.Below.{allBelow}
 use Rattle.files.specs.Task.{Pair, Action, Task, variableCount, valueIn}
 use Rattle.files.specs.Accepted.{validPairs}
@@ -61,10 +60,10 @@ unfolding covers couldCover
 covers-says t tracked b a e =
     let agrees : ℕ → Bool = λ v. not (tracked v) || sameEffect (valueIn (b .effects) v) (valueIn (a .effects) v) in
     let both = and-split (couldCover b a) (allBelow (variableCount t) agrees) e in
-    let cost = and-split (eqb (b .cost) (a .cost)) _ (both .0) in
+    let cost = and-split (leb (b .cost) (a .cost)) _ (both .0) in
     let conditions = and-split (within (b .conditions) (a .conditions)) (not (within (a .conditions) (b .conditions))) (cost .1) in
     record {
-      no-dearer = omega (arith, eqb-true (b .cost) (a .cost) (cost .0));
+      no-dearer = leb-true (b .cost) (a .cost) (cost .0);
       same-effect =
           λ v l k.
           sameEffect-says (valueIn (b .effects) v) (valueIn (a .effects) v)

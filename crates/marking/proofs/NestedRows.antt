@@ -1,17 +1,18 @@
 -- Conditions that all stand among others: by the cells of their rows, one after the other; and a proper subset, by how many there are.
 use Prim.Native.Nat.{ℕ, _+_, _*_, _≤_, _<_}
 use mathlib.Core.Path.{_≡_, refl, sym, ap, ap₂, _∙_}
-use mathlib.Core.Bool.{Bool, true, false, not, _&&_, and-true}
+use mathlib.Core.Bool.{Bool, true, false, not, _&&_, _||_, and-true, and-false}
 use mathlib.Core.List.{List}
+use mathlib.Core.Logic.{⊎-elim}
 use native.Mathlib.Omega.{arith}
 use lib.Dec.{eqb, leb, ltb}
 use lib.ListN.{getD}
-use borrow.Author.Tests.{eqb-true, eqb-false, eq-eqb, ne-eqb, leb-true, leb-false, ltb-true, lt-ltb, le-ltb}
-use Rattle.files.specs.Below.{anyBelow, bit}
+use borrow.Author.Tests.{eqb-true, eq-eqb, leb-true, leb-false, lt-leb, le-leb, ltb-true, ltb-false, lt-ltb, le-ltb}
+use Rattle.files.specs.Below.{anyBelow}
 use Rattle.files.specs.Dense.{rowPairs}
-use Rattle.files.proofs.BelowLaws.{anyBelow-intro, anyBelow-elim, bit-true, bit-false}
+use Rattle.files.proofs.BelowLaws.{anyBelow-intro, anyBelow-elim}
 use Rattle.files.proofs.CountOrder.{count-order, count-same}
-use Rattle.files.proofs.Logic.{clash, split, split-le, and-join, and-split}
+use Rattle.files.proofs.Logic.{clash, split, split-le, and-join, and-split, or-split}
 use Rattle.files.proofs.Truth.{count-none}
 use Rattle.marking.specs.Covering.{within, couldCover}
 use Rattle.marking.specs.Dense.{otherThan, missing, conditionsIn, askedBy}
@@ -22,7 +23,7 @@ stands-same : (x y : ℕ) → otherThan x y ≡ false → not (eqb x 255) ≡ tr
 unfolding otherThan
 stands-same x y e h = eqb-true x y (split (eqb x y) (λ q. q) (λ q. clash (and-join h (ap not q)) e))
 
--- a cell that is there in both rows or in neither, and the same
+-- a cell that, where it is there, is the same in the other row stands there
 same-stands : (x y : ℕ) → (not (eqb x 255) ≡ true → x ≡ y) → otherThan x y ≡ false
 unfolding otherThan
 same-stands x y h = split (not (eqb x 255)) (λ e. rw e (ap not (eq-eqb x y (h e)))) (λ e. rw e refl)
@@ -92,17 +93,13 @@ module _ (costs conditions : List ℕ) (variables b a : ℕ) where
   abbrev could : Bool
   could = couldCover (askedBy costs conditions variables b) (askedBy costs conditions variables a)
 
-  could-nested : could ≡ eqb (getD costs b 0) (getD costs a 0) && nested
+  could-nested : could ≡ leb (getD costs b 0) (getD costs a 0) && nested
   unfolding couldCover
   could-nested =
-      ap (λ (t : Bool). eqb (getD costs b 0) (getD costs a 0) && t) (nested-rows conditions variables (64 * b) (64 * a))
+      ap (λ (t : Bool). leb (getD costs b 0) (getD costs a 0) && t) (nested-rows conditions variables (64 * b) (64 * a))
 
   not-nested : nested ≡ false → false ≡ could
-  not-nested e = rw (could-nested, e) (sym (and-false (eqb (getD costs b 0) (getD costs a 0))))
-    where
-      and-false : (t : Bool) → t && false ≡ false
-      and-false true = refl
-      and-false false = refl
+  not-nested e = rw (could-nested, e) (sym (and-false (leb (getD costs b 0) (getD costs a 0))))
 
   not-standing : (v : ℕ) → ltb v variables && otherThan (getD conditions (64 * b + v) 0) (getD conditions (64 * a + v) 0) ≡ true → false ≡ could
   not-standing v e =
@@ -118,38 +115,44 @@ module _ (costs conditions : List ℕ) (variables b a : ℕ) where
       (λ e. rw e (le-ltb (conditionsIn conditions (64 * b) variables) (conditionsIn conditions (64 * a) variables) l))
       (λ e. rw e refl))
 
-  not-same-cost : (getD costs b 0 ≡ getD costs a 0 → ⊥) → false ≡ could
-  not-same-cost n = rw (could-nested, ne-eqb (getD costs b 0) (getD costs a 0) n) refl
+  not-dearer : getD costs a 0 < getD costs b 0 → false ≡ could
+  not-dearer l = rw (could-nested, lt-leb (getD costs b 0) (getD costs a 0) l) refl
 
-  all-standing : getD costs b 0 ≡ getD costs a 0 → conditionsIn conditions (64 * b) variables < conditionsIn conditions (64 * a) variables → eqb (missing conditions (64 * b) (64 * a) variables) 0 ≡ could
+  all-standing : getD costs b 0 ≤ getD costs a 0 → conditionsIn conditions (64 * b) variables < conditionsIn conditions (64 * a) variables → eqb (missing conditions (64 * b) (64 * a) variables) 0 ≡ could
   all-standing e l =
       rw
-      (could-nested, eq-eqb (getD costs b 0) (getD costs a 0) e, lt-ltb (conditionsIn conditions (64 * b) variables) (conditionsIn conditions (64 * a) variables) l)
+      (could-nested, le-leb (getD costs b 0) (getD costs a 0) e, lt-ltb (conditionsIn conditions (64 * b) variables) (conditionsIn conditions (64 * a) variables) l)
       (sym (and-true (eqb (missing conditions (64 * b) (64 * a) variables) 0)))
 
-  -- the three quick tests, as bits
-  module _ (counts : List ℕ) (v x y z : ℕ)
-      (count : getD counts b 0 ≡ conditionsIn conditions (64 * b) variables)
-      (otherCount : getD counts a 0 ≡ conditionsIn conditions (64 * a) variables)
-      (lacks : x ≡ bit (ltb v variables && otherThan (getD conditions (64 * b + v) 0) (getD conditions (64 * a + v) 0)))
-      (fewer : y ≡ bit (leb (getD counts a 0) (getD counts b 0)))
-      (unlike : z ≡ bit (not (eqb (getD costs b 0) (getD costs a 0)))) where
-    pub told-apart : (x + y + z ≡ 0 → ⊥) → false ≡ could
-    told-apart n =
-        split (ltb v variables && otherThan (getD conditions (64 * b + v) 0) (getD conditions (64 * a + v) 0))
-        (λ e. not-standing v e)
-        (λ e.
-        split (leb (getD counts a 0) (getD counts b 0))
-        (λ f. not-more (omega (arith, leb-true (getD counts a 0) (getD counts b 0) f)))
-        (λ f.
-        split (eqb (getD costs b 0) (getD costs a 0))
-        (λ g. absurd (n (omega (arith, bit-false _ e, bit-false _ f, bit-false _ (ap not g)))))
-        (λ g. not-same-cost (eqb-false (getD costs b 0) (getD costs a 0) g))))
+  -- the three quick tests: a condition that is missing, too few others, the cost
+  abbrev lacks : ℕ → Bool
+  lacks v = ltb v variables && otherThan (getD conditions (64 * b + v) 0) (getD conditions (64 * a + v) 0)
 
-    pub not-told-apart : x + y + z ≡ 0 → eqb (missing conditions (64 * b) (64 * a) variables) 0 ≡ could
+  abbrev notMore : List ℕ → Bool
+  notMore counts = leb (getD counts a 0) (getD counts b 0)
+
+  abbrev dearer : Bool
+  dearer = ltb (getD costs a 0) (getD costs b 0)
+
+  module _ (counts : List ℕ) (v : ℕ) (count : getD counts b 0 ≡ conditionsIn conditions (64 * b) variables) (otherCount : getD counts a 0 ≡ conditionsIn conditions (64 * a) variables) (first any : Bool) (is-first : first ≡ lacks v) (is-any : any ≡ first || (notMore counts || dearer)) where
+    pub told-apart : any ≡ true → false ≡ could
+    told-apart e =
+        ⊎-elim
+        (λ l. not-standing v (sym is-first ∙ l))
+        (λ r.
+        ⊎-elim
+        (λ n. not-more (omega (arith, leb-true (getD counts a 0) (getD counts b 0) n)))
+        (λ d. not-dearer (ltb-true (getD costs a 0) (getD costs b 0) d))
+        (or-split (notMore counts) dearer r))
+        (or-split first (notMore counts || dearer) (sym is-any ∙ e))
+
+    pub not-told-apart : any ≡ false → eqb (missing conditions (64 * b) (64 * a) variables) 0 ≡ could
     not-told-apart e =
+        let both = or-none (notMore counts) dearer (or-none first (notMore counts || dearer) (sym is-any ∙ e) .1) in
         all-standing
-        (split (eqb (getD costs b 0) (getD costs a 0)) (λ g. eqb-true _ _ g) (λ g. absurd (omega (arith, bit-true _ (ap not g)))))
-        (split (leb (getD counts a 0) (getD counts b 0))
-        (λ g. absurd (omega (arith, bit-true _ g)))
-        (λ g. omega (arith, leb-false (getD counts a 0) (getD counts b 0) g)))
+        (ltb-false (getD costs a 0) (getD costs b 0) (both .1))
+        (omega (arith, leb-false (getD counts a 0) (getD counts b 0) (both .0)))
+      where
+        or-none : (p q : Bool) → p || q ≡ false → (p ≡ false) × (q ≡ false)
+        or-none true q e = clash refl e
+        or-none false q e = (refl, e)

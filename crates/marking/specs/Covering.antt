@@ -3,7 +3,7 @@ use Prim.Native.Nat.{ℕ}
 use mathlib.Core.Bool.{Bool, true, false, not, _&&_, _||_}
 use mathlib.Core.List.{List}
 use mathlib.Core.Option.{Option, none, some}
-use lib.Dec.{eqb}
+use lib.Dec.{eqb, leb}
 use Rattle.files.specs.Below.{anyBelow, allBelow, allOf}
 use Rattle.files.specs.Task.{Pair, Action, Task, variableCount, actionCount, actionOf, valueIn}
 use Rattle.plans.specs.State.{hasFact}
@@ -19,10 +19,10 @@ sameEffect (some x) (some y) = eqb x y
 unfoldable pub within : List Pair → List Pair → Bool
 within conditions others = allOf (λ c. hasFact others (c .variable) (c .value)) conditions
 
--- what does not depend on the round: b has the same cost as a, and conditions that are a proper subset
+-- what does not depend on the round: b costs the same as a or less, and its conditions are a proper subset
 unfoldable pub couldCover : Action → Action → Bool
 couldCover b a =
-    eqb (b .cost) (a .cost)
+    leb (b .cost) (a .cost)
     && (within (b .conditions) (a .conditions) && not (within (a .conditions) (b .conditions)))
 
 -- b covers a: it could, and it has the same effect on each tracked variable

@@ -1,6 +1,6 @@
 // Marks and cells of rows, one at a time.
 ghost use mathlib.Core.Path.{_≡_};
-ghost use mathlib.Core.Bool.{cond, not};
+ghost use mathlib.Core.Bool.{cond, not, _||_};
 ghost use lib.Dec.{eqb};
 ghost use Rattle.files.specs.Below.{bit};
 ghost use Rattle.marking.specs.Dense.{otherThan};
@@ -10,6 +10,13 @@ pub fn bit_of(test: bool) -> u8
     ensures { λ r. ⌜ r ≡ bit test ⌝ }
 {
     if test { 1 } else { 0 }
+}
+
+// Whether one of three tests passes, without a branch between them.
+pub fn any_of(one: bool, other: bool, third: bool) -> bool
+    ensures { λ r. ⌜ r ≡ (one || (other || third)) ⌝ }
+{
+    bit_of(one) + bit_of(other) + bit_of(third) != 0
 }
 
 // A mark, set where the test passes.

@@ -87,9 +87,9 @@ fn is_missing(
     cells::other_than(conditions[base + v], conditions[other + v])
 }
 
-// Whether b costs what a costs and has a proper subset of its conditions: all of its conditions are
-// among them, and there are more of them. Three quick tests tell most pairs apart, the first on one
-// variable alone; they are made without a branch between.
+// Whether b costs the same as a or less and has a proper subset of its conditions: all of its conditions
+// are among them, and there are more of them. Three quick tests tell most pairs apart, the first on one
+// variable alone.
 fn pair_could_cover(
     costs: &[u32; 512],
     conditions: &[u8; 32768],
@@ -105,9 +105,9 @@ fn pair_could_cover(
     let base = limits::ROW * b;
     let other = limits::ROW * a;
     let lacks = is_missing(conditions, base, other, variables, first);
-    let fewer = counts[a] <= counts[b];
-    let unlike = costs[b] != costs[a];
-    if cells::bit_of(lacks) + cells::bit_of(fewer) + cells::bit_of(unlike) != 0 {
+    let not_more = counts[a] <= counts[b];
+    let dearer = costs[a] < costs[b];
+    if cells::any_of(lacks, not_more, dearer) {
         return false;
     }
     missing(conditions, base, other, variables) == 0

@@ -9,6 +9,7 @@ use shortest_check::reference::files::{read_origin, read_plan, read_task, Fact, 
 use shortest_check::reference::generate::{
     self, origin_file, plan_file, task_file, Family, Random,
 };
+use shortest_check::reference::marking::{marking, marking_by, Marking};
 use shortest_check::reference::plans::{holds, start, step, State};
 use shortest_check::reference::search::{state_count, state_number, state_numbered};
 use shortest_check::reference::translator::read_text;
@@ -193,7 +194,7 @@ fn marks_by_sets(task: &Task, level: u32) -> (BTreeSet<usize>, Vec<u8>, usize) {
         for &number in &kept {
             let covered = kept.iter().any(|&other| {
                 other != number
-                    && task.actions[other].cost == task.actions[number].cost
+                    && task.actions[other].cost <= task.actions[number].cost
                     && on_tracked(other) == on_tracked(number)
                     && conditions(other).is_subset(&conditions(number))
                     && conditions(other) != conditions(number)
@@ -249,6 +250,29 @@ fn marks_as_by_sets() {
                 .all(|&mark| mark == 9));
         }
     }
+}
+
+/// How many tasks of a family would be marked in another way if an action were
+/// covered at the same cost alone.
+fn unlike_at_the_same_cost(family: Family, seeds: u64) -> usize {
+    let marks = |marking: Marking| (marking.action_marks(), marking.fact_marks());
+    let unlike = |seed: &u64| {
+        let task = family(&mut Random::new(*seed));
+        let at_the_same_cost = marking_by(&task, 4, |other, own| other == own);
+        marks(at_the_same_cost) != marks(marking(&task, 4))
+    };
+    (0..seeds).filter(unlike).count()
+}
+
+#[test]
+fn cheaper_actions_cover() {
+    let unlike = [
+        unlike_at_the_same_cost(generate::small, 2_000),
+        unlike_at_the_same_cost(generate::small_with_plan, 2_000),
+        unlike_at_the_same_cost(generate::many_alike, 200),
+        unlike_at_the_same_cost(generate::varied, 2_400),
+    ];
+    assert_eq!(unlike, [19, 293, 49, 213]);
 }
 
 #[test]

@@ -432,6 +432,67 @@ fn unlike_effects_on_a_tracked_variable_cover_nothing() {
     assert_eq!(buffers.plan[..planned.plan], plan_file(&[1, 4]));
 }
 
+/// Task E with other costs of actions 0 and 1.
+fn with_costs(costs: [u32; 2]) -> Task {
+    let mut task = task_e();
+    task.actions[0].cost = costs[0];
+    task.actions[1].cost = costs[1];
+    task
+}
+
+#[test]
+fn covered_at_the_same_cost_or_less() {
+    let covered = ([1, 1, 0, 0, 0, 0, 0], [0, 0, 0, 0, 2, 0, 1, 0], 2);
+    let uncovered = ([1, 1, 1, 0, 0, 0, 0], [0, 1, 0, 0, 2, 0, 1, 0], 3);
+    let rows: [([u32; 2], _, &[u16], u64); 6] = [
+        ([2, 2], covered, &[1], 2),
+        ([2, 1], covered, &[1], 1),
+        ([1_000_000, 0], covered, &[1], 0),
+        ([3, 2], covered, &[1], 2),
+        ([2, 3], uncovered, &[1], 3),
+        ([2, 4], uncovered, &[2, 0], 3),
+    ];
+    for (costs, (actions, facts, rounds), steps, cost) in rows {
+        let task = with_costs(costs);
+        let mut buffers = Prefilled::long();
+        assert_eq!(buffers.mark(&task, 4).rounds, rounds, "{costs:?}");
+        assert_eq!(buffers.action_marks[..7], actions, "{costs:?}");
+        assert_eq!(buffers.fact_marks[..8], facts, "{costs:?}");
+        let planned = buffers.plan(&task, 7);
+        assert_eq!((planned.cost, planned.steps), (cost, steps.len()));
+        assert_eq!(buffers.plan[..planned.plan], plan_file(steps));
+    }
+}
+
+#[test]
+fn equal_conditions_cover_nothing() {
+    let mut task = with_costs([2, 1]);
+    task.actions[0].conditions.clear();
+    let mut buffers = Prefilled::long();
+    let planned = buffers.plan(&task, 7);
+    assert_eq!((planned.rounds, planned.table), (2, 2));
+    assert_eq!(buffers.action_marks[..7], [1, 1, 0, 0, 0, 0, 0]);
+    assert_eq!(buffers.plan[..planned.plan], plan_file(&[1]));
+}
+
+#[test]
+fn reduced_where_a_cheaper_action_covers() {
+    let task = with_costs([2, 1]);
+    let mut expected = REDUCED_E;
+    expected[56] = 1;
+    let mut buffers = Prefilled::of([7, 8, 80, 44, 0, 0]);
+    assert_eq!(buffers.reduce(&task, 4, 7).outcome, Outcome::DONE);
+    assert_eq!(buffers.reduced[..], expected);
+    buffers.reduce(&task_e(), 4, 7);
+    let origin_of_e = buffers.origin.clone();
+    buffers.reduce(&task, 4, 7);
+    assert_eq!(buffers.origin, origin_of_e);
+    // At level 3 action 2 is kept as well.
+    let marked = buffers.mark(&task, 3);
+    assert_eq!(marked.rounds, 3);
+    assert_eq!(buffers.action_marks[..], [1, 1, 1, 0, 0, 0, 0]);
+}
+
 #[test]
 fn least_cost_before_fewest_steps() {
     let mut task = task_e();

@@ -110,6 +110,12 @@ pub fn mark_stage(
 }
 
 pub fn marking(task: &Task, level: u32) -> Marking {
+    marking_by(task, level, |other, own| other <= own)
+}
+
+/// Marking by any rule of cost: whether an action may cover another is for the
+/// test to say, of its cost and the other's.
+pub fn marking_by(task: &Task, level: u32, may_cover: fn(u32, u32) -> bool) -> Marking {
     let mut kept = vec![false; task.actions.len()];
     let mut relevant = Facts::none(task);
     for &fact in &task.goal {
@@ -118,7 +124,10 @@ pub fn marking(task: &Task, level: u32) -> Marking {
             relevant.insert_all_of(fact.variable);
         }
     }
-    let rivals = if level == 4 { rivals(task) } else { Vec::new() };
+    let rivals = match level {
+        4 => rivals(task, may_cover),
+        _ => Vec::new(),
+    };
 
     for rounds in 1.. {
         let kept_before = kept.clone();
@@ -208,16 +217,16 @@ struct Rival {
     differing: Variables,
 }
 
-/// For each action those of the same cost whose conditions are a proper
-/// subset of its own.
-fn rivals(task: &Task) -> Vec<Vec<Rival>> {
+/// For each action those that may cover it by their costs and whose conditions
+/// are a proper subset of its own.
+fn rivals(task: &Task, may_cover: fn(u32, u32) -> bool) -> Vec<Vec<Rival>> {
     task.actions
         .iter()
         .map(|action| {
             task.actions
                 .iter()
                 .enumerate()
-                .filter(|(_, other)| other.cost == action.cost)
+                .filter(|(_, other)| may_cover(other.cost, action.cost))
                 .filter(|(_, other)| proper_subset(&other.conditions, &action.conditions))
                 .map(|(number, other)| Rival {
                     action: number,

@@ -122,13 +122,16 @@ pub fn many_alike(random: &mut Random) -> Task {
     with_goal(random, variables, actions, &among, 3)
 }
 
-/// One of the actions with a condition more or less, sometimes with another
-/// effect.
+/// One of the actions with a condition more, or with one less and then half
+/// the time at a lower cost or the same; sometimes with another effect.
 pub(super) fn alike(random: &mut Random, variables: &[Variable], actions: &[Action]) -> Action {
     let mut action = actions[random.below(actions.len())].clone();
     if random.chance(50) && !action.conditions.is_empty() {
         let dropped = random.below(action.conditions.len());
         action.conditions.remove(dropped);
+        if random.chance(50) {
+            action.cost = random.below(action.cost as usize + 1) as u32;
+        }
     } else if !variables.is_empty() {
         let variable = random.below(variables.len()) as u16;
         let fact = random.fact(variables, variable);

@@ -66,24 +66,40 @@ fn chain(variables: &[Variable], count: usize) -> Vec<Action> {
         .collect()
 }
 
-/// A variation of an earlier action, mostly of the same cost; or, every fourth
-/// time, one with new effects, whose conditions are much like the effects of
-/// an earlier one.
+/// A variation of an earlier action, three times in eight a cheaper one; or,
+/// every fourth time, one with new effects, whose conditions are much like the
+/// effects of an earlier one.
 fn action(random: &mut Random, variables: &[Variable], before: &[Action]) -> Action {
     let earlier = any_of(random, before);
     let any_cost = random.one_of(&COSTS);
-    if !before.is_empty() && random.chance(75) {
-        let same = random.below(8) > 0;
+    if before.is_empty() || !random.chance(75) {
         return Action {
-            cost: if same { earlier.cost } else { any_cost },
-            conditions: variation(random, variables, &earlier.conditions, 12),
-            effects: variation(random, variables, &earlier.effects, 13),
+            cost: any_cost,
+            conditions: variation(random, variables, &earlier.effects, 12),
+            effects: variation(random, variables, &[], 2 * variables.len()),
         };
     }
-    Action {
-        cost: any_cost,
-        conditions: variation(random, variables, &earlier.effects, 12),
-        effects: variation(random, variables, &[], 2 * variables.len()),
+    let mut varied = Action {
+        cost: earlier.cost,
+        conditions: variation(random, variables, &earlier.conditions, 12),
+        effects: variation(random, variables, &earlier.effects, 13),
+    };
+    match random.below(8) {
+        0 => varied.cost = any_cost,
+        1..4 => make_cheaper(random, &mut varied, &earlier),
+        _ => {}
+    }
+    varied
+}
+
+/// Gives the action some of the conditions of an earlier one, and a lower cost
+/// than that has, if there is one.
+fn make_cheaper(random: &mut Random, action: &mut Action, earlier: &Action) {
+    action.conditions = earlier.conditions.clone();
+    action.conditions.retain(|_| random.chance(60));
+    let lower = COSTS.partition_point(|&cost| cost < earlier.cost);
+    if lower > 0 {
+        action.cost = random.one_of(&COSTS[..lower]);
     }
 }
 
