@@ -76,7 +76,7 @@ pub record ColumnFilled (costs conditions : List ℕ) (variables actions b : ℕ
   pub column : (a : ℕ) → a < actions → getD after (512 * a + b) 0 ≡ bit (couldCoverAt costs conditions variables b a)
   pub others : (a j : ℕ) → j < 512 → (j ≡ b → ⊥) → getD after (512 * a + j) 0 ≡ getD before (512 * a + j) 0
 
--- a table with nothing in it
+-- a task within limits, and a table with nothing in it
 pub record EmptyTable (variables actions : ℕ) (table : List ℕ) : Type 0 where
   pub limits : WithinLimits variables actions
   pub room : 262144 ≤ length table

@@ -1,6 +1,5 @@
 -- The loop goes down from the last variable.
 use Prim.Native.Nat.{_≤_}
-use native.Mathlib.Omega.{arith}
 use borrow.Author.Needs.{needs}
 use Rattle.marking.proofs.cover_table.first_compared.Statement.{statement}
 use Rattle.marking.proofs.cover_table.first_compared.Tie as tie
