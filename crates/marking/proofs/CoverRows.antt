@@ -1,9 +1,9 @@
 -- What could cover what, by rows of the arrays: conditions stand in a row where none of them is missing there.
 use Prim.Native.Nat.{ℕ, _+_}
-use mathlib.Core.Path.{_≡_, refl, sym, ap, ap₂, _∙_}
+use mathlib.Core.Path.{_≡_, refl, sym, ap, _∙_}
 use mathlib.Core.Bool.{Bool, true, false, not, _&&_}
 use mathlib.Core.List.{List}
-use lib.Dec.{eqb, leb}
+use lib.Dec.{eqb}
 use lib.ListN.{getD}
 use borrow.Author.Tests.{eqb-true, eqb-false, eq-eqb, ne-eqb}
 use Rattle.files.specs.Dense.{rowPairs}
@@ -56,5 +56,4 @@ within-rows conditions base other variables =
 -- it hangs on cost and conditions alone
 pub could-same : (b b′ a a′ : Action) → b .cost ≡ b′ .cost → b .conditions ≡ b′ .conditions → a .cost ≡ a′ .cost → a .conditions ≡ a′ .conditions → couldCover b a ≡ couldCover b′ a′
 unfolding couldCover
-could-same b b′ a a′ bc bs ac as′ =
-    ap₂ (λ (c w : Bool). c && w) (ap₂ leb bc ac) (ap₂ (λ (w x : Bool). w && not x) (ap₂ within bs as′) (ap₂ within as′ bs))
+could-same b b′ a a′ bc bs ac as′ = rw (bc, bs, ac, as′) refl

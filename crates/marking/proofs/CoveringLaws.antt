@@ -5,13 +5,14 @@ use mathlib.Core.Bool.{Bool, true, false, not, _||_}
 use mathlib.Core.List.{List}
 use mathlib.Core.Logic.{⊎-elim}
 use mathlib.Core.Option.{Option, none, some}
-use lib.Dec.{leb}
+use native.Mathlib.Omega.{arith}
 use lib.ListN.{length}
-use borrow.Author.Tests.{eqb-true, leb-true, not-true}
+use borrow.Author.Tests.{eqb-true, not-true}
 use Rattle.files.specs.Below.{allBelow}
 use Rattle.files.specs.Task.{Pair, Action, Task, variableCount, valueIn}
 use Rattle.files.specs.Accepted.{validPairs}
 use Rattle.files.proofs.BelowLaws.{allBelow-elim}
+use Rattle.files.proofs.Done.{facts}
 use Rattle.files.proofs.Logic.{clash, and-split, or-split}
 use Rattle.plans.specs.State.{State, holds, allHold, hasFact}
 use Rattle.plans.proofs.AdmitsLaws.{admits-alike}
@@ -60,10 +61,9 @@ unfolding covers couldCover
 covers-says t tracked b a e =
     let agrees : ℕ → Bool = λ v. not (tracked v) || sameEffect (valueIn (b .effects) v) (valueIn (a .effects) v) in
     let both = and-split (couldCover b a) (allBelow (variableCount t) agrees) e in
-    let cost = and-split (leb (b .cost) (a .cost)) _ (both .0) in
-    let conditions = and-split (within (b .conditions) (a .conditions)) (not (within (a .conditions) (b .conditions))) (cost .1) in
+    let could = simp facts at both .0 in
     record {
-      no-dearer = leb-true (b .cost) (a .cost) (cost .0);
+      no-dearer = omega (arith, could .0);
       same-effect =
           λ v l k.
           sameEffect-says (valueIn (b .effects) v) (valueIn (a .effects) v)
@@ -71,9 +71,9 @@ covers-says t tracked b a e =
           (λ untracked. clash k (not-true (tracked v) untracked))
           (λ same. same)
           (or-split (not (tracked v)) _ (allBelow-elim (variableCount t) agrees (both .1) v l)));
-      asks-less = λ s h. within-holds (b .conditions) (a .conditions) s (conditions .0) h;
-      among = λ v d h. within-says (b .conditions) (a .conditions) v d (conditions .0) h;
-      not-all = not-true (within (a .conditions) (b .conditions)) (conditions .1);
+      asks-less = λ s h. within-holds (b .conditions) (a .conditions) s (could .1 .0) h;
+      among = λ v d h. within-says (b .conditions) (a .conditions) v d (could .1 .0) h;
+      not-all = not-true (within (a .conditions) (b .conditions)) (could .1 .1);
     }
 
 pub covers-fewer : (t : Task) (tracked : ℕ → Bool) (b a : Action) → validPairs t 0 (b .conditions) ≡ true → validPairs t 0 (a .conditions) ≡ true → Covers t tracked b a → length (b .conditions) < length (a .conditions)
