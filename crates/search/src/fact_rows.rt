@@ -1,0 +1,149 @@
+// Rows of actions by fact, each the bits of eight words.
+ghost use mathlib.Core.Path.{_≡_};
+ghost use Prim.Native.Nat.{ℕ, _+_, _<_};
+ghost use Rattle.search.specs.Sets.{inWord, inWords};
+ghost use Rattle.search.specs.FactRows.{leadsToFact, RowsByFact, CanFillRows, RowsFor, InAllRows};
+use files::bytes;
+use files::limits;
+
+// So many words hold the rows of every task that is searched.
+pub const MOST_WORDS: usize = 1184;
+
+const NO_PAIR: usize = limits::NO_PAIR as usize;
+const EVERY_ACTION: u64 = 18446744073709551615;
+
+// Whether a variable can have a value after a step.
+fn can_have(condition: usize, effect: usize, value: usize) -> bool
+    ensures { λ r. ⌜ r ≡ canHave condition effect value ⌝ }
+{
+    if effect != NO_PAIR {
+        return effect == value;
+    }
+    if condition != NO_PAIR {
+        return condition == value;
+    }
+    true
+}
+
+// 1 where action `a` can lead to a state in which variable `v` has the value, else 0.
+fn leads(
+    conditions: &[u8; 32768],
+    effects: &[u8; 32768],
+    v: usize,
+    value: usize,
+    a: usize,
+) -> u64
+{
+    let at = 64 * a + v;
+    if can_have(
+        bytes::byte_at(conditions, at),
+        bytes::byte_at(effects, at),
+        value,
+    ) {
+        return 1;
+    }
+    0
+}
+
+// The word of `count` actions from `first` on, at most 64.
+fn word(
+    conditions: &[u8; 32768],
+    effects: &[u8; 32768],
+    v: usize,
+    value: usize,
+    first: usize,
+    count: usize,
+) -> u64
+{
+    let mut word: u64 = 0;
+    let mut left = count;
+    while 0 < left {
+        left -= 1;
+        word = 2 * word + leads(conditions, effects, v, value, first + left);
+    }
+    word
+}
+
+// Writes the row of the fact that variable `v` has the value, at place `at`.
+fn put_row(
+    rows: &mut [u64],
+    at: usize,
+    conditions: &[u8; 32768],
+    effects: &[u8; 32768],
+    v: usize,
+    value: usize,
+    actions: usize,
+)
+{
+    let mut i: usize = 0;
+    while 64 * i < actions {
+        rows[at + i] = word(conditions, effects, v, value, 64 * i, at_most_64(actions - 64 * i));
+        i += 1;
+    }
+}
+
+// Writes the rows of the facts of variable `v`, the first of which has number `fact`.
+fn put_variable(
+    rows: &mut [u64],
+    fact: usize,
+    conditions: &[u8; 32768],
+    effects: &[u8; 32768],
+    v: usize,
+    size: usize,
+    actions: usize,
+)
+{
+    let mut value: usize = 0;
+    while value < size {
+        put_row(rows, 8 * (fact + value), conditions, effects, v, value, actions);
+        value += 1;
+    }
+}
+
+// Fills the rows: in that of each fact are the actions that can lead to it.
+pub fn fill(
+    rows: &mut [u64],
+    sizes: &[u8; 64],
+    conditions: &[u8; 32768],
+    effects: &[u8; 32768],
+    variables: usize,
+    actions: usize,
+)
+    requires { ⌜ CanFillRows variables actions (now sizes) (now rows) ⌝ }
+    ensures { λ r. ⌜ RowsByFact variables actions (now (sizes .entry)) (now (conditions .entry)) (now (effects .entry)) (now (rows .exit)) ⌝ }
+{
+    let mut fact: usize = 0;
+    let mut v: usize = 0;
+    while v < variables {
+        let size = bytes::byte_at(sizes, v);
+        put_variable(rows, fact, conditions, effects, v, size, actions);
+        fact = fact + size;
+        v += 1;
+    }
+}
+
+// Leaves in eight words the actions of the row at `at`.
+fn keep(words: &mut [u64], rows: &[u64], at: usize)
+{
+    let mut i: usize = 0;
+    while i < 8 {
+        words[i] = words[i] & rows[at + i];
+        i += 1;
+    }
+}
+
+// The actions that are in the row of each value.
+pub fn in_all(rows: &[u64], sizes: &[u8; 64], variables: usize, values: &[u8; 64]) -> [u64; 8]
+    requires { ⌜ RowsFor variables (now sizes) (now values) (now rows) ⌝ }
+    ensures { λ r. ⌜ InAllRows variables (now (sizes .entry)) (now (values .entry)) (now (rows .entry)) r ⌝ }
+{
+    let mut words = [EVERY_ACTION; 8];
+    let mut fact: usize = 0;
+    let mut v: usize = 0;
+    while v < variables {
+        keep(&mut words, rows, 8 * (fact + bytes::byte_at(values, v)));
+        fact = fact + bytes::byte_at(sizes, v);
+        v += 1;
+    }
+    words
+}
