@@ -7,7 +7,7 @@ use lib.Dec.{eqb, ltb}
 use lib.ListN.{length, getD}
 use Rattle.files.specs.Below.{sumBelow}
 use Rattle.plans.specs.State.{State}
-use Rattle.search.specs.Rows.{rowWeight, Searchable}
+use Rattle.search.specs.Rows.{rowWeight}
 use Rattle.search.specs.Sets.{inWord}
 
 -- what the values of the first n variables add to the number of a state
@@ -38,8 +38,13 @@ pub record MovesOf (variables actions : ℕ) (sizes conditions effects moves : L
   pub asked : (a : ℕ) → a < actions → getD moves (3 * a + 1) 0 ≡ weighted sizes (askedOf conditions effects (64 * a)) variables
   pub free : (a v : ℕ) → a < actions → v < 64 → inWord (getD moves (3 * a + 2) 0) v ≡ ltb v variables && setFreely conditions effects (64 * a) v
 
--- the weights of variables, and room for the moves
-pub record CanMove (variables actions : ℕ) (sizes costs conditions effects weights moves : List ℕ) : Type 0 where
-  pub asked : Searchable variables actions sizes costs conditions effects
-  pub weights-are : (v : ℕ) → v < variables → getD weights v 0 ≡ rowWeight sizes v
+-- the array of weights has those of the variables
+abbrev pub WeightsOf : (variables : ℕ) (sizes weights : List ℕ) → Type 0
+WeightsOf variables sizes weights = (v : ℕ) → v < variables → getD weights v 0 ≡ rowWeight sizes v
+
+-- small weights, and room for the moves
+pub record CanMove (variables actions : ℕ) (weights moves : List ℕ) : Type 0 where
+  pub variables-few : variables ≤ 64
+  pub actions-few : actions ≤ 512
+  pub weights-few : (v : ℕ) → v < variables → getD weights v 0 ≤ 4096
   pub room : mostMoves ≤ length moves

@@ -1,6 +1,6 @@
 // What each action does to the number of a state, three numbers an action: what its effects add, what
 // their conditions take away, and as the bits of a word the variables that it sets without a condition.
-ghost use Rattle.search.specs.Moves.{CanMove, MovesOf};
+ghost use Rattle.search.specs.Moves.{WeightsOf, CanMove, MovesOf};
 use files::bytes;
 use files::limits;
 
@@ -16,6 +16,7 @@ pub fn fill(
     variables: usize,
     actions: usize,
 )
-    requires { ⌜ ((sizes costs : List ℕ) → CanMove variables actions sizes costs (now conditions) (now effects) (now weights) (now moves)) ⌝ }
+    requires { ⌜ CanMove variables actions (now weights) (now moves) ⌝ }
+    ensures { λ r. ⌜ ((sizes : List ℕ) → WeightsOf variables sizes (now (weights .entry)) → MovesOf variables actions sizes (now (conditions .entry)) (now (effects .entry)) (now (moves .exit))) ⌝ }
 {
 }
