@@ -15,7 +15,7 @@ use Rattle.files.proofs.Logic.{clash, split, split-le, split-option}
 use Rattle.plans.specs.Plan.{Total, noSteps, addStep, atMost}
 use Rattle.search.specs.Table.{Distance, less, least, same, stepTo, entry, minutesOf, stepsOf, entryOf}
 use Rattle.search.specs.Entries.{noEntry, isNone, firstEntry, entryTotal, lessEntry, sameEntry, lowered, afterStep, Low, Holds, entryIn, Put}
-use Rattle.search.specs.Rows.{Offered}
+use Rattle.search.specs.Settling.{Offered}
 use Rattle.search.specs.declared.Entry.{Entry}
 use Rattle.search.proofs.DistanceLaws.{le-refl, le-trans, less-le, some-none, same-is, stepTo-none, stepTo-some, addStep-steps, addStep-minutes}
 

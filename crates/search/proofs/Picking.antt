@@ -1,14 +1,55 @@
 -- Picking the open state with the least entry: state by state, and of two stretches of states.
 use Prim.Native.Nat.{ℕ, _+_, _*_, _≤_, _<_}
-use mathlib.Core.Path.{_≡_, sym, subst}
+use mathlib.Core.Path.{_≡_, refl, sym, subst}
 use mathlib.Core.Bool.{true, false}
 use mathlib.Core.List.{List}
 use native.Mathlib.Omega.{arith}
+use lib.Dec.{eqb}
 use lib.ListN.{getD}
-use Rattle.files.proofs.Logic.{split-le}
+use borrow.Author.Tests.{eqb-true, eqb-false, eq-eqb, ne-eqb}
+use Rattle.files.proofs.Logic.{split, split-le}
 use Rattle.search.specs.Entries.{isNone, lessEntry, entryIn}
-use Rattle.search.specs.Settling.{Picked}
+use Rattle.search.specs.Settling.{Picked, lesserOf}
 use Rattle.search.proofs.EntryLaws.{lessEntry-self, lessEntry-below, lessEntry-trans}
+
+-- the lesser of two states
+module _ (entries : List ℕ) (count first second : ℕ) where
+  pub lesser-first : second ≡ count → first ≡ lesserOf entries count first second
+  unfolding lesserOf
+  lesser-first e = sym (rw (eq-eqb second count e) refl)
+
+  pub lesser-second : (second ≡ count → ⊥) → first ≡ count → second ≡ lesserOf entries count first second
+  unfolding lesserOf
+  lesser-second d e = sym (rw (ne-eqb second count d, eq-eqb first count e) refl)
+
+  pub lesser-less : (second ≡ count → ⊥) → (first ≡ count → ⊥) → lessEntry (entryIn entries second) (entryIn entries first) ≡ true → second ≡ lesserOf entries count first second
+  unfolding lesserOf
+  lesser-less d k e = sym (rw (ne-eqb second count d, ne-eqb first count k, e) refl)
+
+  pub lesser-keep : (second ≡ count → ⊥) → (first ≡ count → ⊥) → lessEntry (entryIn entries second) (entryIn entries first) ≡ false → first ≡ lesserOf entries count first second
+  unfolding lesserOf
+  lesser-keep d k e = sym (rw (ne-eqb second count d, ne-eqb first count k, e) refl)
+
+  -- it is one of the two, by what is known of them
+  pub lesser-cases : (P : ℕ → Type 0) → (second ≡ count → P first) → (first ≡ count → (second ≡ count → ⊥) → P second)
+      → ((first ≡ count → ⊥) → (second ≡ count → ⊥) → lessEntry (entryIn entries second) (entryIn entries first) ≡ true → P second)
+      → ((first ≡ count → ⊥) → (second ≡ count → ⊥) → lessEntry (entryIn entries second) (entryIn entries first) ≡ false → P first)
+      → P (lesserOf entries count first second)
+  lesser-cases P a b c d =
+      split (eqb second count)
+      (λ e. let y = eqb-true second count e in subst P (lesser-first y) (a y))
+      (λ e.
+      let n : second ≡ count → ⊥ = eqb-false second count e in
+      split (eqb first count)
+      (λ f. let y = eqb-true first count f in subst P (lesser-second n y) (b y n))
+      (λ f.
+      let m : first ≡ count → ⊥ = eqb-false first count f in
+      split (lessEntry (entryIn entries second) (entryIn entries first))
+      (λ g. subst P (lesser-less n m g) (c m n g))
+      (λ g. subst P (lesser-keep n m g) (d m n g))))
+
+  pub lesser-most : first ≤ count → second ≤ count → lesserOf entries count first second ≤ count
+  lesser-most f g = lesser-cases (λ (r : ℕ). r ≤ count) (λ e. f) (λ e d. g) (λ e d l. g) (λ e d l. f)
 
 module _ (entries settled : List ℕ) (count : ℕ) where
   pub pick-none : (from : ℕ) → Picked entries settled count from from count
@@ -128,3 +169,11 @@ module _ (entries settled : List ℕ) (count : ℕ) where
               (λ m. p .least l s a m c z w);
           none-left = λ e′. absurd (omega arith);
         }
+
+    pub join-lesser : first ≤ count → second ≤ count → Picked entries settled count from limit (lesserOf entries count first second)
+    join-lesser f g =
+        lesser-cases entries count first second (Picked entries settled count from limit)
+        join-first
+        (λ e d. join-second e)
+        (λ e d l. join-less (omega (arith, e)) (omega (arith, d)) l)
+        (λ e d l. join-keep (omega (arith, e)) (omega (arith, d)) l)

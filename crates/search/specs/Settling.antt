@@ -1,10 +1,12 @@
 -- The state that is settled next, and the least states of blocks of 64 states.
 use Prim.Native.Nat.{ℕ, _+_, _*_, _/_, _≤_, _<_}
 use mathlib.Core.Path.{_≡_}
-use mathlib.Core.Bool.{false}
+use mathlib.Core.Bool.{Bool, false, cond}
 use mathlib.Core.List.{List}
-use lib.ListN.{length, getD}
-use Rattle.search.specs.Entries.{isNone, lessEntry, Holds, entryIn}
+use lib.Dec.{eqb}
+use lib.ListN.{length, getD, set}
+use Rattle.search.specs.Entries.{isNone, lessEntry, lowered, Holds, entryIn}
+use Rattle.search.specs.declared.Entry.{Entry}
 
 -- of the states from `from` on below `limit` that are open and have an entry, the one with the least; `count` where there is none
 pub record Picked (entries settled : List ℕ) (count from limit best : ℕ) : Type 0 where
@@ -16,21 +18,9 @@ pub record Picked (entries settled : List ℕ) (count from limit best : ℕ) : T
       → lessEntry (entryIn entries s) (entryIn entries best) ≡ false
   pub none-left : best ≡ count → (s : ℕ) → from ≤ s → s < limit → s < count → getD settled s 0 ≡ 0 → isNone (entryIn entries s) ≡ false → ⊥
 
--- the least state of every block of 64 states that has not changed is known
-abbrev pub Known : (entries settled : List ℕ) (count : ℕ) (changed least : List ℕ) → Type 0
-Known entries settled count changed least =
-    (b : ℕ) → 64 * b < count → getD changed b 0 ≡ 0 → Picked entries settled count (64 * b) (64 * b + 64) (getD least b 0)
-
--- what is not marked as changed was not so before, and has the entries that it had
-pub record Unchanged (changed₀ entries₀ changed entries : List ℕ) : Type 0 where
-  pub still : (b : ℕ) → getD changed b 0 ≡ 0 → getD changed₀ b 0 ≡ 0
-  pub same : (s : ℕ) → getD changed (s / 64) 0 ≡ 0 → entryIn entries s ≡ entryIn entries₀ s
-
--- a state, and the blocks in which it can be marked
-pub record CanLower (entries changed : List ℕ) (state : ℕ) : Type 0 where
-  pub room : Holds entries (state + 1)
-  pub few : state < 4096
-  pub marks : 64 ≤ length changed
+-- the least state of every block of 64 states is known
+abbrev pub Known : (entries settled : List ℕ) (count : ℕ) (least : List ℕ) → Type 0
+Known entries settled count least = (b : ℕ) → 64 * b < count → Picked entries settled count (64 * b) (64 * b + 64) (getD least b 0)
 
 -- two states, or `count` for none
 pub record TwoStates (entries : List ℕ) (count first second : ℕ) : Type 0 where
@@ -38,11 +28,11 @@ pub record TwoStates (entries : List ℕ) (count first second : ℕ) : Type 0 wh
   pub first-most : first ≤ count
   pub second-most : second ≤ count
 
--- the lesser of them: where each is picked of a stretch, it is picked of both
-pub record Lesser (entries : List ℕ) (count first second r : ℕ) : Type 0 where
-  pub range : r ≤ count
-  pub joins : (settled : List ℕ) (from middle limit : ℕ) → from ≤ middle → middle ≤ limit
-      → Picked entries settled count from middle first → Picked entries settled count middle limit second → Picked entries settled count from limit r
+-- the lesser of them, the first where they are alike
+unfoldable pub lesserOf : List ℕ → ℕ → ℕ → ℕ → ℕ
+lesserOf entries count first second =
+    let both = cond (lessEntry (entryIn entries second) (entryIn entries first)) second first in
+    cond (eqb second count) first (cond (eqb first count) second both)
 
 -- the best state so far, and the next
 pub record BestSoFar (entries settled : List ℕ) (count best s : ℕ) : Type 0 where
@@ -73,24 +63,51 @@ pub record BlockEnd (count b r : ℕ) : Type 0 where
   pub most : r ≤ 64 * b + 64
   pub last : r < 64 * b + 64 → count ≤ r
 
--- entries, settled states and blocks of which the least states are known
-pub record Blocks (entries settled : List ℕ) (count : ℕ) (changed least : List ℕ) : Type 0 where
+-- entries and settled states, with room for the least states of the blocks
+pub record Blocks (entries settled : List ℕ) (count : ℕ) (least : List ℕ) : Type 0 where
   pub few : count ≤ 4096
   pub room : Holds entries count
   pub marks : count ≤ length settled
-  pub changed-long : 64 ≤ length changed
   pub least-long : 64 ≤ length least
-  pub known : Known entries settled count changed least
 
--- and one of them
-pub record BlockOf (entries settled : List ℕ) (count : ℕ) (changed least : List ℕ) (b : ℕ) : Type 0 where
-  pub blocks : Blocks entries settled count changed least
+-- and one of the blocks
+pub record BlockOf (entries settled : List ℕ) (count : ℕ) (least : List ℕ) (b : ℕ) : Type 0 where
+  pub blocks : Blocks entries settled count least
   pub begins : 64 * b < count
 
-pub record Refreshed (entries settled : List ℕ) (count : ℕ) (changed least : List ℕ) (b : ℕ) : Type 0 where
-  pub known : Known entries settled count changed least
+-- its least state is found anew, the others are as they were
+pub record Refreshed (entries settled : List ℕ) (count : ℕ) (least₀ least : List ℕ) (b : ℕ) : Type 0 where
   pub picked : Picked entries settled count (64 * b) (64 * b + 64) (getD least b 0)
+  pub others : (c : ℕ) → (c ≡ b → ⊥) → getD least c 0 ≡ getD least₀ c 0
 
-pub record Selected (entries settled : List ℕ) (count : ℕ) (changed least : List ℕ) (r : ℕ) : Type 0 where
-  pub picked : Picked entries settled count 0 count r
-  pub known : Known entries settled count changed least
+-- blocks of which the least states are known
+pub record KnownBlocks (entries settled : List ℕ) (count : ℕ) (least : List ℕ) : Type 0 where
+  pub blocks : Blocks entries settled count least
+  pub known : Known entries settled count least
+
+-- a state that is offered an entry
+pub record CanLower (entries settled : List ℕ) (count : ℕ) (least : List ℕ) (state : ℕ) (e : Entry) : Type 0 where
+  pub blocks : Blocks entries settled count least
+  pub known : Known entries settled count least
+  pub below : state < count
+  pub near : isNone e ≡ false
+
+-- a state whose entry is lower than it was, and the least state of its block
+pub record CanNote (entries settled : List ℕ) (count : ℕ) (least : List ℕ) (state : ℕ) : Type 0 where
+  pub blocks : Blocks entries settled count least
+  pub below : state < count
+  pub most : getD least (state / 64) 0 ≤ count
+
+abbrev pub Noted : (entries settled : List ℕ) (count : ℕ) (least₀ : List ℕ) (state : ℕ) (least : List ℕ) → Type 0
+Noted entries settled count least₀ state least =
+    least ≡ cond (eqb (getD settled state 0) 0) (set least₀ (state / 64) (lesserOf entries count (getD least₀ (state / 64) 0) state)) least₀
+
+-- the entries after one was offered to the states that pass a test, of the first `count`
+abbrev pub Offered : (test : ℕ → Bool) (count : ℕ) (e : Entry) (entries₀ entries : List ℕ) → Type 0
+Offered test count e entries₀ entries =
+    (s : ℕ) → s < count → entryIn entries s ≡ cond (test s) (lowered e (entryIn entries₀ s)) (entryIn entries₀ s)
+
+-- and the least states of the blocks are still known
+pub record Offers (test : ℕ → Bool) (count : ℕ) (e : Entry) (settled entries₀ entries least : List ℕ) : Type 0 where
+  pub offered : Offered test count e entries₀ entries
+  pub known : Known entries settled count least

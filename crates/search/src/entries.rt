@@ -1,12 +1,9 @@
 // Entries: their order, one step more, none; and the entries of the states in a slice of numbers, two
 // a state, which is read and written here alone.
 ghost use mathlib.Core.Path.{_≡_};
-ghost use Prim.Native.Nat.{ℕ, _+_};
-ghost use lib.Dec.{eqb};
+ghost use Prim.Native.Nat.{_+_};
 ghost use Rattle.files.specs.Task.{Action};
 ghost use Rattle.search.specs.Entries.{noEntry, isNone, firstEntry, lessEntry, sameEntry, afterStep, StepOn, Holds, entryIn, Put};
-ghost use Rattle.search.specs.Settling.{CanLower};
-ghost use Rattle.search.specs.Rows.{Offers};
 use crate::Entry;
 use plans::Minutes;
 use plans::Steps;
@@ -97,15 +94,4 @@ pub fn put_entry(entries: &mut [u64], state: usize, entry: Entry)
 {
     entries[2 * state] = entry.minutes.0;
     entries[2 * state + 1] = entry.steps.0 as u64;
-}
-
-// Offers a state an entry; its block is marked as changed where it takes it.
-pub fn lower(entries: &mut [u64], changed: &mut [u8], state: usize, entry: Entry)
-    requires { ⌜ CanLower (now entries) (now changed) state ⌝ }
-    ensures { λ r. ⌜ ((count : ℕ) → Offers (λ s. eqb s state) count entry (now (entries .entry)) (now (changed .entry)) (now (entries .exit)) (now (changed .exit))) ⌝ }
-{
-    if less(entry, entry_at(entries, state)) {
-        put_entry(entries, state, entry);
-        changed[state / 64] = 1;
-    }
 }

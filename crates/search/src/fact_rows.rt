@@ -3,6 +3,7 @@ ghost use mathlib.Core.Path.{_≡_};
 ghost use Prim.Native.Nat.{ℕ, _+_, _<_};
 ghost use Rattle.search.specs.Sets.{inWord, inWords};
 ghost use Rattle.search.specs.FactRows.{leadsToFact, RowsByFact, CanFillRows, RowsFor, InAllRows};
+ghost use Rattle.search.specs.Rows.{canHave};
 use files::bytes;
 use files::limits;
 
@@ -77,7 +78,7 @@ fn put_row(
 {
     let mut i: usize = 0;
     while 64 * i < actions {
-        rows[at + i] = word(conditions, effects, v, value, 64 * i, at_most_64(actions - 64 * i));
+        rows[at + i] = word(conditions, effects, v, value, 64 * i, actions - 64 * i);
         i += 1;
     }
 }

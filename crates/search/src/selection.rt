@@ -1,12 +1,15 @@
-// The state to settle next. The least state of each block of 64 states is remembered, and found anew
-// where the block has changed.
-ghost use Rattle.search.specs.Settling.{Picked, TwoStates, Lesser, BestSoFar, Better, Stretch, Block, BlockEnd, Blocks, BlockOf, Refreshed, Selected};
+// The state to settle next. The least state of each block of 64 states is known: it is found anew where
+// a state of the block is settled, and compared with each state of it that takes a lower entry.
+ghost use mathlib.Core.Path.{_≡_};
+ghost use lib.Dec.{eqb};
+ghost use Rattle.search.specs.Settling.{Picked, TwoStates, lesserOf, BestSoFar, Better, Stretch, Block, BlockEnd, BlockOf, Refreshed, KnownBlocks, CanLower, CanNote, Noted, Offers};
+use crate::Entry;
 use crate::entries;
 
 // Of two states, or `count` for none, the one with the lesser entry; the first where they are alike.
 fn lesser(entries: &[u64], count: usize, first: usize, second: usize) -> usize
     requires { ⌜ TwoStates (now entries) count first second ⌝ }
-    ensures { λ r. ⌜ Lesser (now (entries .entry)) count first second r ⌝ }
+    ensures { λ r. ⌜ r ≡ lesserOf (now (entries .entry)) count first second ⌝ }
 {
     if second == count {
         return first;
@@ -63,41 +66,53 @@ fn block_end(count: usize, b: usize) -> usize
     count
 }
 
-// Finds the least state of block `b` anew where the block has changed.
-fn refresh(
-    entries: &[u64],
-    settled: &[u8],
-    changed: &mut [u8],
-    least: &mut [usize],
-    count: usize,
-    b: usize,
-)
-    requires { ⌜ BlockOf (now entries) (now settled) count (now changed) (now least) b ⌝ }
-    ensures { λ r. ⌜ Refreshed (now (entries .entry)) (now (settled .entry)) count (now (changed .exit)) (now (least .exit)) b ⌝ }
+// Finds the least state of block `b` anew.
+pub fn refresh(entries: &[u64], settled: &[u8], least: &mut [usize], count: usize, b: usize)
+    requires { ⌜ BlockOf (now entries) (now settled) count (now least) b ⌝ }
+    ensures { λ r. ⌜ Refreshed (now (entries .entry)) (now (settled .entry)) count (now (least .entry)) (now (least .exit)) b ⌝ }
 {
-    if changed[b] != 0 {
-        least[b] = pick(entries, settled, count, 64 * b, block_end(count, b));
-        changed[b] = 0;
-    }
+    least[b] = pick(entries, settled, count, 64 * b, block_end(count, b));
 }
 
 // The open state with the least entry, or `count` where no open state has one.
-pub fn select(
-    entries: &[u64],
-    settled: &[u8],
-    changed: &mut [u8],
-    least: &mut [usize],
-    count: usize,
-) -> usize
-    requires { ⌜ Blocks (now entries) (now settled) count (now changed) (now least) ⌝ }
-    ensures { λ r. ⌜ Selected (now (entries .entry)) (now (settled .entry)) count (now (changed .exit)) (now (least .exit)) r ⌝ }
+pub fn select(entries: &[u64], settled: &[u8], least: &[usize], count: usize) -> usize
+    requires { ⌜ KnownBlocks (now entries) (now settled) count (now least) ⌝ }
+    ensures { λ r. ⌜ Picked (now (entries .entry)) (now (settled .entry)) count 0 count r ⌝ }
 {
     let mut best = count;
     let mut b: usize = 0;
     while 64 * b < count {
-        refresh(entries, settled, changed, least, count, b);
         best = lesser(entries, count, best, least[b]);
         b += 1;
     }
     best
+}
+
+// Compares the least state of the block of a state, where this is open, with the state.
+fn note(entries: &[u64], settled: &[u8], least: &mut [usize], count: usize, state: usize)
+    requires { ⌜ CanNote (now entries) (now settled) count (now least) state ⌝ }
+    ensures { λ r. ⌜ Noted (now (entries .entry)) (now (settled .entry)) count (now (least .entry)) state (now (least .exit)) ⌝ }
+{
+    if settled[state] == 0 {
+        let b = state / 64;
+        least[b] = lesser(entries, count, least[b], state);
+    }
+}
+
+// Offers a state an entry.
+pub fn lower(
+    entries: &mut [u64],
+    settled: &[u8],
+    least: &mut [usize],
+    count: usize,
+    state: usize,
+    entry: Entry,
+)
+    requires { ⌜ CanLower (now entries) (now settled) count (now least) state entry ⌝ }
+    ensures { λ r. ⌜ Offers (λ s. eqb s state) count entry (now (settled .entry)) (now (entries .entry)) (now (entries .exit)) (now (least .exit)) ⌝ }
+{
+    if entries::less(entry, entries::entry_at(entries, state)) {
+        entries::put_entry(entries, state, entry);
+        note(entries, settled, least, count, state);
+    }
 }

@@ -1,35 +1,58 @@
 // The table of the task that arrays hold: backwards from the goal, the least entry settled first.
 ghost use mathlib.Core.Path.{_≡_};
-ghost use mathlib.Core.List.{List};
-ghost use Prim.Native.Nat.{ℕ, _<_};
-ghost use Rattle.files.specs.Dense.{rowPairs, held, arrays};
-ghost use Rattle.plans.specs.State.{allHold};
-ghost use Rattle.search.specs.States.{stateAt};
-ghost use Rattle.search.specs.Entries.{firstEntry, entryIn};
-ghost use Rattle.search.specs.Rows.{rowVariables, CanBegin, CanSearch, TableIn};
+ghost use Prim.Native.Nat.{_≤_};
+ghost use lib.ListN.{getD};
+ghost use Rattle.files.specs.Dense.{held, arrays};
+ghost use Rattle.search.specs.Entries.{Holds};
+ghost use Rattle.search.specs.Moves.{weighted};
+ghost use Rattle.search.specs.Offers.{Cleared, goalValues, GoalFree, CanBegin, Begun, CanSearch, TableIn};
 use crate::entries;
+use crate::fact_rows;
+use crate::goal;
 use crate::selection;
 use crate::states;
 use crate::steps_to;
 
-// The entries before any step: nothing where the goal holds, none elsewhere.
-fn begin(entries: &mut [u64], sizes: &[u8; 64], goal: &[u8; 64], variables: usize, count: usize)
-    requires { ⌜ CanBegin variables count (now sizes) (now entries) ⌝ }
-    ensures { λ r. ⌜ ((starts : List ℕ) (s : ℕ) → s < count → entryIn (now (entries .exit)) s ≡ firstEntry (allHold (rowPairs (now (goal .entry)) 0 0 variables) (stateAt (rowVariables variables (now (sizes .entry)) starts) s))) ⌝ }
+// Puts the entry of none everywhere.
+fn clear(entries: &mut [u64], count: usize)
+    requires { ⌜ Holds (now entries) count ⌝ }
+    ensures { λ r. ⌜ Cleared count (now (entries .exit)) ⌝ }
 {
     let mut s: usize = 0;
     while s < count {
-        let values = states::values_of(sizes, variables, s);
-        let reached = states::all_hold(goal, 0, variables, &values);
-        entries::put_entry(entries, s, entries::first(reached));
+        entries::put_entry(entries, s, entries::none());
         s += 1;
     }
 }
 
+// The entries before any step: nothing where the goal holds, none elsewhere.
+fn begin(
+    entries: &mut [u64],
+    settled: &[u8],
+    least: &mut [usize],
+    count: usize,
+    sizes: &[u8; 64],
+    weights: &[usize; 64],
+    goal: &[u8; 64],
+    variables: usize,
+)
+    requires { ⌜ CanBegin variables count (now sizes) (now weights) (now goal) (now entries) (now settled) (now least) ⌝ }
+    ensures { λ r. ⌜ Begun variables count (now (sizes .entry)) (now (goal .entry)) (now (settled .entry)) (now (entries .exit)) (now (least .exit)) ⌝ }
+{
+    clear(entries, count);
+    let free = goal::free(goal, variables);
+    let at = goal::number(goal, weights, variables);
+    let first = entries::first(true);
+    steps_to::offer(entries, settled, least, count, sizes, weights, variables, free, 0, at, first);
+}
+
 // Fills the entries with the table of the task that arrays hold, and gives the number of its
-// start state.
+// start state. Weights and moves are those of the task; the rows are filled here.
 pub fn search(
     entries: &mut [u64],
+    rows: &mut [u64],
+    moves: &[u64],
+    weights: &[usize; 64],
     count: usize,
     variables: usize,
     actions: usize,
@@ -40,31 +63,22 @@ pub fn search(
     conditions: &[u8; 32768],
     effects: &[u8; 32768],
 ) -> usize
-    requires { ⌜ CanSearch (arrays variables actions (now sizes) (now starts) (now goal) (now costs) (now conditions) (now effects)) count (now entries) ⌝ }
+    requires { ⌜ CanSearch (arrays variables actions (now sizes) (now starts) (now goal) (now costs) (now conditions) (now effects)) count (now entries) (now rows) (now moves) (now weights) ⌝ }
     ensures { λ r. ⌜ TableIn (held (arrays variables actions (now (sizes .entry)) (now (starts .entry)) (now (goal .entry)) (now (costs .entry)) (now (conditions .entry)) (now (effects .entry)))) count (now (entries .exit)) r ⌝ }
 {
-    begin(entries, sizes, goal, variables, count);
-    let weights = states::weights(sizes, variables);
+    fact_rows::fill(rows, sizes, conditions, effects, variables, actions);
     let mut settled = [0u8; 4096];
-    let mut changed = [1u8; 64];
-    let mut least = [0usize; 64];
-    let mut s = selection::select(entries, &settled, &mut changed, &mut least, count);
+    let mut least = [count; 64];
+    begin(entries, &settled, &mut least, count, sizes, weights, goal, variables);
+    let mut s = selection::select(entries, &settled, &least, count);
     while s < count {
         settled[s] = 1;
-        changed[s / 64] = 1;
+        selection::refresh(entries, &settled, &mut least, count, s / 64);
         steps_to::settle(
-            entries,
-            &mut changed,
-            sizes,
-            &weights,
-            costs,
-            conditions,
-            effects,
-            variables,
-            actions,
-            s,
+            entries, &settled, &mut least, count, sizes, weights, costs, rows, moves, variables,
+            actions, s,
         );
-        s = selection::select(entries, &settled, &mut changed, &mut least, count);
+        s = selection::select(entries, &settled, &least, count);
     }
     states::start_number(sizes, starts, variables)
 }

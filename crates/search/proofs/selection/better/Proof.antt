@@ -1,10 +1,13 @@
 -- The state alone is a stretch of its own.
-use mathlib.Core.Path.{refl, sym, ap, _∙_}
+use mathlib.Core.Path.{refl, sym, ap, subst, _∙_}
 use Rattle.files.proofs.Logic.{clash}
 use Rattle.search.specs.Entries.{isNone}
+use Rattle.search.specs.Settling.{Picked}
+use native.Mathlib.Nat.{le-of-lt, le-of-eq, le-trans}
 use native.Mathlib.Omega.{arith}
+use denote.Ref.{now}
 use borrow.Author.Needs.{needs}
-use Rattle.search.proofs.Picking.{pick-one, pick-not, join-first}
+use Rattle.search.proofs.Picking.{pick-one, pick-not, join-first, join-lesser, lesser-most}
 use Rattle.search.proofs.selection.better.Statement.{statement}
 use Rattle.search.proofs.selection.better.Tie as tie
 
@@ -36,8 +39,11 @@ returns-3 c =
     let s = c .before .before .before .before .before .before .before .before in
     let none = ap isNone (sym (c .before .before .before .entry-at .ensures)) ∙ sym (c .before .before .is-none .ensures) in
     record {
-      range = c .lesser .ensures .range;
-      picks = λ from h p. c .lesser .ensures .joins _ from _ _ h (omega arith) p (pick-one _ _ _ _ (s .pre .below) (c .before .before .before .before .if1 .left) (none ∙ c .before .if2 .left));
+      range = le-trans (le-of-eq (c .lesser .ensures)) (lesser-most (now (s .args .entries)) _ _ _ (s .pre .most) (le-of-lt (s .pre .below)));
+      picks =
+          λ from h p.
+          subst (Picked _ _ _ from _) (sym (c .lesser .ensures))
+          (join-lesser _ _ _ from _ _ _ _ h (omega arith) p (pick-one _ _ _ _ (s .pre .below) (c .before .before .before .before .if1 .left) (none ∙ c .before .if2 .left)) (s .pre .most) (le-of-lt (s .pre .below)));
     }
 
 pub better-spec : {M : Type 1} → statement M

@@ -3,7 +3,7 @@ use native.Mathlib.Omega.{arith}
 use borrow.Author.Needs.{needs}
 use denote.Ref.{now}
 use Rattle.search.specs.Entries.{lessEntry, entryIn}
-use Rattle.search.proofs.Picking.{join-first, join-second, join-less, join-keep}
+use Rattle.search.proofs.Picking.{lesser-first, lesser-second, lesser-less, lesser-keep}
 use Rattle.search.proofs.selection.lesser.Statement.{statement}
 use Rattle.search.proofs.selection.lesser.Tie as tie
 
@@ -16,13 +16,11 @@ compared c = sym (c .less .ensures ∙ ap₂ lessEntry (c .before .before .entry
 
 returns : tie.Need-returns
 returns c =
-    let s = c .before .before in
-    record { range = s .pre .first-most; joins = λ settled from middle limit h k p q. join-first _ settled _ from middle limit _ _ h k p q (c .if1 .taken) }
+    lesser-first _ _ _ _ (c .if1 .taken)
 
 returns-2 : tie.Need-returns-2
 returns-2 c =
-    let s = c .before .before .before in
-    record { range = s .pre .second-most; joins = λ settled from middle limit h k p q. join-second _ settled _ from middle limit _ _ h k p q (c .if2 .taken) }
+    lesser-second _ _ _ _ (c .before .if1 .left) (c .if2 .taken)
 
 entry-at-requires : tie.Need-entry-at-requires
 entry-at-requires c κs =
@@ -38,24 +36,10 @@ less-requires : tie.Need-less-requires
 less-requires c κs = search needs
 
 returns-3 : tie.Need-returns-3
-returns-3 c =
-    let s = c .before .before .before .before .before .before .before in
-    record {
-      range = s .pre .second-most;
-      joins =
-          λ settled from middle limit h k p q.
-          join-less _ settled _ from middle limit _ _ h k p q (omega (arith, s .pre .first-most, c .before .before .before .before .if2 .left)) (omega (arith, s .pre .second-most, c .before .before .before .before .before .if1 .left)) (compared (c .before) ∙ c .if3 .taken);
-    }
+returns-3 c = lesser-less _ _ _ _ (c .before .before .before .before .before .if1 .left) (c .before .before .before .before .if2 .left) (compared (c .before) ∙ c .if3 .taken)
 
 returns-4 : tie.Need-returns-4
-returns-4 c =
-    let s = c .before .before .before .before .before .before .before in
-    record {
-      range = s .pre .first-most;
-      joins =
-          λ settled from middle limit h k p q.
-          join-keep _ settled _ from middle limit _ _ h k p q (omega (arith, s .pre .first-most, c .before .before .before .before .if2 .left)) (omega (arith, s .pre .second-most, c .before .before .before .before .before .if1 .left)) (compared (c .before) ∙ c .if3 .left);
-    }
+returns-4 c = lesser-keep _ _ _ _ (c .before .before .before .before .before .if1 .left) (c .before .before .before .before .if2 .left) (compared (c .before) ∙ c .if3 .left)
 
 pub lesser-spec : {M : Type 1} → statement M
 lesser-spec =
