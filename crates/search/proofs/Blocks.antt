@@ -10,7 +10,7 @@ use lib.Seq.{getD-set-same, getD-set-other}
 use borrow.Author.Tests.{eqb-true, eqb-false, eq-eqb, ne-eqb}
 use Rattle.files.proofs.Logic.{clash, split}
 use Rattle.search.specs.Entries.{noEntry, isNone, lessEntry, entryIn, Put}
-use Rattle.search.specs.Settling.{Picked, Known, lesserOf, Refreshed, Noted}
+use Rattle.search.specs.Settling.{Picked, Known, Blocks, lesserOf, Refreshed, Noted}
 use Rattle.search.specs.declared.Entry.{Entry}
 use Rattle.search.proofs.EntryLaws.{none-is, lessEntry-self, lessEntry-below}
 use Rattle.search.proofs.Picking.{lesser-cases}
@@ -24,6 +24,12 @@ block-is b s h k = omega (arith, h, k)
 
 pub begins : (x count : ℕ) → x < count → 64 * (x / 64) < count
 begins x count h = omega (arith, h)
+
+-- other entries and least states, as many
+pub blocks-same : (entries settled : List ℕ) (count : ℕ) (least entries′ least′ : List ℕ) → Blocks entries settled count least → length entries′ ≡ length entries → length least′ ≡ length least
+    → Blocks entries′ settled count least′
+blocks-same entries settled count least entries′ least′ h a b =
+    record { few = h .few; room = omega (arith, h .room, a); marks = h .marks; least-long = omega (arith, h .least-long, b) }
 
 -- a state is noted, or is settled
 pub noted-open : (entries settled : List ℕ) (count : ℕ) (least : List ℕ) (x r : ℕ) → getD settled x 0 ≡ 0 → r ≡ lesserOf entries count (getD least (x / 64) 0) x → Noted entries settled count least x (set least (x / 64) r)
