@@ -4,6 +4,7 @@ mod entries;
 mod first_plan;
 pub mod own_table;
 mod selection;
+mod sets;
 mod stages;
 mod states;
 mod steps_to;
