@@ -30,6 +30,7 @@ pub mod Hand
 pub mod EntrySlices
 pub mod Spelled
 pub mod TableFilling
+pub mod MoveLoops
 pub mod Leading
 pub mod Stepping
 pub mod Answers

@@ -6,6 +6,9 @@ pub mod Least
 pub mod Entries
 pub mod Settling
 pub mod Rows
+pub mod Sets
+pub mod FactRows
+pub mod Moves
 pub mod ReadOff
 pub mod Planner
 pub mod Found

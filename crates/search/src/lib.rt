@@ -2,6 +2,7 @@
 // The call open to callers is plan; the module own_table serves the programs.
 mod entries;
 mod first_plan;
+mod moves;
 pub mod own_table;
 mod selection;
 mod stages;
