@@ -25,6 +25,8 @@ pub mod HeldStates
 pub mod Picking
 pub mod Blocks
 pub mod Begun
+pub mod BitLaws
+pub mod SetLoops
 pub mod Searching
 pub mod Hand
 pub mod EntrySlices

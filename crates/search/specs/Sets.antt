@@ -30,3 +30,8 @@ pub record InEightWords (words : List ℕ) (limit from : ℕ) : Type 0 where
   pub room : 8 ≤ length words
   pub few : limit ≤ 512
   pub start : from ≤ limit
+
+-- the lesser of two numbers
+pub record LesserOf (first second r : ℕ) : Type 0 where
+  pub one : first < second → r ≡ first
+  pub other : second ≤ first → r ≡ second

@@ -5,6 +5,7 @@ mod first_plan;
 mod moves;
 pub mod own_table;
 mod selection;
+mod sets;
 mod stages;
 mod states;
 mod steps_to;

@@ -1,5 +1,5 @@
 // Sets of small numbers as the bits of words.
-ghost use Rattle.search.specs.Sets.{inWord, inWords, FirstFrom, InOneWord, InEightWords};
+ghost use Rattle.search.specs.Sets.{inWord, inWords, FirstFrom, LesserOf, InOneWord, InEightWords};
 
 // The first number from `from` on in the set of a word, or `limit` where there is none below it.
 pub fn first_in(word: u64, from: usize, limit: usize) -> usize
@@ -34,7 +34,9 @@ pub fn next_in(words: &[u64], from: usize, limit: usize) -> usize
 }
 
 // The lesser of two numbers.
-fn lesser(first: usize, second: usize) -> usize {
+fn lesser(first: usize, second: usize) -> usize
+    ensures { λ r. ⌜ LesserOf first second r ⌝ }
+{
     if first < second {
         return first;
     }
