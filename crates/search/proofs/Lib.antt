@@ -33,6 +33,7 @@ pub mod EntrySlices
 pub mod Spelled
 pub mod TableFilling
 pub mod MoveLoops
+pub mod Going
 pub mod Leading
 pub mod Stepping
 pub mod Answers

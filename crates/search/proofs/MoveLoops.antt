@@ -1,7 +1,7 @@
 -- The moves of the actions: what a variable adds to the sums and to the word of a step, and three numbers more for each action.
 use Prim.Native.Nat.{ℕ, zero, suc, _+_, _-_, _*_, _/_, _%_, _^_, _≤_, _<_}
 use mathlib.Core.Path.{_≡_, refl, sym, ap, ap₂, subst, _∙_}
-use mathlib.Core.Bool.{Bool, true, false, not, cond, _&&_, _||_}
+use mathlib.Core.Bool.{Bool, false, not, cond, _&&_, _||_}
 use mathlib.Core.List.{List}
 use native.Mathlib.Omega.{arith}
 use native.Mathlib.Nat.{add-zero, pow-suc, zero-div}
@@ -11,7 +11,10 @@ use lib.ListN.{length, length-set, getD, set}
 use lib.Pow.{pow-mono}
 use lib.Seq.{getD-set-same, getD-set-other}
 use borrow.Author.Tests.{eq-eqb, ne-eqb, lt-ltb, le-ltb}
+use Rattle.files.specs.Below.{bit}
+use Rattle.files.proofs.BelowLaws.{bit-most}
 use Rattle.files.proofs.Logic.{split-le, cond-case}
+use Rattle.files.proofs.Truth.{bit-marked}
 use Rattle.plans.specs.State.{State}
 use Rattle.search.specs.Rows.{rowWeight}
 use Rattle.search.specs.Sets.{inWord}
@@ -32,13 +35,13 @@ asked-none condition effect e = sym (rw (eq-eqb effect 255 e) refl)
 pub asked-some : (condition effect r : ℕ) → (effect ≡ 255 → ⊥) → r ≡ cond (eqb condition 255) 0 condition → r ≡ cond (eqb effect 255 || eqb condition 255) 0 condition
 asked-some condition effect r d e = sym (rw (ne-eqb effect 255 d) (sym e))
 
-pub freely-none : (condition effect : ℕ) → effect ≡ 255 → _≡_ {A = ℕ} 0 (cond (not (eqb effect 255) && eqb condition 255) 1 0)
+pub freely-none : (condition effect : ℕ) → effect ≡ 255 → 0 ≡ bit (not (eqb effect 255) && eqb condition 255)
 freely-none condition effect e = sym (rw (eq-eqb effect 255 e) refl)
 
-pub freely-yes : (condition effect : ℕ) → (effect ≡ 255 → ⊥) → condition ≡ 255 → _≡_ {A = ℕ} 1 (cond (not (eqb effect 255) && eqb condition 255) 1 0)
+pub freely-yes : (condition effect : ℕ) → (effect ≡ 255 → ⊥) → condition ≡ 255 → 1 ≡ bit (not (eqb effect 255) && eqb condition 255)
 freely-yes condition effect d e = sym (rw (ne-eqb effect 255 d, eq-eqb condition 255 e) refl)
 
-pub freely-no : (condition effect : ℕ) → (effect ≡ 255 → ⊥) → (condition ≡ 255 → ⊥) → _≡_ {A = ℕ} 0 (cond (not (eqb effect 255) && eqb condition 255) 1 0)
+pub freely-no : (condition effect : ℕ) → (effect ≡ 255 → ⊥) → (condition ≡ 255 → ⊥) → 0 ≡ bit (not (eqb effect 255) && eqb condition 255)
 freely-no condition effect d e = sym (rw (ne-eqb effect 255 d, ne-eqb condition 255 e) refl)
 
 -- what a cell adds to a sum is small
@@ -93,13 +96,8 @@ module _ (variables base : ℕ) (weights conditions effects : List ℕ) where
       subst (λ (n : ℕ). SumsOf n base sizes conditions effects set asked) last (c .is sizes weight)
 
 -- the word of the variables from v on
-bit-is : (b : Bool) → eqb (cond b 1 0) 1 ≡ b
-bit-is true = refl
-bit-is false = refl
-
-pub bit-few : (b : Bool) (x : ℕ) → x ≡ cond b 1 0 → x ≤ 1
-bit-few true x e = omega (arith, e)
-bit-few false x e = omega (arith, e)
+pub bit-few : (b : Bool) (x : ℕ) → x ≡ bit b → x ≤ 1
+bit-few b x e = omega (arith, bit-most b)
 
 in-none : (k : ℕ) → inWord 0 k ≡ false
 unfolding inWord
@@ -125,7 +123,7 @@ module _ (variables base : ℕ) (conditions effects : List ℕ) where
   mark-fits v word few h c = omega (arith, c .small, pow-mono {i = variables - v} {j = 63} (omega arith))
 
   module _ (v word b effect condition : ℕ) (c : Marking v word) (h : 0 < v) (effect-is : effect ≡ getD effects (base + (v - 1)) 0) (condition-is : condition ≡ getD conditions (base + (v - 1)) 0)
-      (b-is : b ≡ cond (not (eqb effect 255) && eqb condition 255) 1 0) where
+      (b-is : b ≡ bit (not (eqb effect 255) && eqb condition 255)) where
     freely-at : not (eqb effect 255) && eqb condition 255 ≡ setFreely conditions effects base (v - 1)
     unfolding setFreely
     freely-at = ap₂ (λ (n m : ℕ). not (eqb n 255) && eqb m 255) effect-is condition-is
@@ -134,7 +132,7 @@ module _ (variables base : ℕ) (conditions effects : List ℕ) where
     mark-bits zero =
         in-first word b (bit-few (not (eqb effect 255) && eqb condition 255) b b-is)
         ∙ ap (λ (n : ℕ). eqb n 1) b-is
-        ∙ bit-is (not (eqb effect 255) && eqb condition 255)
+        ∙ bit-marked (not (eqb effect 255) && eqb condition 255)
         ∙ freely-at
         ∙ sym (ap (λ (x : Bool). x && setFreely conditions effects base (v - 1)) (lt-ltb (v - 1) variables (omega (arith, c .within))))
         ∙ ap (λ (n : ℕ). ltb n variables && setFreely conditions effects base n) (sym (add-zero (v - 1)))

@@ -10,6 +10,7 @@ use files::limits;
 pub const MOST_WORDS: usize = 1184;
 
 const NO_PAIR: usize = limits::NO_PAIR as usize;
+
 const EVERY_ACTION: u64 = 18446744073709551615;
 
 // Whether a variable can have a value after a step.
@@ -26,14 +27,7 @@ fn can_have(condition: usize, effect: usize, value: usize) -> bool
 }
 
 // 1 where action `a` can lead to a state in which variable `v` has the value, else 0.
-fn leads(
-    conditions: &[u8; 32768],
-    effects: &[u8; 32768],
-    v: usize,
-    value: usize,
-    a: usize,
-) -> u64
-{
+fn leads(conditions: &[u8; 32768], effects: &[u8; 32768], v: usize, value: usize, a: usize) -> u64 {
     let at = 64 * a + v;
     if can_have(
         bytes::byte_at(conditions, at),
@@ -53,8 +47,7 @@ fn word(
     value: usize,
     first: usize,
     count: usize,
-) -> u64
-{
+) -> u64 {
     let mut word: u64 = 0;
     let mut left = count;
     while 0 < left {
@@ -73,11 +66,17 @@ fn put_row(
     v: usize,
     value: usize,
     actions: usize,
-)
-{
+) {
     let mut i: usize = 0;
     while 64 * i < actions {
-        rows[at + i] = word(conditions, effects, v, value, 64 * i, at_most_64(actions - 64 * i));
+        rows[at + i] = word(
+            conditions,
+            effects,
+            v,
+            value,
+            64 * i,
+            at_most_64(actions - 64 * i),
+        );
         i += 1;
     }
 }
@@ -91,11 +90,18 @@ fn put_variable(
     v: usize,
     size: usize,
     actions: usize,
-)
-{
+) {
     let mut value: usize = 0;
     while value < size {
-        put_row(rows, 8 * (fact + value), conditions, effects, v, value, actions);
+        put_row(
+            rows,
+            8 * (fact + value),
+            conditions,
+            effects,
+            v,
+            value,
+            actions,
+        );
         value += 1;
     }
 }
@@ -123,8 +129,7 @@ pub fn fill(
 }
 
 // Leaves in eight words the actions of the row at `at`.
-fn keep(words: &mut [u64], rows: &[u64], at: usize)
-{
+fn keep(words: &mut [u64], rows: &[u64], at: usize) {
     let mut i: usize = 0;
     while i < 8 {
         words[i] = words[i] & rows[at + i];

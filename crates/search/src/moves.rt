@@ -5,6 +5,7 @@ ghost use mathlib.Core.List.{List};
 ghost use mathlib.Core.Path.{_≡_};
 ghost use Prim.Native.Nat.{ℕ};
 ghost use lib.Dec.{eqb};
+ghost use Rattle.files.specs.Below.{bit};
 ghost use Rattle.search.specs.Moves.{WeightsOf, CanMove, MovesOf, CanSum, SumsOf, CanMark, FreeWord};
 use files::bytes;
 use files::limits;
@@ -42,7 +43,7 @@ fn asked_of(condition: usize, effect: usize) -> usize
 
 // 1 for a variable with an effect and without a condition, else 0.
 fn set_freely(condition: usize, effect: usize) -> u64
-    ensures { λ r. ⌜ r ≡ cond (not (eqb effect 255) && eqb condition 255) 1 0 ⌝ }
+    ensures { λ r. ⌜ r ≡ bit (not (eqb effect 255) && eqb condition 255) ⌝ }
 {
     if effect == NO_PAIR {
         return 0;
