@@ -5,19 +5,19 @@ use mathlib.Core.Path.{_≡_, refl, sym, ap, ap₂, _∙_}
 use mathlib.Core.Bool.{Bool, true, false, _&&_}
 use mathlib.Core.List.{List}
 use native.Mathlib.Omega.{arith}
-use native.Mathlib.Nat.{div-one, mod-lt, mul-comm, min-le-left, not-suc-le-zero}
+use native.Mathlib.Nat.{div-one, mod-lt, mul-comm, min-le-left, not-suc-le-zero, zero-add, div-add-mod'}
 use native.Mathlib.Numerals.{one-add}
 use lib.Arith.{digits-div, digits-mod}
 use lib.Bits.{bitAnd, and-step, and-shr}
 use lib.Count.{trailingZeros}
 use lib.Dec.{eqb}
-use lib.ListN.{getD}
+use lib.ListN.{getD, replicate, getD-replicate}
 use lib.Pow.{shr-shr}
 use borrow.Author.Tests.{eqb-true, eqb-false}
-use Rattle.files.specs.Below.{allBelow}
 use Rattle.files.proofs.BelowLaws.{allBelow-elim}
 use Rattle.files.proofs.Logic.{split, split-le}
-use Rattle.search.specs.Sets.{inWord, inWords, FirstFrom}
+use Rattle.search.specs.Sets.{inWord, inWords}
+use Rattle.search.specs.FactRows.{Kept}
 
 -- of a word shifted
 pub in-shifted : (w j k : ℕ) → inWord (w / 2 ^ j) k ≡ inWord w (j + k)
@@ -113,3 +113,43 @@ in-place words at p k h =
     let n : 64 * p + k ≡ p * 64 + k = ap (λ (x : ℕ). x + k) (mul-comm 64 p) in
     ap (inWords words at) n
     ∙ ap₂ (λ (q r : ℕ). inWord (getD words (at + q) 0) r) (digits-div p h) (digits-mod p h)
+
+place-below : (a : ℕ) → a < 512 → a / 64 < 8
+place-below a h = omega (arith, div-add-mod' a 64)
+
+bit-below : (a : ℕ) → a % 64 < 64
+bit-below a = mod-lt a (let p : 0 < 64 = omega arith in p)
+
+-- of eight words each of which has the bits of two others
+pub in-both-words : (rows words₀ words : List ℕ) (at : ℕ) → Kept rows at words₀ words → (a : ℕ) → a < 512
+    → inWords words 0 a ≡ inWords rows at a && inWords words₀ 0 a
+unfolding inWords
+in-both-words rows words₀ words at kept a h =
+    let q = a / 64 in
+    ap (λ (p : ℕ). inWord (getD words p 0) (a % 64)) (zero-add q)
+    ∙ ap (λ (w : ℕ). inWord w (a % 64)) (kept q (place-below a h))
+    ∙ in-both (getD rows (at + q) 0) (getD words₀ q 0) (a % 64)
+    ∙ ap (λ (p : ℕ). inWord (getD rows (at + q) 0) (a % 64) && inWord (getD words₀ p 0) (a % 64)) (sym (zero-add q))
+
+-- of eight words that are all full
+pub in-full-words : (a : ℕ) → a < 512 → inWords (replicate 8 18446744073709551615) 0 a ≡ true
+unfolding inWords
+in-full-words a h =
+    ap (λ (w : ℕ). inWord w (a % 64))
+    (ap (λ (p : ℕ). getD {A = ℕ} (replicate 8 18446744073709551615) p 0) (zero-add (a / 64))
+    ∙ getD-replicate {A = ℕ} 8 (a / 64) 18446744073709551615 0 (place-below a h))
+    ∙ in-full (a % 64) (bit-below a)
+
+-- of a row that stands as it stood
+pub in-row-before : (rows rows₀ : List ℕ) (at end : ℕ) → ((i : ℕ) → i < end → getD rows i 0 ≡ getD rows₀ i 0) → at + 8 ≤ end → (a : ℕ) → a < 512
+    → inWords rows at a ≡ inWords rows₀ at a
+unfolding inWords
+in-row-before rows rows₀ at end same l a h = ap (λ (w : ℕ). inWord w (a % 64)) (same (at + a / 64) (omega (arith, place-below a h)))
+
+-- of a row, word by word
+pub in-row : (rows : List ℕ) (at : ℕ) (f : ℕ → Bool) (actions : ℕ) → ((p k : ℕ) → k < 64 → 64 * p + k < actions → inWord (getD rows (at + p) 0) k ≡ f (64 * p + k))
+    → (a : ℕ) → a < actions → inWords rows at a ≡ f a
+unfolding inWords
+in-row rows at f actions has a h =
+    let is : 64 * (a / 64) + a % 64 ≡ a = ap (λ (x : ℕ). x + a % 64) (mul-comm 64 (a / 64)) ∙ div-add-mod' a 64 in
+    has (a / 64) (a % 64) (bit-below a) (omega (arith, is)) ∙ ap f is

@@ -27,6 +27,9 @@ pub mod Blocks
 pub mod Begun
 pub mod BitLaws
 pub mod SetLoops
+pub mod FactRowLoops
+pub mod FactRowLaws
+pub mod FactBound
 pub mod Searching
 pub mod Hand
 pub mod EntrySlices

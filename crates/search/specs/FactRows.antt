@@ -3,10 +3,11 @@ use Prim.Native.Nat.{ℕ, _+_, _*_, _≤_, _<_}
 use mathlib.Core.Path.{_≡_}
 use mathlib.Core.Bool.{Bool}
 use mathlib.Core.List.{List}
+use lib.Bits.{bitAnd}
 use lib.ListN.{length, getD}
 use Rattle.files.specs.Below.{allBelow, sumOf}
 use Rattle.search.specs.Rows.{canHave}
-use Rattle.search.specs.Sets.{inWords}
+use Rattle.search.specs.Sets.{inWord, inWords}
 
 -- the most facts of a task that is searched
 abbrev pub mostFacts : ℕ
@@ -45,3 +46,53 @@ pub record RowsFor (variables : ℕ) (sizes values rows : List ℕ) : Type 0 whe
 abbrev pub InAllRows : (variables : ℕ) (sizes values rows words : List ℕ) → Type 0
 InAllRows variables sizes values rows words =
     (a : ℕ) → a < 512 → inWords words 0 a ≡ allBelow variables (λ v. inWords rows (8 * factNumber sizes v (getD values v 0)) a)
+
+-- the cell of a variable in the row of an action
+pub record CellOf (v a : ℕ) : Type 0 where
+  pub variable : v < 64
+  pub action : a < 512
+
+-- actions for a word
+pub record WordOf (v first count : ℕ) : Type 0 where
+  pub variable : v < 64
+  pub most : count ≤ 64
+  pub inside : first + count ≤ 512
+
+-- a word has those of its actions that can lead to a fact
+abbrev pub WordHas : (conditions effects : List ℕ) (v z first count word : ℕ) → Type 0
+WordHas conditions effects v z first count word =
+    (k : ℕ) → k < count → inWord word k ≡ leadsToFact conditions effects v z (first + k)
+
+-- room for a row at a place
+pub record RoomForRow (at v actions : ℕ) (rows : List ℕ) : Type 0 where
+  pub within : at + 8 ≤ 8 * mostFacts
+  pub room : 8 * mostFacts ≤ length rows
+  pub variable : v < 64
+  pub actions-few : actions ≤ 512
+
+-- a row was written, and no word before it
+pub record RowPut (conditions effects : List ℕ) (v z actions at : ℕ) (rows₀ rows : List ℕ) : Type 0 where
+  pub has : (a : ℕ) → a < actions → inWords rows at a ≡ leadsToFact conditions effects v z a
+  pub before : (i : ℕ) → i < at → getD rows i 0 ≡ getD rows₀ i 0
+
+-- room for the rows of a variable, from that of a fact on
+pub record RoomForVariable (fact v size actions : ℕ) (rows : List ℕ) : Type 0 where
+  pub within : fact + size ≤ mostFacts
+  pub room : 8 * mostFacts ≤ length rows
+  pub variable : v < 64
+  pub actions-few : actions ≤ 512
+
+-- they were written, and no word before them
+pub record VariablePut (conditions effects : List ℕ) (v size actions fact : ℕ) (rows₀ rows : List ℕ) : Type 0 where
+  pub has : (z a : ℕ) → z < size → a < actions → inWords rows (8 * (fact + z)) a ≡ leadsToFact conditions effects v z a
+  pub before : (i : ℕ) → i < 8 * fact → getD rows i 0 ≡ getD rows₀ i 0
+
+-- a row at a place, and eight words beside
+pub record CanKeep (at : ℕ) (rows words : List ℕ) : Type 0 where
+  pub within : at + 8 ≤ 8 * mostFacts
+  pub room : 8 * mostFacts ≤ length rows
+  pub words-room : 8 ≤ length words
+
+-- the words have their bits that are in the row too
+abbrev pub Kept : (rows : List ℕ) (at : ℕ) (words₀ words : List ℕ) → Type 0
+Kept rows at words₀ words = (i : ℕ) → i < 8 → getD words i 0 ≡ bitAnd (getD rows (at + i) 0) (getD words₀ i 0)

@@ -1,8 +1,9 @@
 // Rows of actions by fact, each the bits of eight words.
 ghost use mathlib.Core.Path.{_≡_};
-ghost use Prim.Native.Nat.{ℕ, _+_, _<_};
-ghost use Rattle.search.specs.Sets.{inWord, inWords};
-ghost use Rattle.search.specs.FactRows.{leadsToFact, RowsByFact, CanFillRows, RowsFor, InAllRows};
+ghost use Rattle.files.specs.Below.{bit};
+ghost use Rattle.search.specs.Rows.{canHave};
+ghost use Rattle.search.specs.FactRows.{leadsToFact, RowsByFact, CanFillRows, RowsFor, InAllRows, CellOf, WordOf, WordHas, RoomForRow, RowPut, RoomForVariable, VariablePut, CanKeep, Kept};
+use crate::sets;
 use files::bytes;
 use files::limits;
 
@@ -27,7 +28,10 @@ fn can_have(condition: usize, effect: usize, value: usize) -> bool
 }
 
 // 1 where action `a` can lead to a state in which variable `v` has the value, else 0.
-fn leads(conditions: &[u8; 32768], effects: &[u8; 32768], v: usize, value: usize, a: usize) -> u64 {
+fn leads(conditions: &[u8; 32768], effects: &[u8; 32768], v: usize, value: usize, a: usize) -> u64
+    requires { ⌜ CellOf v a ⌝ }
+    ensures { λ r. ⌜ r ≡ bit (leadsToFact (now (conditions .entry)) (now (effects .entry)) v value a) ⌝ }
+{
     let at = 64 * a + v;
     if can_have(
         bytes::byte_at(conditions, at),
@@ -47,7 +51,10 @@ fn word(
     value: usize,
     first: usize,
     count: usize,
-) -> u64 {
+) -> u64
+    requires { ⌜ WordOf v first count ⌝ }
+    ensures { λ r. ⌜ WordHas (now (conditions .entry)) (now (effects .entry)) v value first count r ⌝ }
+{
     let mut word: u64 = 0;
     let mut left = count;
     while 0 < left {
@@ -66,17 +73,14 @@ fn put_row(
     v: usize,
     value: usize,
     actions: usize,
-) {
+)
+    requires { ⌜ RoomForRow at v actions (now rows) ⌝ }
+    ensures { λ r. ⌜ RowPut (now (conditions .entry)) (now (effects .entry)) v value actions at (now (rows .entry)) (now (rows .exit)) ⌝ }
+{
     let mut i: usize = 0;
     while 64 * i < actions {
-        rows[at + i] = word(
-            conditions,
-            effects,
-            v,
-            value,
-            64 * i,
-            at_most_64(actions - 64 * i),
-        );
+        let count = sets::lesser(actions - 64 * i, 64);
+        rows[at + i] = word(conditions, effects, v, value, 64 * i, count);
         i += 1;
     }
 }
@@ -90,7 +94,10 @@ fn put_variable(
     v: usize,
     size: usize,
     actions: usize,
-) {
+)
+    requires { ⌜ RoomForVariable fact v size actions (now rows) ⌝ }
+    ensures { λ r. ⌜ VariablePut (now (conditions .entry)) (now (effects .entry)) v size actions fact (now (rows .entry)) (now (rows .exit)) ⌝ }
+{
     let mut value: usize = 0;
     while value < size {
         put_row(
@@ -129,10 +136,13 @@ pub fn fill(
 }
 
 // Leaves in eight words the actions of the row at `at`.
-fn keep(words: &mut [u64], rows: &[u64], at: usize) {
+fn keep(words: &mut [u64], rows: &[u64], at: usize)
+    requires { ⌜ CanKeep at (now rows) (now words) ⌝ }
+    ensures { λ r. ⌜ Kept (now (rows .entry)) at (now (words .entry)) (now (words .exit)) ⌝ }
+{
     let mut i: usize = 0;
     while i < 8 {
-        words[i] = words[i] & rows[at + i];
+        words[i] = rows[at + i] & words[i];
         i += 1;
     }
 }

@@ -34,7 +34,7 @@ pub fn next_in(words: &[u64], from: usize, limit: usize) -> usize
 }
 
 // The lesser of two numbers.
-fn lesser(first: usize, second: usize) -> usize
+pub fn lesser(first: usize, second: usize) -> usize
     ensures { λ r. ⌜ LesserOf first second r ⌝ }
 {
     if first < second {

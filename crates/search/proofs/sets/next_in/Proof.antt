@@ -1,6 +1,5 @@
 -- The loop's invariant: no number from `from` on is in the set before bit `at` of the word at `place`.
 use Prim.Native.Nat.{_-_}
-use native.Mathlib.Omega.{arith}
 use Rattle.search.proofs.SetLoops.{Scanned, scan-begin, scan-next, scan-found, scan-end}
 use borrow.Author.Needs.{needs}
 use Rattle.search.proofs.sets.next_in.Statement.{statement}
