@@ -4,45 +4,32 @@ use mathlib.Core.Path.{_≡_, refl, sym, ap, ap₂, _∙_}
 use mathlib.Core.Bool.{Bool, true, false, cond, _&&_}
 use mathlib.Core.List.{List, []}
 use native.Mathlib.Omega.{arith}
-use native.Mathlib.Nat.{add-zero, mul-zero}
+use native.Mathlib.Nat.{mul-zero}
 use native.Mathlib.Numerals.{add-one}
-use lib.Dec.{eqb, ltb}
+use lib.Dec.{eqb}
 use lib.ListN.{getD}
-use borrow.Author.Tests.{eqb-true, eqb-false, eq-eqb, ne-eqb, lt-ltb, le-ltb}
-use Rattle.files.specs.Below.{allBelow, sumBelow}
+use borrow.Author.Tests.{eqb-true, eqb-false, lt-ltb, le-ltb}
+use Rattle.files.specs.Below.{sumBelow}
 use Rattle.files.specs.Dense.{rowPairs, rowAction}
 use Rattle.files.specs.Task.{Variable, Action, Task, actionOf}
-use Rattle.files.proofs.BelowLaws.{allBelow-intro, allBelow-elim}
+use Rattle.files.proofs.BelowLaws.{allBelow-elim}
 use Rattle.files.proofs.Logic.{split, split-le}
-use Rattle.files.proofs.Truth.{same-truth}
 use Rattle.marking.proofs.RoundCount.{sum-alike}
 use Rattle.plans.specs.State.{State, allHold, applicable, apply}
-use Rattle.plans.specs.Tally.{meetsCell, afterCell}
-use Rattle.plans.proofs.RowStates.{meets-none, meets-some, after-none, after-some, meetsAt, hold-below, afterRow}
+use Rattle.plans.specs.Tally.{afterCell}
+use Rattle.plans.proofs.RowStates.{meets-some, after-none, after-some, meetsAt, hold-below, afterRow}
 use Rattle.search.specs.States.{stateNumber, stateAt}
 use Rattle.search.specs.Table.{nextState}
-use Rattle.search.specs.Rows.{rowVariables, rowStates, rowWeight, rowState, canHave}
+use Rattle.search.specs.Rows.{rowVariables, rowStates, rowWeight, rowState, canReach}
 use Rattle.search.specs.Sets.{inWord, inWords}
 use Rattle.search.specs.FactRows.{factNumber, leadsToFact}
 use Rattle.search.specs.Moves.{weighted, setBy, askedOf, setFreely}
 use Rattle.search.specs.ReadOff.{StepTables, Stepped, stateAfter, HereOf, freedBy, takenBy, goesBy, CanGo}
-use Rattle.search.proofs.RowNumbers.{RowSizes, RowInside, number-sum, state-alike}
+use Rattle.search.proofs.RowNumbers.{RowInside, number-sum, state-alike}
 use Rattle.search.proofs.StateLoops.{after-inside, after-number}
 use Rattle.search.proofs.OneChange.{state-inside, number-weights, weights-below}
-use Rattle.search.proofs.Predecessors.{have-effect, have-any}
-
--- a cell both as condition and as effect
-have-twice : (cell value : ℕ) → canHave cell cell value ≡ meetsCell cell value
-have-twice cell value =
-    split (eqb cell 255)
-    (λ e. let is : cell ≡ 255 = eqb-true cell 255 e in sym (have-any cell cell value is is) ∙ meets-none cell value is)
-    (λ e. let d : cell ≡ 255 → ⊥ = eqb-false cell 255 e in sym (have-effect cell cell value d) ∙ meets-some cell value d)
-
-all-alike : (n : ℕ) (f g : ℕ → Bool) → ((i : ℕ) → i < n → f i ≡ g i) → allBelow n f ≡ allBelow n g
-all-alike n f g h =
-    same-truth (allBelow n f) (allBelow n g)
-    (λ e. allBelow-intro n g (λ i l. sym (h i l) ∙ allBelow-elim n f e i l))
-    (λ e. allBelow-intro n f (λ i l. h i l ∙ allBelow-elim n g e i l))
+use Rattle.search.proofs.Predecessors.{reachAt}
+use Rattle.search.proofs.FactRowLaws.{all-same, reach-holds}
 
 -- what the variables in the set of a word add
 pub freed-next : (here : List ℕ) (word v x sum : ℕ) → inWord word v ≡ true → x ≡ getD here (8 + v) 0 → sum ≡ freedBy here word v → sum + x ≡ freedBy here word (v + 1)
@@ -108,12 +95,12 @@ module _ (n actions : ℕ) (sizes costs conditions effects rows moves : List ℕ
   after = afterRow effects (64 * a) state
 
   applies : inWords here 0 a ≡ allHold (rowPairs conditions (64 * a) 0 n) state
-  unfolding leadsToFact
+  unfolding canReach leadsToFact
   applies =
       known .applicable-are a (omega (arith, tables .asked .actions-few))
-      ∙ all-alike n (λ v. inWords rows (8 * factNumber sizes v (state v)) a) (meetsAt conditions (64 * a) state)
-      (λ v h. tables .rows-are v (state v) a h (state-inside sizes n (tables .asked .size-least) s v h) inside ∙ have-twice (getD conditions (64 * a + v) 0) (state v))
-      ∙ sym (hold-below conditions (64 * a) state n)
+      ∙ all-same n (λ v. inWords rows (8 * factNumber sizes v (state v)) a) (reachAt conditions conditions (64 * a) state)
+      (λ v h. tables .rows-are v (state v) a h (state-inside sizes n (tables .asked .size-least) s v h) inside)
+      ∙ reach-holds conditions (64 * a) n state
 
   -- the variables that it sets freely
   abbrev free-word : ℕ

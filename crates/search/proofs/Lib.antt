@@ -37,6 +37,7 @@ pub mod Spelled
 pub mod TableFilling
 pub mod MoveLoops
 pub mod Going
+pub mod HereLoops
 pub mod Leading
 pub mod Stepping
 pub mod Answers
