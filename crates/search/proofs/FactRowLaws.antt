@@ -20,7 +20,7 @@ use Rattle.search.specs.FactRows.{leadsToFact, factNumber, RowsByFact, I
 use Rattle.search.proofs.Predecessors.{reachAt}
 
 -- tests that agree below the bound
-all-same : (n : ℕ) (f g : ℕ → Bool) → ((i : ℕ) → i < n → f i ≡ g i) → allBelow n f ≡ allBelow n g
+pub all-same : (n : ℕ) (f g : ℕ → Bool) → ((i : ℕ) → i < n → f i ≡ g i) → allBelow n f ≡ allBelow n g
 all-same zero f g h = refl
 all-same (suc n) f g h = ap₂ _&&_ (h n (omega arith)) (all-same n f g (λ i l. h i (omega arith)))
 

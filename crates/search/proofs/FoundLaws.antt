@@ -31,9 +31,10 @@ use Rattle.search.specs.declared.stages.Searched.{Searched}
 use Rattle.search.specs.States.{stateCount}
 use Rattle.search.specs.Table.{distances, tableOf}
 use Rattle.search.specs.FirstPlan.{startNumber, firstPlan, foundPlan}
+use Rattle.search.specs.ReadOff.{StepTables}
 use Rattle.search.specs.Planner.{statesFit, planFits, searchBuffers, searchStages}
 use Rattle.search.specs.Found.{foundStates, notFound, foundWhole, Searches, unsearched, SearchedIn, SearchedFiles}
-use Rattle.search.proofs.HeldStates.{held-variables, held-actions, searchable}
+use Rattle.search.proofs.HeldStates.{held-variables, held-actions}
 use Rattle.search.proofs.Radix.{start-below}
 use Rattle.search.proofs.ReadOff.{steps-length}
 use Rattle.search.proofs.LeastPlans.{stepsRead, first-plan-some, search-least}
@@ -129,8 +130,8 @@ plan-made t plan original e = rw e refl
 
 -- the search of the task that arrays hold: refused, and done
 pub searched-refused : (t : Task) (room named place : ℕ) (o : Outcome) → o ≡ statesFit t room → (o .number ≡ 0 → ⊥) → (r : Searched) → r ≡ unsearched o
-    → (entries : List Entry) (sizes costs conditions effects : List ℕ) → SearchedIn t room named place r entries sizes costs conditions effects
-searched-refused t room named place o e d r q entries sizes costs conditions effects =
+    → (entries : List Entry) (sizes costs rows moves : List ℕ) → SearchedIn t room named place r entries sizes costs rows moves
+searched-refused t room named place o e d r q entries sizes costs rows moves =
     let is : r .outcome ≡ o = ap (λ (x : Searched). x .outcome) q in
     let not-done : r .outcome .number ≡ 0 → ⊥ = λ z. d (ap (λ (x : Outcome). x .number) (sym is) ∙ z) in
     record {
@@ -143,9 +144,10 @@ searched-refused t room named place o e d r q entries sizes costs conditions eff
 
 pub searched-done : (d : Arrays) (room named place : ℕ) → acceptedTask (held d) ≡ true → stateCount (held d .variables) ≤ 4096 → done ≡ statesFit (held d) room
     → (o : Outcome) → o ≡ done → (states start : ℕ) → states ≡ stateCount (held d .variables) → start ≡ startNumber (held d) → (entries : List Entry) → entries ≡ tableOf (held d)
+    → (rows moves : List ℕ) → StepTables (d .variables) (d .actions) (d .sizes) (d .costs) (d .conditions) (d .effects) rows moves
     → SearchedIn (held d) room named place (record { outcome = o; states = states; start = start; variables = d .variables; actions = d .actions; named = named; place = place })
-    entries (d .sizes) (d .costs) (d .conditions) (d .effects)
-searched-done d room named place accepted few fit o q states start n s entries table =
+    entries (d .sizes) (d .costs) rows moves
+searched-done d room named place accepted few fit o q states start n s entries table rows moves tables =
     record {
       outcome = q ∙ fit;
       refused = λ k. absurd (k (ap (λ (x : Outcome). x .number) q));
@@ -158,11 +160,13 @@ searched-done d room named place accepted few fit o q states start n s entries t
             stepped =
                 record {
                   starts = d .starts;
+                  conditions = d .conditions;
+                  effects = d .effects;
+                  tables = tables;
                   variables-are = held-variables d;
                   count = sym (actions-held d);
                   actions-are = λ a h. held-actions d a (omega (arith, actions-held d));
                 };
-            asked = searchable d accepted few;
             table = table;
           };
       named-is = λ z. refl;
@@ -180,18 +184,18 @@ part-octets n buffer octets i =
     (λ h. omega (arith, getD-take n buffer i 0 h, octets i))
 
 -- the same of the reduced file
-module _ (first : Reduced) (reduced origin : List ℕ) (room : ℕ) (r : Searched) (entries : List Entry) (sizes costs conditions effects : List ℕ) where
-  pub searched-not : (first .outcome .number ≡ 0 → ⊥) → r ≡ unsearched (first .outcome) → SearchedFiles first reduced origin room r entries sizes costs conditions effects
+module _ (first : Reduced) (reduced origin : List ℕ) (room : ℕ) (r : Searched) (entries : List Entry) (sizes costs rows moves : List ℕ) where
+  pub searched-not : (first .outcome .number ≡ 0 → ⊥) → r ≡ unsearched (first .outcome) → SearchedFiles first reduced origin room r entries sizes costs rows moves
   searched-not d q = record { refused = λ n. q; searched-in = λ z. absurd (d z); place-few = omega (arith, ap (λ (x : Searched). x .place) q) }
 
   pub searched-files : first .outcome .number ≡ 0 → (h : Task) → h ≡ taskOf (take (first .reduced) reduced) → (place : ℕ) → place ≡ originActionsPlace (take (first .origin) origin) → place < 8589934592
-      → SearchedIn h room (first .origin) place r entries sizes costs conditions effects → SearchedFiles first reduced origin room r entries sizes costs conditions effects
+      → SearchedIn h room (first .origin) place r entries sizes costs rows moves → SearchedFiles first reduced origin room r entries sizes costs rows moves
   searched-files z h is place p few k =
       record {
         refused = λ d. absurd (d z);
         searched-in = λ _.
-            subst (λ (x : Task). SearchedIn x room (first .origin) (originActionsPlace (take (first .origin) origin)) r entries sizes costs conditions effects) is
-            (subst (λ (n : ℕ). SearchedIn h room (first .origin) n r entries sizes costs conditions effects) p k);
+            subst (λ (x : Task). SearchedIn x room (first .origin) (originActionsPlace (take (first .origin) origin)) r entries sizes costs rows moves) is
+            (subst (λ (n : ℕ). SearchedIn h room (first .origin) n r entries sizes costs rows moves) p k);
         place-few =
             split (isDone (r .outcome))
             (λ y. omega (arith, k .place-is (done-number (r .outcome) y)))

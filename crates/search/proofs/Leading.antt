@@ -1,6 +1,6 @@
--- Where an action leads from a state, as the code finds it, and the first action by which a state has its entry.
+-- The first action by which a state has its entry, as the code finds it.
 use Prim.Native.Nat.{ℕ, _+_, _*_, _-_, _≤_, _<_}
-use mathlib.Core.Path.{_≡_, refl, sym, ap, _∙_}
+use mathlib.Core.Path.{_≡_, refl, sym, ap, subst, _∙_}
 use mathlib.Core.Bool.{Bool, true, false, not, _&&_}
 use mathlib.Core.List.{List, []}
 use mathlib.Core.Option.{none, some}
@@ -8,76 +8,28 @@ use native.Mathlib.Omega.{arith}
 use lib.Dec.{ltb}
 use lib.ListN.{getD}
 use borrow.Author.Tests.{ltb-true, ltb-false, lt-ltb, le-ltb, not-true}
-use Rattle.files.specs.Dense.{rowPairs, rowAction}
-use Rattle.files.specs.Task.{Variable, Action, Task, actionOf, actionCount}
+use Rattle.files.specs.Dense.{rowAction}
+use Rattle.files.specs.Task.{Action, Task, actionOf, actionCount}
 use Rattle.files.proofs.Logic.{clash, split, split-le, and-split, and-join}
-use Rattle.plans.specs.State.{State, allHold, applicable, apply}
-use Rattle.plans.specs.Tally.{listState}
-use Rattle.search.specs.States.{stateNumber, stateAt}
+use Rattle.plans.specs.State.{applicable}
+use Rattle.search.specs.States.{stateAt}
 use Rattle.search.specs.Table.{Distance, same, nextState, through, distances, entryOf}
 use Rattle.search.specs.FirstPlan.{firstAction}
 use Rattle.search.specs.declared.Entry.{Entry}
-use Rattle.search.specs.Entries.{isNone, entryTotal, sameEntry, afterStep}
-use Rattle.search.specs.Rows.{rowVariables, rowStates, NumberAfter}
+use Rattle.search.specs.Entries.{isNone, entryTotal, sameEntry, afterStep, Low}
+use Rattle.search.specs.Rows.{rowStates}
+use Rattle.search.specs.Sets.{inWords}
 use Rattle.search.specs.declared.first_plan.Step.{Step}
 use Rattle.search.specs.declared.stages.Searched.{Searched}
-use Rattle.search.specs.ReadOff.{Stepped, stateAfter, GoesTo, CanStepFrom, StepFrom, hasBy, CanCompare, HasBy, LooksOn, CanLead, Leads, FirstLed}
-use Rattle.search.proofs.Radix.{state-in}
-use Rattle.search.proofs.RowNumbers.{RowSizes, row-sizes, inside-row}
+use Rattle.search.specs.ReadOff.{stateAfter, goesBy, CanStepFrom, StepFrom, hasBy, CanCompare, HasBy, LooksOn, CanLead, Leads, FirstLed}
+use Rattle.search.proofs.Going.{goes-below, applies-is, goes-is}
 use Rattle.search.proofs.DistanceLaws.{some-none}
 use Rattle.search.proofs.Distances.{through-applicable, through-not}
 use Rattle.search.proofs.EntryLaws.{low-near, some-distance, not-same, same-step, step-other, far-not-same}
 use Rattle.search.proofs.ReadOff.{tight, first-tight}
 
--- the values of a state are in the domains
-pub values-inside : (variables : ℕ) (sizes values : List ℕ) (s : ℕ) → RowSizes variables sizes
-    → ((starts : List ℕ) → listState values ≡ stateAt (rowVariables variables sizes starts) s) → (v : ℕ) → v < variables → getD values v 0 < getD sizes v 0
-unfolding listState
-values-inside variables sizes values s least state v h =
-    let here : getD values v 0 ≡ stateAt (rowVariables variables sizes []) s v = ap (λ (f : State). f v) (state []) in
-    omega (arith, here, inside-row sizes [] variables (stateAt (rowVariables variables sizes []) s) (state-in (rowVariables variables sizes []) s (row-sizes sizes [] variables least)) v h)
-
--- the state that an action leads to, in a state with its values
-module _ (variables s a : ℕ) (sizes conditions effects values : List ℕ) (state : (starts : List ℕ) → listState values ≡ stateAt (rowVariables variables sizes starts) s)
-    (b : Bool) (is : b ≡ allHold (rowPairs conditions (64 * a) 0 variables) (listState values)) where
-  module _ (t : Task) (actions : ℕ) (costs : List ℕ) (stepped : Stepped t variables actions sizes costs conditions effects) (h : a < actions) where
-    here-state : stateAt (t .variables) s ≡ listState values
-    here-state = ap (λ (vs : List Variable). stateAt vs s) (stepped .variables-are) ∙ sym (state (stepped .starts))
-
-    applies-is : applicable (actionOf t a) (stateAt (t .variables) s) ≡ b
-    unfolding applicable rowAction
-    applies-is =
-        ap (λ (x : Action). applicable x (stateAt (t .variables) s)) (stepped .actions-are a h)
-        ∙ ap (applicable (rowAction variables costs conditions effects a)) here-state
-        ∙ sym is
-
-    next-is : (next : ℕ) → NumberAfter variables (64 * a) sizes effects values next → nextState t a s ≡ next
-    unfolding nextState rowAction
-    next-is next found =
-        ap (λ (f : State). stateNumber (t .variables) (apply (actionOf t a) f)) here-state
-        ∙ ap (λ (vs : List Variable). stateNumber vs (apply (actionOf t a) (listState values))) (stepped .variables-are)
-        ∙ sym (found .is (stepped .starts) (actionOf t a) (ap (λ (x : Action). x .effects) (stepped .actions-are a h)))
-
-    after-yes : (next : ℕ) → b ≡ true → NumberAfter variables (64 * a) sizes effects values next → next ≡ stateAfter t s a
-    unfolding stateAfter
-    after-yes next e found = sym (next-is next found) ∙ sym (rw (applies-is, e) refl)
-
-    after-no : b ≡ false → s ≡ stateAfter t s a
-    unfolding stateAfter
-    after-no e = sym (rw (applies-is, e) refl)
-
-  -- an action that is passed over
-  pub passed-over : b ≡ false → (t : Task) (actions : ℕ) (costs : List ℕ) → Stepped t variables actions sizes costs conditions effects → a < actions → applicable (actionOf t a) (stateAt (t .variables) s) ≡ false
-  passed-over e t actions costs stepped h = applies-is t actions costs stepped h ∙ e
-
-  pub goes-on : b ≡ true → (next : ℕ) → NumberAfter variables (64 * a) sizes effects values next → GoesTo variables s a sizes conditions effects next
-  goes-on e next found = record { below = found .below; is = λ t actions costs stepped h. after-yes t actions costs stepped h next e found }
-
-  pub goes-nowhere : b ≡ false → s < rowStates variables sizes → GoesTo variables s a sizes conditions effects s
-  goes-nowhere e below = record { below = below; is = λ t actions costs stepped h. after-no t actions costs stepped h e }
-
 -- whether a state has its entry by way of an action, as the code finds it
-module _ (t : Task) (look : ℕ → Entry) (searched : Searched) (s : ℕ) (sizes costs conditions effects : List ℕ) (k : Leads t look searched s sizes costs conditions effects) where
+module _ (t : Task) (look : ℕ → Entry) (searched : Searched) (s : ℕ) (here costs moves : List ℕ) (k : Leads t look searched s here costs moves) where
   own-distance : getD (distances t) s none ≡ some (entryTotal (look s))
   own-distance = some-distance (look s) (getD (distances t) s none) (k .entries-are s (k .below)) (k .own-near)
 
@@ -88,12 +40,20 @@ module _ (t : Task) (look : ℕ → Entry) (searched : Searched) (s : ℕ) (size
       (not-same (through t (distances t) s a) (getD (distances t) s none)
       (λ z. some-none (entryTotal (look s)) (sym own-distance ∙ sym z ∙ through-not t (distances t) s a e)))
 
-  module _ (a : ℕ) (h : a < searched .actions) (n : ℕ) (goes : GoesTo (searched .variables) s a sizes conditions effects n) where
+  -- one that the words pass over
+  passed-over : (a : ℕ) → a < searched .actions → inWords here 0 a ≡ false → tight t (distances t) s a ≡ false
+  passed-over a h e = not-tight a (applies-is t (searched .variables) (searched .actions) (k .sizes) costs (k .rows) moves (k .stepped) s here (k .here-of) (k .below) a h ∙ e)
+
+  module _ (a : ℕ) (h : a < searched .actions) (n : ℕ) (goes : n ≡ goesBy here moves s a) where
     abbrev next : Entry
     next = look n
 
     after-is : n ≡ stateAfter t s a
-    after-is = goes .is t (searched .actions) costs (k .stepped) h
+    after-is = goes ∙ goes-is t (searched .variables) (searched .actions) (k .sizes) costs (k .rows) moves (k .stepped) s here (k .here-of) (k .below) a h
+
+    below-is : n < rowStates (searched .variables) (k .sizes)
+    below-is =
+        omega (arith, goes, goes-below (searched .variables) (searched .actions) (k .sizes) costs (k .stepped .conditions) (k .stepped .effects) (k .rows) moves (k .stepped .tables) s here (k .here-of) (k .below) a h)
 
     has-not : applicable (actionOf t a) (stateAt (t .variables) s) ≡ false → hasBy (actionOf t a) next (look s) ≡ tight t (distances t) s a
     unfolding hasBy stateAfter
@@ -109,7 +69,7 @@ module _ (t : Task) (look : ℕ → Entry) (searched : Searched) (s : ℕ) (size
       there-state = after-is ∙ rw e refl
 
       there : next ≡ entryOf (getD (distances t) (nextState t a s) none)
-      there = k .entries-are n (goes .below) ∙ ap (λ (m : ℕ). entryOf (getD (distances t) m none)) there-state
+      there = k .entries-are n below-is ∙ ap (λ (m : ℕ). entryOf (getD (distances t) m none)) there-state
 
       -- it leads to where the goal is not reached, or to where it is
       has-far : isNone next ≡ true → hasBy (actionOf t a) next (look s) ≡ tight t (distances t) s a
@@ -145,36 +105,36 @@ module _ (t : Task) (look : ℕ → Entry) (searched : Searched) (s : ℕ) (size
       (λ q. clash (f .passes) (before (firstAction t (distances t) s 0 (actionCount t)) q))
 
 -- the actions before this step's were looked at in vain
-pub record Led (look : ℕ → Entry) (searched : Searched) (s : ℕ) (values sizes costs conditions effects : List ℕ) (step : Step) : Type 0 where
+pub record Led (look : ℕ → Entry) (searched : Searched) (s : ℕ) (here costs moves : List ℕ) (step : Step) : Type 0 where
   pub below : step .action .0 < searched .actions
-  pub goes : GoesTo (searched .variables) s (step .action .0) sizes conditions effects (step .next)
-  pub before : (t : Task) → Leads t look searched s sizes costs conditions effects → (b : ℕ) → b < step .action .0 → tight t (distances t) s b ≡ false
+  pub goes : step .next ≡ goesBy here moves s (step .action .0)
+  pub before : (t : Task) → Leads t look searched s here costs moves → (b : ℕ) → b < step .action .0 → tight t (distances t) s b ≡ false
 
-module _ (look : ℕ → Entry) (searched : Searched) (s : ℕ) (values sizes costs conditions effects : List ℕ) (asked : CanLead look searched s values sizes costs conditions effects) where
-  from : (a : ℕ) → a < searched .actions → CanStepFrom searched a s values sizes conditions effects
-  from a h = record { costs = costs; asked = asked .asked; below = asked .below; values-are = asked .values-are; more = h }
+module _ (look : ℕ → Entry) (searched : Searched) (s : ℕ) (here costs moves : List ℕ) (asked : CanLead look searched s here costs moves) where
+  from : (a : ℕ) → a < searched .actions → CanStepFrom searched a s here moves
+  from a h = record { actions-few = asked .actions-few; goes = asked .goes; more = h }
 
-  pub can-begin : CanStepFrom searched 0 s values sizes conditions effects
+  pub can-begin : CanStepFrom searched 0 s here moves
   can-begin = from 0 (asked .more)
 
-  pub led-first : (step : Step) → StepFrom searched 0 s sizes conditions effects step → Led look searched s values sizes costs conditions effects step
+  pub led-first : (step : Step) → StepFrom searched 0 s here moves step → Led look searched s here costs moves step
   led-first step f =
       record {
         below = f .below;
         goes = f .goes;
-        before = λ t k b h. not-tight t look searched s sizes costs conditions effects k b (f .skipped t costs (k .stepped) b (omega arith) h);
+        before = λ t k b h. passed-over t look searched s here costs moves k b (omega (arith, f .below)) (f .skipped b (omega arith) h);
       }
 
-  module _ (step : Step) (led : Led look searched s values sizes costs conditions effects step) where
+  module _ (step : Step) (led : Led look searched s here costs moves step) where
     pub led-compare : CanCompare (step .action .0) (look (step .next)) costs
     led-compare =
         record {
-          few = omega (arith, led .below, asked .asked .actions-few);
-          low = asked .low (step .next) (led .goes .below);
-          cost-most = asked .asked .cost-most (step .action .0) (led .below);
+          few = omega (arith, led .below, asked .actions-few);
+          low = subst (λ (n : ℕ). isNone (look n) ≡ false → Low (look n)) (sym (led .goes)) (asked .low (step .action .0) (led .below));
+          cost-most = asked .cost-most (step .action .0) (led .below);
         }
 
-    pub led-fewer : (after : Step) → StepFrom searched (step .action .0 + 1) s sizes conditions effects after → searched .actions - after .action .0 < searched .actions - step .action .0
+    pub led-fewer : (after : Step) → StepFrom searched (step .action .0 + 1) s here moves after → searched .actions - after .action .0 < searched .actions - step .action .0
     led-fewer after f = omega (arith, f .first, f .below)
 
     module _ (b : Bool) (looks : LooksOn searched step (look (step .next)) costs (look s) b) where
@@ -182,29 +142,29 @@ module _ (look : ℕ → Entry) (searched : Searched) (s : ℕ) (values sizes co
       abbrev some-action : Action
       some-action = record { cost = getD costs (step .action .0) 0; conditions = []; effects = [] }
 
-      own-test : (t : Task) → Leads t look searched s sizes costs conditions effects → b ≡ ltb (step .action .0 + 1) (searched .actions) && not (tight t (distances t) s (step .action .0))
+      own-test : (t : Task) → Leads t look searched s here costs moves → b ≡ ltb (step .action .0 + 1) (searched .actions) && not (tight t (distances t) s (step .action .0))
       own-test t k =
-          looks (actionOf t (step .action .0)) (cost-is t look searched s sizes costs conditions effects k (step .action .0) (led .below))
-          ∙ ap (λ (x : Bool). ltb (step .action .0 + 1) (searched .actions) && not x) (has-is t look searched s sizes costs conditions effects k (step .action .0) (led .below) (step .next) (led .goes))
+          looks (actionOf t (step .action .0)) (cost-is t look searched s here costs moves k (step .action .0) (led .below))
+          ∙ ap (λ (x : Bool). ltb (step .action .0 + 1) (searched .actions) && not x) (has-is t look searched s here costs moves k (step .action .0) (led .below) (step .next) (led .goes))
 
       module _ (e : b ≡ true) where
         more : step .action .0 + 1 < searched .actions
         more = ltb-true _ _ (and-split (ltb (step .action .0 + 1) (searched .actions)) _ (sym (looks some-action refl) ∙ e) .0)
 
-        pub led-more : CanStepFrom searched (step .action .0 + 1) s values sizes conditions effects
+        pub led-more : CanStepFrom searched (step .action .0 + 1) s here moves
         led-more = from (step .action .0 + 1) more
 
-        here-not : (t : Task) → Leads t look searched s sizes costs conditions effects → tight t (distances t) s (step .action .0) ≡ false
+        here-not : (t : Task) → Leads t look searched s here costs moves → tight t (distances t) s (step .action .0) ≡ false
         here-not t k = not-true _ (and-split (ltb (step .action .0 + 1) (searched .actions)) _ (sym (own-test t k) ∙ e) .1)
 
-        pub led-next : (after : Step) → StepFrom searched (step .action .0 + 1) s sizes conditions effects after → Led look searched s values sizes costs conditions effects after
+        pub led-next : (after : Step) → StepFrom searched (step .action .0 + 1) s here moves after → Led look searched s here costs moves after
         led-next after f =
             record {
               below = f .below;
               goes = f .goes;
               before = λ t k c h.
                   split-le (step .action .0 + 1) c
-                  (λ q. not-tight t look searched s sizes costs conditions effects k c (f .skipped t costs (k .stepped) c q h))
+                  (λ q. passed-over t look searched s here costs moves k c (omega (arith, f .below)) (f .skipped c q h))
                   (λ q.
                   split-le (step .action .0) c
                   (λ w. let here : step .action .0 ≡ c = omega arith in ap (tight t (distances t) s) (sym here) ∙ here-not t k)
@@ -213,10 +173,10 @@ module _ (look : ℕ → Entry) (searched : Searched) (s : ℕ) (values sizes co
 
       module _ (e : b ≡ false) where
         -- it is the first, or the last and none is
-        stops : (t : Task) (k : Leads t look searched s sizes costs conditions effects) → step .action .0 ≡ firstAction t (distances t) s 0 (actionCount t)
+        stops : (t : Task) (k : Leads t look searched s here costs moves) → step .action .0 ≡ firstAction t (distances t) s 0 (actionCount t)
         stops t k =
             split (tight t (distances t) s (step .action .0))
-            (λ y. first-is t look searched s sizes costs conditions effects k (step .action .0) (led .below) y (led .before t k))
+            (λ y. first-is t look searched s here costs moves k (step .action .0) (led .below) y (led .before t k))
             (λ n.
             let last : ltb (step .action .0 + 1) (searched .actions) ≡ false =
             split (ltb (step .action .0 + 1) (searched .actions)) (λ m. clash (own-test t k ∙ and-join m (ap not n)) e) (λ m. m) in
@@ -225,7 +185,7 @@ module _ (look : ℕ → Entry) (searched : Searched) (s : ℕ) (values sizes co
             (λ w. let here : k .one ≡ step .action .0 = omega (arith, k .one-below) in clash (k .one-leads) (ap (tight t (distances t) s) here ∙ n))
             (λ w. clash (k .one-leads) (led .before t k (k .one) w)))
 
-        pub led-stop : FirstLed look searched s sizes costs conditions effects step
+        pub led-stop : FirstLed look searched s here costs moves step
         led-stop = record { below = led .below; goes = led .goes; is = stops }
 
 -- whether the state has its entry by way of an action

@@ -35,6 +35,9 @@ pub mod Hand
 pub mod EntrySlices
 pub mod Spelled
 pub mod TableFilling
+pub mod MoveLoops
+pub mod Going
+pub mod HereLoops
 pub mod Leading
 pub mod Stepping
 pub mod Answers

@@ -20,7 +20,8 @@ use Rattle.plans.proofs.RowStates.{meets-none, meets-some, after-none, after-so
 use Rattle.files.proofs.Truth.{same-truth}
 use Rattle.search.specs.States.{stateNumber, stateAt}
 use Rattle.search.specs.Rows.{rowVariables, rowStates, rowState, canHave, canReach, differsOnly, leadsTo, Spanned}
-use Rattle.search.proofs.RowNumbers.{RowSizes, RowInside, weighted, number-sum, state-alike}
+use Rattle.search.specs.Moves.{weighted}
+use Rattle.search.proofs.RowNumbers.{RowSizes, RowInside, number-sum, state-alike}
 use Rattle.search.proofs.StateLoops.{after-inside}
 use Rattle.search.proofs.OneChange.{weighted-alike, state-inside, state-behind, number-weights, weights-state}
 

@@ -6,7 +6,7 @@ use native.Mathlib.Omega.{arith}
 use native.Mathlib.Nat.{add-zero, zero-add, mul-add, mul-assoc, mul-one, one-mul, mul-zero, mul-suc, mul-le-mul-left, mul-comm}
 use native.Mathlib.Numerals.{add-one}
 use lib.ListN.{length, getD}
-use Rattle.files.specs.Below.{tabulateFrom, sumBelow}
+use Rattle.files.specs.Below.{tabulateFrom}
 use Rattle.files.specs.Dense.{rowVariable}
 use Rattle.files.specs.Task.{Variable, variable}
 use Rattle.files.proofs.Logic.{split-le}
@@ -14,6 +14,7 @@ use Rattle.files.proofs.Tabulate.{tabulateFrom-length, tabulate-entry}
 use Rattle.plans.specs.State.{State}
 use Rattle.search.specs.States.{stateCount, stateNumber, stateAt}
 use Rattle.search.specs.Rows.{rowVariables, rowStates, rowWeight}
+use Rattle.search.specs.Moves.{weighted}
 use Rattle.search.proofs.Radix.{Sizes, InDomains}
 
 -- each of the first n variables has a value; each value of a state is in its domain
@@ -31,10 +32,6 @@ countFrom sizes v (suc k) = getD sizes v 0 * countFrom sizes (v + 1) k
 unfoldable pub numberFrom : List ℕ → State → ℕ → ℕ → ℕ
 numberFrom sizes s v zero = 0
 numberFrom sizes s v (suc k) = s v + getD sizes v 0 * numberFrom sizes s (v + 1) k
-
--- what the values of the first n variables add
-unfoldable pub weighted : List ℕ → State → ℕ → ℕ
-weighted sizes s n = sumBelow n (λ v. rowWeight sizes v * s v)
 
 module _ (sizes : List ℕ) where
   -- the definitions are these, whatever the start values

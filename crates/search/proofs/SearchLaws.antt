@@ -44,8 +44,8 @@ use Rattle.search.proofs.TableFilling.{filled-none}
 use Rattle.search.proofs.FoundLaws.{states-fit, search-early, search-late, search-done, no-plan, plan-short, plan-fits, read-plan, read-total, read-needed, read-length, plan-made, plan-is}
 use Rattle.search.proofs.PlanFiles.{whole, plan-none, plan-room, plan-whole, not-headed, not-signed, file-written}
 
-module _ (first : Reduced) (reduced origin : List ℕ) (table : List Entry) (searched : Searched) (es sizes costs conditions effects : List ℕ) (long : length es ≡ mostNumbers)
-    (k : SearchedFiles first reduced origin (length table) searched (entriesIn es (searched .states)) sizes costs conditions effects) where
+module _ (first : Reduced) (reduced origin : List ℕ) (table : List Entry) (searched : Searched) (es sizes costs rows moves : List ℕ) (long : length es ≡ mostNumbers)
+    (k : SearchedFiles first reduced origin (length table) searched (entriesIn es (searched .states)) sizes costs rows moves) where
   abbrev t : Task
   t = taskOf (take (first .reduced) reduced)
 
@@ -80,7 +80,7 @@ module _ (first : Reduced) (reduced origin : List ℕ) (table : List Entry) (sea
 
   -- the table is filled
   module _ (z : searched .outcome .number ≡ 0) where
-    found : TableFound t searched (entriesIn es (searched .states)) sizes costs conditions effects
+    found : TableFound t searched (entriesIn es (searched .states)) sizes costs rows moves
     found = k .searched-in (first-done z) .found z
 
     valid : Valid t
@@ -134,7 +134,7 @@ module _ (first : Reduced) (reduced origin : List ℕ) (table : List Entry) (sea
           (λ n. n) in
           omega (arith, leads-on t valid (searched .start) (entryTotal e) start-inside here-total not-goal .below, found .stepped .count)
 
-      plan-in : (steps : ℕ) → steps ≡ stepsOf e → PlanIn t look steps searched sizes costs conditions effects
+      plan-in : (steps : ℕ) → steps ≡ stepsOf e → PlanIn t look steps searched sizes costs rows moves
       plan-in steps n =
           record {
             accepted = found .accepted;
@@ -147,11 +147,13 @@ module _ (first : Reduced) (reduced origin : List ℕ) (table : List Entry) (sea
           }
 
       can-step : CanSearchFiles first reduced origin → (plan : List ℕ) (steps : ℕ) → steps ≡ stepsOf e → 0 < steps → 16 + 2 * steps ≤ length plan
-          → CanStep look plan steps searched origin sizes costs conditions effects
+          → CanStep look plan steps searched origin sizes costs rows moves
       can-step written plan steps n more room =
           let w = written (first-done z) in
           record {
-            asked = found .asked;
+            conditions = found .stepped .conditions;
+            effects = found .stepped .effects;
+            tables = found .stepped .tables;
             start-below = omega (arith, start-inside, states-are);
             low = λ s h. entry-low t look entries-are valid (found .few) s (omega (arith, states-are));
             more = some-action (omega arith);
@@ -197,7 +199,7 @@ module _ (first : Reduced) (reduced origin : List ℕ) (table : List Entry) (sea
         (λ h. short z near h (is ∙ plan-room (searched .states) e (length plan) near h))))
         (λ n. refused (λ w. clash (is-done (searched .outcome) w) n) (b .found ∙ rw n refl))
 
-    pub can-steps : length plan₁ ≡ length plan → StepsToWrite look plan₁ (begun .steps .0) searched origin sizes costs conditions effects
+    pub can-steps : length plan₁ ≡ length plan → StepsToWrite look plan₁ (begun .steps .0) searched origin sizes costs rows moves
     can-steps same more =
         cases
         (λ d q. absurd (omega (arith, ap (λ (x : Found). x .steps .0) q)))
@@ -205,7 +207,7 @@ module _ (first : Reduced) (reduced origin : List ℕ) (table : List Entry) (sea
         (λ z near h q. absurd (omega (arith, ap (λ (x : Found). x .steps .0) q)))
         (λ z near h q. let n = ap (λ (x : Found). x .steps .0) q in can-step z near written plan₁ (begun .steps .0) n more (omega arith))
 
-    module _ (plan₂ : List ℕ) (steps : StepsWritten look plan₁ (begun .steps .0) searched origin sizes costs conditions effects plan₂) (signer : ℕ) (plan₃ : List ℕ) (r : Found)
+    module _ (plan₂ : List ℕ) (steps : StepsWritten look plan₁ (begun .steps .0) searched origin sizes costs rows moves plan₂) (signer : ℕ) (plan₃ : List ℕ) (r : Found)
         (ends : Finishes signer begun plan₂ r plan₃) where
       -- a refusal leaves the plan buffer
       same-plan : (states : ℕ) (o : Outcome) → begun ≡ notFound states o → isDone o ≡ false → plan₃ ≡ plan

@@ -17,7 +17,6 @@ use Rattle.files.proofs.Valid.{Valid, task-valid}
 use Rattle.files.proofs.Writing.{placed-u16-then}
 use Rattle.plans.specs.Plan.{Total, noSteps}
 use Rattle.plans.specs.State.{allHold}
-use Rattle.plans.specs.Tally.{listState}
 use Rattle.reduction.specs.Preserved.{byOriginFile}
 use Rattle.search.specs.States.{stateCount, stateAt}
 use Rattle.search.specs.Table.{distances, nextState}
@@ -26,13 +25,14 @@ use Rattle.search.specs.declared.Entry.{Entry}
 use Rattle.search.specs.declared.first_plan.Step.{Step}
 use Rattle.search.specs.declared.stages.Searched.{Searched}
 use Rattle.search.specs.Entries.{entryTotal}
-use Rattle.search.specs.Rows.{rowVariables, rowStates, Sized}
-use Rattle.search.specs.ReadOff.{stateAfter, CanLead, Leads, FirstLed, CanPut, StepPut, CanStep, StepsToWrite, PlanIn, StepsWritten}
+use Rattle.search.specs.Rows.{rowStates}
+use Rattle.search.specs.ReadOff.{stateAfter, HereOf, CanKnow, goesBy, CanLead, Leads, FirstLed, CanPut, StepPut, CanStep, StepsToWrite, PlanIn, StepsWritten}
 use Rattle.search.proofs.Radix.{start-below}
 use Rattle.search.proofs.RowNumbers.{states-count}
 use Rattle.search.proofs.Distances.{steps-few, minutes-few}
 use Rattle.search.proofs.ReadOff.{actionFrom, LeadsOn, leads-on, steps-more, goal-no-steps, steps-length-within}
 use Rattle.search.proofs.LeastPlans.{first-plan-some}
+use Rattle.search.proofs.Going.{can-go, goes-below, goes-is}
 use Rattle.search.proofs.EntryLaws.{near-some, Within, within-near, within-low, within-total, total-is, some-distance}
 use Rattle.search.proofs.FoundLaws.{plan-is}
 
@@ -58,14 +58,14 @@ written-none origin [] buffer at e = refl
 written-none origin (x ∷ xs) buffer at e = absurd (omega (arith, e))
 
 -- i steps are written, and s is the state reached
-pub record Stepping (look : ℕ → Entry) (plan : List ℕ) (steps : ℕ) (searched : Searched) (origin sizes costs conditions effects : List ℕ) (s i : ℕ) (buffer : List ℕ) : Type 0 where
+pub record Stepping (look : ℕ → Entry) (plan : List ℕ) (steps : ℕ) (searched : Searched) (origin sizes costs rows moves : List ℕ) (s i : ℕ) (buffer : List ℕ) : Type 0 where
   pub below : 0 < steps → s < rowStates (searched .variables) sizes
   pub room : length buffer ≡ length plan
   pub none-yet : i ≡ 0 → buffer ≡ plan
-  pub writing : (t : Task) → PlanIn t look steps searched sizes costs conditions effects → Writing t (take (searched .named) origin) plan steps s i buffer
+  pub writing : (t : Task) → PlanIn t look steps searched sizes costs rows moves → Writing t (take (searched .named) origin) plan steps s i buffer
 
 -- a task whose table and arrays these are
-module _ (t : Task) (look : ℕ → Entry) (steps : ℕ) (searched : Searched) (sizes costs conditions effects : List ℕ) (k : PlanIn t look steps searched sizes costs conditions effects) where
+module _ (t : Task) (look : ℕ → Entry) (steps : ℕ) (searched : Searched) (sizes costs rows moves : List ℕ) (k : PlanIn t look steps searched sizes costs rows moves) where
   valid : Valid t
   valid = task-valid t (k .accepted)
 
@@ -114,10 +114,13 @@ module _ (t : Task) (look : ℕ → Entry) (steps : ℕ) (searched : Searched) (
         within-total (look s) (w .total) (total-is (look s) (getD (distances t) s none) (w .total) (k .entries-are s (w .inside)) (w .distance))
         (omega (arith, steps-few t valid s (w .total) (w .inside) (w .distance), k .few)) (minutes-few t valid s (w .total) (w .inside) (w .distance))
 
-    leads : Leads t look searched s sizes costs conditions effects
-    leads =
+    leads : (here : List ℕ) → HereOf (searched .variables) sizes rows s here → Leads t look searched s here costs moves
+    leads here known =
         record {
+          sizes = sizes;
+          rows = rows;
           stepped = k .stepped;
+          here-of = known;
           entries-are = λ x h. k .entries-are x (omega (arith, states-are));
           below = omega (arith, w .inside, states-are);
           own-near = near-some (look s) (within-near 0 (look s) within);
@@ -127,13 +130,17 @@ module _ (t : Task) (look : ℕ → Entry) (steps : ℕ) (searched : Searched) (
           one-leads = onward .passes;
         }
 
-    module _ (r : Step) (found : FirstLed look searched s sizes costs conditions effects r) where
+    module _ (here : List ℕ) (known : HereOf (searched .variables) sizes rows s here) (r : Step) (found : FirstLed look searched s here costs moves r) where
       from-is : r .action .0 ≡ actionFrom t s
-      from-is = found .is t leads
+      from-is = found .is t (leads here known)
 
       next-number : r .next ≡ nextState t (actionFrom t s) s
       unfolding stateAfter
-      next-number = found .goes .is t (searched .actions) costs (k .stepped) (found .below) ∙ ap (stateAfter t s) from-is ∙ rw (onward .applies) refl
+      next-number =
+          found .goes
+          ∙ goes-is t (searched .variables) (searched .actions) sizes costs rows moves (k .stepped) s here known (omega (arith, w .inside, states-are)) (r .action .0) (found .below)
+          ∙ ap (stateAfter t s) from-is
+          ∙ rw (onward .applies) refl
 
       wrote : (next : ℕ) (after : List ℕ) → next ≡ r .next → after ≡ placed buffer (4 + 2 * i) (u16Bytes (getD (originOf origin .actions) (r .action .0) 0))
           → Writing t origin plan steps next (suc i) after
@@ -166,25 +173,27 @@ module _ (t : Task) (look : ℕ → Entry) (steps : ℕ) (searched : Searched) (
       steps-length-within t valid (w .limit) s (w .total) (w .inside) (w .distance) (w .enough) ∙ omega (arith, w .left) in
       sym (written-none origin (stepsFrom t (distances t) s (w .limit)) buffer (4 + 2 * steps) none-left) ∙ w .rest
 
-module _ (look : ℕ → Entry) (plan : List ℕ) (steps : ℕ) (searched : Searched) (origin sizes costs conditions effects : List ℕ) where
-  pub steps-begin : StepsToWrite look plan steps searched origin sizes costs conditions effects
-      → Stepping look plan steps searched origin sizes costs conditions effects (searched .start) 0 plan
+module _ (look : ℕ → Entry) (plan : List ℕ) (steps : ℕ) (searched : Searched) (origin sizes costs rows moves : List ℕ) where
+  pub steps-begin : StepsToWrite look plan steps searched origin sizes costs rows moves
+      → Stepping look plan steps searched origin sizes costs rows moves (searched .start) 0 plan
   steps-begin asked =
       record {
         below = λ h. asked h .start-below;
         room = refl;
         none-yet = λ z. refl;
-        writing = λ t k. begun t look steps searched sizes costs conditions effects k (take (searched .named) origin) plan;
+        writing = λ t k. begun t look steps searched sizes costs rows moves k (take (searched .named) origin) plan;
       }
 
-  pub can-values : CanStep look plan steps searched origin sizes costs conditions effects → Sized (searched .variables) sizes
-  can-values asked = record { few = asked .asked .variables-few; least = asked .asked .size-least }
+  pub can-know : CanStep look plan steps searched origin sizes costs rows moves → CanKnow (searched .variables) sizes rows
+  can-know asked =
+      let a = asked .tables .asked in
+      record { states = record { sized = record { few = a .variables-few; least = a .size-least }; states = a .states-few }; facts = asked .tables .few }
 
   module _ (s i : ℕ) (buffer : List ℕ) where
-    pub steps-length : Stepping look plan steps searched origin sizes costs conditions effects s i buffer → length buffer ≡ length plan
+    pub steps-length : Stepping look plan steps searched origin sizes costs rows moves s i buffer → length buffer ≡ length plan
     steps-length w = w .room
 
-    pub can-put : (action : ℕ) → CanStep look plan steps searched origin sizes costs conditions effects → Stepping look plan steps searched origin sizes costs conditions effects s i buffer
+    pub can-put : (action : ℕ) → CanStep look plan steps searched origin sizes costs rows moves → Stepping look plan steps searched origin sizes costs rows moves s i buffer
         → i < steps → action < searched .actions → CanPut buffer i action searched origin
     can-put action asked w more h =
         record {
@@ -196,27 +205,37 @@ module _ (look : ℕ → Entry) (plan : List ℕ) (steps : ℕ) (searched : Sear
           inside = omega (arith, asked .numbers);
         }
 
-    module _ (asked : CanStep look plan steps searched origin sizes costs conditions effects) (w : Stepping look plan steps searched origin sizes costs conditions effects s i buffer) where
-      pub can-lead : i < steps → (values : List ℕ) → ((starts : List ℕ) → listState values ≡ stateAt (rowVariables (searched .variables) sizes starts) s)
-          → CanLead look searched s values sizes costs conditions effects
-      can-lead more values state =
-          record { asked = asked .asked; below = w .below (omega arith); values-are = state; more = asked .more; low = asked .low }
+    module _ (asked : CanStep look plan steps searched origin sizes costs rows moves) (w : Stepping look plan steps searched origin sizes costs rows moves s i buffer) where
+      module _ (more : i < steps) (here : List ℕ) (known : HereOf (searched .variables) sizes rows s here) where
+        below-now : (a : ℕ) → a < searched .actions → goesBy here moves s a < rowStates (searched .variables) sizes
+        below-now a h =
+            goes-below (searched .variables) (searched .actions) sizes costs (asked .conditions) (asked .effects) rows moves (asked .tables) s here known (w .below (omega arith)) a h
 
-      pub steps-next : i < steps → (r : Step) → FirstLed look searched s sizes costs conditions effects r → (next : ℕ) (after : List ℕ) → StepPut buffer i r searched origin next after
-          → Stepping look plan steps searched origin sizes costs conditions effects next (suc i) after
-      steps-next more r found next after put =
-          record {
-            below = λ h. omega (arith, put .next-is, found .goes .below);
-            room = ap length (put .plan-is) ∙ placed-length buffer (4 + 2 * i) _ ∙ w .room;
-            none-yet = λ z. absurd (omega (arith, z));
-            writing = λ t k.
-                wrote t look steps searched sizes costs conditions effects k (take (searched .named) origin) plan s i buffer (w .writing t k) more r found next after (put .next-is) (put .plan-is);
-          }
+        pub can-lead : CanLead look searched s here costs moves
+        can-lead =
+            record {
+              actions-few = asked .tables .asked .actions-few;
+              goes = λ a h. can-go (searched .variables) (searched .actions) sizes costs (asked .conditions) (asked .effects) rows moves (asked .tables) s here known (w .below (omega arith)) a h;
+              cost-most = asked .tables .asked .cost-most;
+              more = asked .more;
+              low = λ a h. asked .low (goesBy here moves s a) (below-now a h);
+            }
 
-  pub steps-end : (s : ℕ) (buffer : List ℕ) → Stepping look plan steps searched origin sizes costs conditions effects s steps buffer
-      → StepsWritten look plan steps searched origin sizes costs conditions effects buffer
+        pub steps-next : (r : Step) → FirstLed look searched s here costs moves r → (next : ℕ) (after : List ℕ) → StepPut buffer i r searched origin next after
+            → Stepping look plan steps searched origin sizes costs rows moves next (suc i) after
+        steps-next r found next after put =
+            record {
+              below = λ h. omega (arith, put .next-is, found .goes, below-now (r .action .0) (found .below));
+              room = ap length (put .plan-is) ∙ placed-length buffer (4 + 2 * i) _ ∙ w .room;
+              none-yet = λ z. absurd (omega (arith, z));
+              writing = λ t k.
+                  wrote t look steps searched sizes costs rows moves k (take (searched .named) origin) plan s i buffer (w .writing t k) more here known r found next after (put .next-is) (put .plan-is);
+            }
+
+  pub steps-end : (s : ℕ) (buffer : List ℕ) → Stepping look plan steps searched origin sizes costs rows moves s steps buffer
+      → StepsWritten look plan steps searched origin sizes costs rows moves buffer
   steps-end s buffer w =
       record {
         no-steps = w .none-yet;
-        steps-of = λ t k. written t look steps searched sizes costs conditions effects k (take (searched .named) origin) plan s buffer (w .writing t k);
+        steps-of = λ t k. written t look steps searched sizes costs rows moves k (take (searched .named) origin) plan s buffer (w .writing t k);
       }

@@ -7,6 +7,7 @@ use mathlib.Core.Option.{Option·map}
 use lib.ListN.{length, take}
 use Rattle.files.specs.declared.Outcome.{Outcome}
 use Rattle.files.specs.Accepted.{acceptedTask}
+use Rattle.files.specs.Dense.{Arrays, held}
 use Rattle.files.specs.Bytes.{placed, u16Bytes, u32Bytes}
 use Rattle.files.specs.Outcome.{done, refusal, isDone, fits}
 use Rattle.files.specs.OriginFile.{originOf, originActionsPlace}
@@ -22,7 +23,8 @@ use Rattle.reduction.specs.declared.Reduced.{Reduced}
 use Rattle.search.specs.States.{stateCount}
 use Rattle.search.specs.Table.{stepsOf, tableOf}
 use Rattle.search.specs.Entries.{isNone, Holds}
-use Rattle.search.specs.Rows.{Searchable}
+use Rattle.search.specs.FactRows.{mostFacts}
+use Rattle.search.specs.Moves.{mostMoves}
 use Rattle.search.specs.FirstPlan.{startNumber, firstPlan, foundPlan}
 use Rattle.search.specs.ReadOff.{Stepped}
 use Rattle.search.specs.Planner.{statesFit, SearchBuffers, searchStages, unplanned, lent, Plans}
@@ -76,33 +78,39 @@ pub record CanSearchIn (given : Type 0) (entries : List ℕ) : Type 0 where
   pub source : given
   pub room : Holds entries 4096
 
+-- arrays of an accepted task, and room for every entry, row and move
+pub record CanSearchArrays (d : Arrays) (entries rows moves : List ℕ) : Type 0 where
+  pub accepted : acceptedTask (held d) ≡ true
+  pub entries-room : Holds entries 4096
+  pub rows-room : 8 * mostFacts ≤ length rows
+  pub moves-room : mostMoves ≤ length moves
+
 -- no search, or one that is refused
 abbrev pub unsearched : Outcome → Searched
 unsearched o = record { outcome = o; states = 0; start = 0; variables = 0; actions = 0; named = 0; place = 0 }
 
 -- the table of a task, and its steps in arrays
-pub record TableFound (t : Task) (searched : Searched) (entries : List Entry) (sizes costs conditions effects : List ℕ) : Type 0 where
+pub record TableFound (t : Task) (searched : Searched) (entries : List Entry) (sizes costs rows moves : List ℕ) : Type 0 where
   pub accepted : acceptedTask t ≡ true
   pub few : stateCount (t .variables) ≤ 4096
   pub states : searched .states ≡ stateCount (t .variables)
   pub start : searched .start ≡ startNumber t
-  pub stepped : Stepped t (searched .variables) (searched .actions) sizes costs conditions effects
-  pub asked : Searchable (searched .variables) (searched .actions) sizes costs conditions effects
+  pub stepped : Stepped t (searched .variables) (searched .actions) sizes costs rows moves
   pub table : entries ≡ tableOf t
 
 -- the search of the task that arrays hold, for a table of `room` entries
-pub record SearchedIn (t : Task) (room named place : ℕ) (searched : Searched) (entries : List Entry) (sizes costs conditions effects : List ℕ) : Type 0 where
+pub record SearchedIn (t : Task) (room named place : ℕ) (searched : Searched) (entries : List Entry) (sizes costs rows moves : List ℕ) : Type 0 where
   pub outcome : searched .outcome ≡ statesFit t room
   pub refused : (searched .outcome .number ≡ 0 → ⊥) → searched ≡ unsearched (searched .outcome)
-  pub found : searched .outcome .number ≡ 0 → TableFound t searched entries sizes costs conditions effects
+  pub found : searched .outcome .number ≡ 0 → TableFound t searched entries sizes costs rows moves
   pub named-is : searched .outcome .number ≡ 0 → searched .named ≡ named
   pub place-is : searched .outcome .number ≡ 0 → searched .place ≡ place
 
 -- the same of the reduced file, with the place of the actions' numbers in the origin file
-pub record SearchedFiles (first : Reduced) (reduced origin : List ℕ) (room : ℕ) (searched : Searched) (entries : List Entry) (sizes costs conditions effects : List ℕ) : Type 0 where
+pub record SearchedFiles (first : Reduced) (reduced origin : List ℕ) (room : ℕ) (searched : Searched) (entries : List Entry) (sizes costs rows moves : List ℕ) : Type 0 where
   pub refused : (first .outcome .number ≡ 0 → ⊥) → searched ≡ unsearched (first .outcome)
   pub searched-in : first .outcome .number ≡ 0
-      → SearchedIn (taskOf (take (first .reduced) reduced)) room (first .origin) (originActionsPlace (take (first .origin) origin)) searched entries sizes costs conditions effects
+      → SearchedIn (taskOf (take (first .reduced) reduced)) room (first .origin) (originActionsPlace (take (first .origin) origin)) searched entries sizes costs rows moves
   pub place-few : searched .place < 8589934592
 
 -- where the table is filled, by the entry of the start state: no plan, no room for it, or its file's length, its cost and its steps

@@ -48,3 +48,21 @@ pub record CanMove (variables actions : ℕ) (weights moves : List ℕ) : Type 0
   pub actions-few : actions ≤ 512
   pub weights-few : (v : ℕ) → v < variables → getD weights v 0 ≤ 4096
   pub room : mostMoves ≤ length moves
+
+-- a step at `base`, and small weights; what its effects add, and what their conditions take away
+pub record CanSum (variables base : ℕ) (weights : List ℕ) : Type 0 where
+  pub variables-few : variables ≤ 64
+  pub base-few : base ≤ 32704
+  pub weights-few : (v : ℕ) → v < variables → getD weights v 0 ≤ 4096
+
+pub record SumsOf (variables base : ℕ) (sizes conditions effects : List ℕ) (set asked : ℕ) : Type 0 where
+  pub set-is : set ≡ weighted sizes (setBy effects base) variables
+  pub asked-is : asked ≡ weighted sizes (askedOf conditions effects base) variables
+
+-- a step at `base`, and the variables that it sets without a condition
+pub record CanMark (variables base : ℕ) : Type 0 where
+  pub variables-few : variables ≤ 64
+  pub base-few : base ≤ 32704
+
+abbrev pub FreeWord : (variables base : ℕ) (conditions effects : List ℕ) (word : ℕ) → Type 0
+FreeWord variables base conditions effects word = (v : ℕ) → inWord word v ≡ ltb v variables && setFreely conditions effects base v

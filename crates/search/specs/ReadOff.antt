@@ -1,5 +1,5 @@
 -- The plan read off a table, wherever its entries stand: where each action leads from a state, the first action by which a state has its entry, and the steps written.
-use Prim.Native.Nat.{ℕ, _+_, _*_, _≤_, _<_}
+use Prim.Native.Nat.{ℕ, _+_, _-_, _*_, _≤_, _<_}
 use mathlib.Core.Path.{_≡_}
 use mathlib.Core.Bool.{Bool, true, false, not, cond, _&&_}
 use mathlib.Core.List.{List}
@@ -7,26 +7,39 @@ use mathlib.Core.Option.{none}
 use lib.Dec.{ltb}
 use lib.ListN.{length, getD, take}
 use Rattle.files.specs.Accepted.{acceptedTask}
+use Rattle.files.specs.Below.{allBelow, sumBelow}
 use Rattle.files.specs.Bytes.{placed, u16Bytes}
-use Rattle.files.specs.Dense.{rowPairs, rowAction}
+use Rattle.files.specs.Dense.{rowAction}
 use Rattle.files.specs.OriginFile.{originOf, originActionsPlace}
 use Rattle.files.specs.Records.{numberBytes}
 use Rattle.files.specs.Task.{Action, Task, actionCount, actionOf}
-use Rattle.plans.specs.State.{allHold, applicable}
-use Rattle.plans.specs.Tally.{listState}
+use Rattle.plans.specs.State.{applicable}
 use Rattle.reduction.specs.Preserved.{byOriginFile}
 use Rattle.search.specs.States.{stateCount, stateAt}
 use Rattle.search.specs.Table.{stepsOf, entryOf, same, through, nextState, distances}
 use Rattle.search.specs.FirstPlan.{firstAction, startNumber, foundPlan}
 use Rattle.search.specs.Entries.{isNone, sameEntry, afterStep, Low}
-use Rattle.search.specs.Rows.{rowVariables, rowStates, Searchable}
+use Rattle.search.specs.Rows.{rowVariables, rowStates, rowWeight, rowState, FewStates, Searchable}
+use Rattle.search.specs.Sets.{inWord, inWords}
+use Rattle.search.specs.FactRows.{factNumber, FewFacts, RowsByFact}
+use Rattle.search.specs.Moves.{MovesOf}
 use Rattle.search.specs.declared.Entry.{Entry}
 use Rattle.search.specs.declared.first_plan.Step.{Step}
 use Rattle.search.specs.declared.stages.Searched.{Searched}
 
--- arrays hold the variables and actions of a task
-pub record Stepped (t : Task) (variables actions : ℕ) (sizes costs conditions effects : List ℕ) : Type 0 where
+-- the tables from which a plan is read off are those of arrays
+pub record StepTables (variables actions : ℕ) (sizes costs conditions effects rows moves : List ℕ) : Type 0 where
+  pub asked : Searchable variables actions sizes costs conditions effects
+  pub few : FewFacts variables sizes rows
+  pub rows-are : RowsByFact variables actions sizes conditions conditions rows
+  pub moves-are : MovesOf variables actions sizes conditions effects moves
+
+-- they hold the variables and actions of a task
+pub record Stepped (t : Task) (variables actions : ℕ) (sizes costs rows moves : List ℕ) : Type 0 where
   pub starts : List ℕ
+  pub conditions : List ℕ
+  pub effects : List ℕ
+  pub tables : StepTables variables actions sizes costs conditions effects rows moves
   pub variables-are : t .variables ≡ rowVariables variables sizes starts
   pub count : actions ≡ actionCount t
   pub actions-are : (a : ℕ) → a < actions → actionOf t a ≡ rowAction variables costs conditions effects a
@@ -35,48 +48,51 @@ pub record Stepped (t : Task) (variables actions : ℕ) (sizes costs conditions 
 unfoldable pub stateAfter : Task → ℕ → ℕ → ℕ
 stateAfter t s a = cond (applicable (actionOf t a) (stateAt (t .variables) s)) (nextState t a s) s
 
--- a state with its values, and an action
-pub record CanGo (variables s a : ℕ) (sizes conditions effects values : List ℕ) : Type 0 where
-  pub variables-few : variables ≤ 64
+-- what is known of state s: its applicable actions, and what the value of each variable adds to its number
+pub record HereOf (variables : ℕ) (sizes rows : List ℕ) (s : ℕ) (here : List ℕ) : Type 0 where
+  pub applicable-are : (a : ℕ) → a < 512 → inWords here 0 a ≡ allBelow variables (λ v. inWords rows (8 * factNumber sizes v (rowState variables sizes s v)) a)
+  pub added : (v : ℕ) → v < variables → getD here (8 + v) 0 ≡ rowWeight sizes v * rowState variables sizes s v
+
+-- few states, and room for the rows of their facts
+pub record CanKnow (variables : ℕ) (sizes rows : List ℕ) : Type 0 where
+  pub states : FewStates variables sizes
+  pub facts : FewFacts variables sizes rows
+
+-- eight words, and a list that begins with them
+abbrev pub Begun : (words list : List ℕ) → Type 0
+Begun words list = (i : ℕ) → i < 8 → getD list i 0 ≡ getD words i 0
+
+-- what the first `count` variables add, where they are in the set of a word
+unfoldable pub freedBy : List ℕ → ℕ → ℕ → ℕ
+freedBy here word count = sumBelow count (λ v. cond (inWord word v) (getD here (8 + v) 0) 0)
+
+-- what an action takes from the number of a state in all
+unfoldable pub takenBy : List ℕ → List ℕ → ℕ → ℕ
+takenBy here moves a = getD moves (3 * a + 1) 0 + freedBy here (getD moves (3 * a + 2) 0) 64
+
+-- the number of the state that an action leads to; where it is not applicable, the number itself
+unfoldable pub goesBy : List ℕ → List ℕ → ℕ → ℕ → ℕ
+goesBy here moves s a = cond (inWords here 0 a) (s + getD moves (3 * a) 0 - takenBy here moves a) s
+
+-- numbers that fit, of which an applicable action takes no more than there is
+pub record CanGo (here moves : List ℕ) (s a : ℕ) : Type 0 where
   pub action-few : a < 512
-  pub size-least : (v : ℕ) → v < variables → 1 ≤ getD sizes v 0
-  pub effect-inside : (v : ℕ) → v < variables → (getD effects (64 * a + v) 0 ≡ 255 → ⊥) → getD effects (64 * a + v) 0 < getD sizes v 0
-  pub states-few : rowStates variables sizes ≤ 4096
-  pub below : s < rowStates variables sizes
-  pub values-are : (starts : List ℕ) → listState values ≡ stateAt (rowVariables variables sizes starts) s
+  pub state-few : s ≤ 4096
+  pub set-few : getD moves (3 * a) 0 ≤ 4096
+  pub enough : inWords here 0 a ≡ true → takenBy here moves a ≤ s + getD moves (3 * a) 0
 
--- where the action leads
-pub record GoesTo (variables s a : ℕ) (sizes conditions effects : List ℕ) (r : ℕ) : Type 0 where
-  pub below : r < rowStates variables sizes
-  pub is : (t : Task) (actions : ℕ) (costs : List ℕ) → Stepped t variables actions sizes costs conditions effects → a < actions → r ≡ stateAfter t s a
-
--- an action to begin with
-pub record CanScan (searched : Searched) (from : ℕ) : Type 0 where
-  pub variables-few : searched .variables ≤ 64
+-- a state from which every action can go, and an action to begin with
+pub record CanStepFrom (searched : Searched) (from s : ℕ) (here moves : List ℕ) : Type 0 where
   pub actions-few : searched .actions ≤ 512
-  pub more : from < searched .actions
-
--- the first action from `from` on whose conditions hold for values, or the last action of all
-pub record FirstApplicable (searched : Searched) (from : ℕ) (values conditions : List ℕ) (r : ℕ) : Type 0 where
-  pub first : from ≤ r
-  pub below : r < searched .actions
-  pub skipped : (b : ℕ) → from ≤ b → b < r → allHold (rowPairs conditions (64 * b) 0 (searched .variables)) (listState values) ≡ false
-
--- a state with its values, and an action to begin with
-pub record CanStepFrom (searched : Searched) (from s : ℕ) (values sizes conditions effects : List ℕ) : Type 0 where
-  pub costs : List ℕ
-  pub asked : Searchable (searched .variables) (searched .actions) sizes costs conditions effects
-  pub below : s < rowStates (searched .variables) sizes
-  pub values-are : (starts : List ℕ) → listState values ≡ stateAt (rowVariables (searched .variables) sizes starts) s
+  pub goes : (a : ℕ) → a < searched .actions → CanGo here moves s a
   pub more : from < searched .actions
 
 -- the step by the first applicable action from `from` on, or by the last action of all
-pub record StepFrom (searched : Searched) (from s : ℕ) (sizes conditions effects : List ℕ) (r : Step) : Type 0 where
+pub record StepFrom (searched : Searched) (from s : ℕ) (here moves : List ℕ) (r : Step) : Type 0 where
   pub first : from ≤ r .action .0
   pub below : r .action .0 < searched .actions
-  pub goes : GoesTo (searched .variables) s (r .action .0) sizes conditions effects (r .next)
-  pub skipped : (t : Task) (costs : List ℕ) → Stepped t (searched .variables) (searched .actions) sizes costs conditions effects
-      → (b : ℕ) → from ≤ b → b < r .action .0 → applicable (actionOf t b) (stateAt (t .variables) s) ≡ false
+  pub goes : r .next ≡ goesBy here moves s (r .action .0)
+  pub skipped : (b : ℕ) → from ≤ b → b < r .action .0 → inWords here 0 b ≡ false
 
 -- a state with entry `own` has it by way of an action that leads to one with entry `next`
 unfoldable pub hasBy : Action → Entry → Entry → Bool
@@ -96,17 +112,20 @@ abbrev pub LooksOn : (searched : Searched) (step : Step) (next : Entry) (costs :
 LooksOn searched step next costs own r =
     (x : Action) → x .cost ≡ getD costs (step .action .0) 0 → r ≡ ltb (step .action .0 + 1) (searched .actions) && not (hasBy x next own)
 
--- a state with its values, and entries
-pub record CanLead (look : ℕ → Entry) (searched : Searched) (s : ℕ) (values sizes costs conditions effects : List ℕ) : Type 0 where
-  pub asked : Searchable (searched .variables) (searched .actions) sizes costs conditions effects
-  pub below : s < rowStates (searched .variables) sizes
-  pub values-are : (starts : List ℕ) → listState values ≡ stateAt (rowVariables (searched .variables) sizes starts) s
+-- a state from which every action can go, and entries
+pub record CanLead (look : ℕ → Entry) (searched : Searched) (s : ℕ) (here costs moves : List ℕ) : Type 0 where
+  pub actions-few : searched .actions ≤ 512
+  pub goes : (a : ℕ) → a < searched .actions → CanGo here moves s a
+  pub cost-most : (a : ℕ) → a < searched .actions → getD costs a 0 ≤ 1000000
   pub more : 0 < searched .actions
-  pub low : (x : ℕ) → x < rowStates (searched .variables) sizes → isNone (look x) ≡ false → Low (look x)
+  pub low : (a : ℕ) → a < searched .actions → isNone (look (goesBy here moves s a)) ≡ false → Low (look (goesBy here moves s a))
 
 -- they are those of a task's states, and the state has its entry by way of one of the actions
-pub record Leads (t : Task) (look : ℕ → Entry) (searched : Searched) (s : ℕ) (sizes costs conditions effects : List ℕ) : Type 0 where
-  pub stepped : Stepped t (searched .variables) (searched .actions) sizes costs conditions effects
+pub record Leads (t : Task) (look : ℕ → Entry) (searched : Searched) (s : ℕ) (here costs moves : List ℕ) : Type 0 where
+  pub sizes : List ℕ
+  pub rows : List ℕ
+  pub stepped : Stepped t (searched .variables) (searched .actions) sizes costs rows moves
+  pub here-of : HereOf (searched .variables) sizes rows s here
   pub entries-are : (x : ℕ) → x < rowStates (searched .variables) sizes → look x ≡ entryOf (getD (distances t) x none)
   pub below : s < rowStates (searched .variables) sizes
   pub own-near : isNone (look s) ≡ false
@@ -116,10 +135,10 @@ pub record Leads (t : Task) (look : ℕ → Entry) (searched : Searched) (s : �
   pub one-leads : same (through t (distances t) s one) (getD (distances t) s none) ≡ true
 
 -- the step by the first action by which a state has its entry
-pub record FirstLed (look : ℕ → Entry) (searched : Searched) (s : ℕ) (sizes costs conditions effects : List ℕ) (r : Step) : Type 0 where
+pub record FirstLed (look : ℕ → Entry) (searched : Searched) (s : ℕ) (here costs moves : List ℕ) (r : Step) : Type 0 where
   pub below : r .action .0 < searched .actions
-  pub goes : GoesTo (searched .variables) s (r .action .0) sizes conditions effects (r .next)
-  pub is : (t : Task) → Leads t look searched s sizes costs conditions effects → r .action .0 ≡ firstAction t (distances t) s 0 (actionCount t)
+  pub goes : r .next ≡ goesBy here moves s (r .action .0)
+  pub is : (t : Task) → Leads t look searched s here costs moves → r .action .0 ≡ firstAction t (distances t) s 0 (actionCount t)
 
 -- room for step i, and a number for the action
 pub record CanPut (plan : List ℕ) (i action : ℕ) (searched : Searched) (origin : List ℕ) : Type 0 where
@@ -136,8 +155,10 @@ pub record StepPut (plan : List ℕ) (i : ℕ) (step : Step) (searched : Searche
   pub next-is : r ≡ step .next
 
 -- what the steps ask
-pub record CanStep (look : ℕ → Entry) (plan : List ℕ) (steps : ℕ) (searched : Searched) (origin sizes costs conditions effects : List ℕ) : Type 0 where
-  pub asked : Searchable (searched .variables) (searched .actions) sizes costs conditions effects
+pub record CanStep (look : ℕ → Entry) (plan : List ℕ) (steps : ℕ) (searched : Searched) (origin sizes costs rows moves : List ℕ) : Type 0 where
+  pub conditions : List ℕ
+  pub effects : List ℕ
+  pub tables : StepTables (searched .variables) (searched .actions) sizes costs conditions effects rows moves
   pub start-below : searched .start < rowStates (searched .variables) sizes
   pub low : (s : ℕ) → s < rowStates (searched .variables) sizes → isNone (look s) ≡ false → Low (look s)
   pub more : 0 < searched .actions
@@ -149,19 +170,19 @@ pub record CanStep (look : ℕ → Entry) (plan : List ℕ) (steps : ℕ) (searc
   pub numbers : searched .actions ≤ length (originOf (take (searched .named) origin) .actions)
 
 abbrev pub StepsToWrite : (ℕ → Entry) → List ℕ → ℕ → Searched → List ℕ → List ℕ → List ℕ → List ℕ → List ℕ → Type 0
-StepsToWrite look plan steps searched origin sizes costs conditions effects = 0 < steps → CanStep look plan steps searched origin sizes costs conditions effects
+StepsToWrite look plan steps searched origin sizes costs rows moves = 0 < steps → CanStep look plan steps searched origin sizes costs rows moves
 
 -- the table and the arrays are those of a task that has a plan
-pub record PlanIn (t : Task) (look : ℕ → Entry) (steps : ℕ) (searched : Searched) (sizes costs conditions effects : List ℕ) : Type 0 where
+pub record PlanIn (t : Task) (look : ℕ → Entry) (steps : ℕ) (searched : Searched) (sizes costs rows moves : List ℕ) : Type 0 where
   pub accepted : acceptedTask t ≡ true
   pub few : stateCount (t .variables) ≤ 4096
-  pub stepped : Stepped t (searched .variables) (searched .actions) sizes costs conditions effects
+  pub stepped : Stepped t (searched .variables) (searched .actions) sizes costs rows moves
   pub entries-are : (s : ℕ) → s < stateCount (t .variables) → look s ≡ entryOf (getD (distances t) s none)
   pub start-is : searched .start ≡ startNumber t
   pub reached : isNone (look (searched .start)) ≡ false
   pub steps-are : steps ≡ stepsOf (look (searched .start))
 
 -- the steps of the plan are written behind the head, by original numbers
-pub record StepsWritten (look : ℕ → Entry) (plan : List ℕ) (steps : ℕ) (searched : Searched) (origin sizes costs conditions effects now : List ℕ) : Type 0 where
+pub record StepsWritten (look : ℕ → Entry) (plan : List ℕ) (steps : ℕ) (searched : Searched) (origin sizes costs rows moves now : List ℕ) : Type 0 where
   pub no-steps : steps ≡ 0 → now ≡ plan
-  pub steps-of : (t : Task) → PlanIn t look steps searched sizes costs conditions effects → now ≡ placed plan 4 (numberBytes (byOriginFile (take (searched .named) origin) (foundPlan t)))
+  pub steps-of : (t : Task) → PlanIn t look steps searched sizes costs rows moves → now ≡ placed plan 4 (numberBytes (byOriginFile (take (searched .named) origin) (foundPlan t)))

@@ -1,11 +1,16 @@
 // The parts of reading a plan off a table that do not look at the table: where an action leads from
 // a state, whether the state has its entry by way of it, and the steps of the plan file.
-ghost use Prim.Native.Nat.{_+_};
-ghost use Rattle.search.specs.ReadOff.{CanGo, GoesTo, CanScan, CanStepFrom, FirstApplicable, StepFrom, CanCompare, HasBy, LooksOn, CanPut, StepPut};
+ghost use mathlib.Core.Path.{_≡_};
+ghost use Prim.Native.Nat.{_+_, _≤_};
+ghost use lib.ListN.{length};
+ghost use Rattle.search.specs.ReadOff.{Begun, CanKnow, HereOf, freedBy, goesBy, CanGo, CanStepFrom, StepFrom, CanCompare, HasBy, LooksOn, CanPut, StepPut};
 use crate::Entry;
 use crate::entries;
+use crate::fact_rows;
+use crate::sets;
 use crate::stages::Searched;
 use crate::states;
+use files::bytes;
 use plans::Minutes;
 use plans::ReducedAction;
 
@@ -16,46 +21,62 @@ pub struct Step {
     pub next: usize,
 }
 
-// The state that action `a` leads to, or the state itself.
-fn next_state(
-    sizes: &[u8; 64],
-    conditions: &[u8; 32768],
-    effects: &[u8; 32768],
-    variables: usize,
-    values: &[u8; 64],
-    state: usize,
-    a: usize,
-) -> usize
-    requires { ⌜ CanGo variables state a (now sizes) (now conditions) (now effects) (now values) ⌝ }
-    ensures { λ r. ⌜ GoesTo variables state a (now (sizes .entry)) (now (conditions .entry)) (now (effects .entry)) r ⌝ }
+// Writes eight words at the beginning of a list.
+fn put_words(list: &mut [u64], words: &[u64; 8])
+    requires { ⌜ 8 ≤ length (now list) ⌝ }
+    ensures { λ r. ⌜ Begun (now (words .entry)) (now (list .exit)) ⌝ }
 {
-    let base = 64 * a;
-    if states::all_hold(conditions, base, variables, values) {
-        return states::number_after(sizes, effects, base, variables, values);
+    let mut i: usize = 0;
+    while i < 8 {
+        list[i] = words[i];
+        i += 1;
     }
-    state
 }
 
-// The first applicable action from `from` on, or the last action of all.
-fn applicable_from(
-    searched: Searched,
-    from: usize,
-    values: &[u8; 64],
-    conditions: &[u8; 32768],
-) -> usize
-    requires { ⌜ CanScan searched from ⌝ }
-    ensures { λ r. ⌜ FirstApplicable searched from (now (values .entry)) (now (conditions .entry)) r ⌝ }
+// What reading off needs of a state: its applicable actions as the bits of eight words, then what
+// the value of each variable adds to its number.
+pub fn here(sizes: &[u8; 64], rows: &[u64; 1184], variables: usize, state: usize) -> [u64; 72]
+    requires { ⌜ CanKnow variables (now sizes) (now rows) ⌝ }
+    ensures { λ r. ⌜ HereOf variables (now (sizes .entry)) (now (rows .entry)) state r ⌝ }
 {
-    let variables = searched.variables;
-    let last = searched.actions - 1;
-    let mut a = from;
-    while a < last {
-        if states::all_hold(conditions, 64 * a, variables, values) {
-            return a;
-        }
-        a += 1;
+    let values = states::values_of(sizes, variables, state);
+    let words = fact_rows::in_all(rows, sizes, variables, &values);
+    let mut here = [0u64; 72];
+    put_words(&mut here, &words);
+    let mut weight: usize = 1;
+    let mut v: usize = 0;
+    while v < variables {
+        here[8 + v] = (weight * bytes::byte_at(&values, v)) as u64;
+        weight = weight * bytes::byte_at(sizes, v);
+        v += 1;
     }
-    a
+    here
+}
+
+// What the values of the variables in a word add to the number of the state.
+fn freed(here: &[u64; 72], word: u64) -> u64
+    requires { ⌜ freedBy (now here) word 64 ≤ 1000000 ⌝ }
+    ensures { λ r. ⌜ r ≡ freedBy (now (here .entry)) word 64 ⌝ }
+{
+    let mut sum: u64 = 0;
+    let mut v = sets::first_in(word, 0, 64);
+    while v < 64 {
+        sum = sum + here[8 + v];
+        v = sets::first_in(word, v + 1, 64);
+    }
+    sum
+}
+
+// The state that action `a` leads to, or the state itself where it is not applicable.
+fn next_state(here: &[u64; 72], moves: &[u64; 1536], state: usize, a: usize) -> usize
+    requires { ⌜ CanGo (now here) (now moves) state a ⌝ }
+    ensures { λ r. ⌜ r ≡ goesBy (now (here .entry)) (now (moves .entry)) state a ⌝ }
+{
+    if sets::next_in(here, a, a + 1) != a {
+        return state;
+    }
+    let number = state as u64 + moves[3 * a] - moves[3 * a + 1];
+    (number - freed(here, moves[3 * a + 2])) as usize
 }
 
 // The step by the first applicable action from `from` on, or by the last action of all.
@@ -63,19 +84,16 @@ pub fn step_from(
     searched: Searched,
     from: usize,
     state: usize,
-    values: &[u8; 64],
-    sizes: &[u8; 64],
-    conditions: &[u8; 32768],
-    effects: &[u8; 32768],
+    here: &[u64; 72],
+    moves: &[u64; 1536],
 ) -> Step
-    requires { ⌜ CanStepFrom searched from state (now values) (now sizes) (now conditions) (now effects) ⌝ }
-    ensures { λ r. ⌜ StepFrom searched from state (now (sizes .entry)) (now (conditions .entry)) (now (effects .entry)) r ⌝ }
+    requires { ⌜ CanStepFrom searched from state (now here) (now moves) ⌝ }
+    ensures { λ r. ⌜ StepFrom searched from state (now (here .entry)) (now (moves .entry)) r ⌝ }
 {
-    let variables = searched.variables;
-    let a = applicable_from(searched, from, values, conditions);
+    let a = sets::next_in(here, from, searched.actions - 1);
     Step {
         action: ReducedAction(a as u16),
-        next: next_state(sizes, conditions, effects, variables, values, state, a),
+        next: next_state(here, moves, state, a),
     }
 }
 
@@ -84,24 +102,14 @@ pub fn step_after(
     searched: Searched,
     step: Step,
     state: usize,
-    values: &[u8; 64],
-    sizes: &[u8; 64],
-    conditions: &[u8; 32768],
-    effects: &[u8; 32768],
+    here: &[u64; 72],
+    moves: &[u64; 1536],
 ) -> Step
-    requires { ⌜ CanStepFrom searched (step .action .0 + 1) state (now values) (now sizes) (now conditions) (now effects) ⌝ }
-    ensures { λ r. ⌜ StepFrom searched (step .action .0 + 1) state (now (sizes .entry)) (now (conditions .entry)) (now (effects .entry)) r ⌝ }
+    requires { ⌜ CanStepFrom searched (step .action .0 + 1) state (now here) (now moves) ⌝ }
+    ensures { λ r. ⌜ StepFrom searched (step .action .0 + 1) state (now (here .entry)) (now (moves .entry)) r ⌝ }
 {
     let action = step.action;
-    step_from(
-        searched,
-        action.0 as usize + 1,
-        state,
-        values,
-        sizes,
-        conditions,
-        effects,
-    )
+    step_from(searched, action.0 as usize + 1, state, here, moves)
 }
 
 // Whether a state has its entry by way of an action that leads to a state with entry `next`.

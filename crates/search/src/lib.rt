@@ -4,6 +4,7 @@ mod entries;
 mod fact_rows;
 mod first_plan;
 mod goal;
+mod moves;
 pub mod own_table;
 mod selection;
 mod sets;

@@ -1,15 +1,15 @@
 // The stages of the search that do not look at the table: the search itself, in numbers of its own,
 // and the plan file's head and end with the answer.
 ghost use mathlib.Core.Path.{_≡_};
-ghost use mathlib.Core.Bool.{true};
-ghost use Rattle.files.specs.Accepted.{acceptedTask};
 ghost use Rattle.files.specs.Dense.{held, arrays};
 ghost use Rattle.search.specs.Entries.{entriesIn};
 ghost use Rattle.search.specs.Planner.{unplanned};
-ghost use Rattle.search.specs.Found.{unsearched, notFound, bothTogether, CanSearchFiles, CanSearchIn, SearchedIn, SearchedFiles, Begins, CanFinish, Finishes};
+ghost use Rattle.search.specs.Found.{unsearched, notFound, bothTogether, CanSearchFiles, CanSearchIn, CanSearchArrays, SearchedIn, SearchedFiles, Begins, CanFinish, Finishes};
 use crate::Entry;
 use crate::Planned;
 use crate::entries;
+use crate::fact_rows;
+use crate::moves;
 use crate::states;
 use crate::table;
 use files::outcomes;
@@ -61,6 +61,8 @@ fn unsearched(outcome: files::Outcome) -> Searched
 // at `place`, for a table of `room` entries.
 fn search_arrays(
     entries: &mut [u64],
+    rows: &mut [u64],
+    moves: &mut [u64],
     room: usize,
     named: usize,
     place: usize,
@@ -73,8 +75,8 @@ fn search_arrays(
     conditions: &[u8; 32768],
     effects: &[u8; 32768],
 ) -> Searched
-    requires { ⌜ CanSearchIn (acceptedTask (held (arrays variables actions (now sizes) (now starts) (now goal) (now costs) (now conditions) (now effects))) ≡ true) (now entries) ⌝ }
-    ensures { λ r. ⌜ SearchedIn (held (arrays variables actions (now (sizes .entry)) (now (starts .entry)) (now (goal .entry)) (now (costs .entry)) (now (conditions .entry)) (now (effects .entry)))) room named place r (entriesIn (now (entries .exit)) (r .states)) (now (sizes .entry)) (now (costs .entry)) (now (conditions .entry)) (now (effects .entry)) ⌝ }
+    requires { ⌜ CanSearchArrays (arrays variables actions (now sizes) (now starts) (now goal) (now costs) (now conditions) (now effects)) (now entries) (now rows) (now moves) ⌝ }
+    ensures { λ r. ⌜ SearchedIn (held (arrays variables actions (now (sizes .entry)) (now (starts .entry)) (now (goal .entry)) (now (costs .entry)) (now (conditions .entry)) (now (effects .entry)))) room named place r (entriesIn (now (entries .exit)) (r .states)) (now (sizes .entry)) (now (costs .entry)) (now (rows .exit)) (now (moves .exit)) ⌝ }
 {
     let count = states::count(sizes, variables);
     if states::MOST_STATES < count {
@@ -95,6 +97,9 @@ fn search_arrays(
         conditions,
         effects,
     );
+    let weights = states::weights(sizes, variables);
+    moves::fill(moves, &weights, conditions, effects, variables, actions);
+    fact_rows::fill(rows, sizes, conditions, conditions, variables, actions);
     Searched {
         outcome: outcomes::done(),
         states: count,
@@ -106,7 +111,7 @@ fn search_arrays(
     }
 }
 
-// Searches the task of the reduced file, where there is one, and leaves its steps in arrays.
+// Searches the task of the reduced file, where there is one, and leaves its steps in tables.
 pub fn search_files(
     first: reduction::Reduced,
     reduced: &[u8],
@@ -115,11 +120,11 @@ pub fn search_files(
     entries: &mut [u64],
     sizes: &mut [u8; 64],
     costs: &mut [u32; 512],
-    conditions: &mut [u8; 32768],
-    effects: &mut [u8; 32768],
+    rows: &mut [u64; 1184],
+    moves: &mut [u64; 1536],
 ) -> Searched
     requires { ⌜ CanSearchIn (CanSearchFiles first (now reduced) (now origin)) (now entries) ⌝ }
-    ensures { λ r. ⌜ SearchedFiles first (now (reduced .entry)) (now (origin .entry)) room r (entriesIn (now (entries .exit)) (r .states)) (now (sizes .exit)) (now (costs .exit)) (now (conditions .exit)) (now (effects .exit)) ⌝ }
+    ensures { λ r. ⌜ SearchedFiles first (now (reduced .entry)) (now (origin .entry)) room r (entriesIn (now (entries .exit)) (r .states)) (now (sizes .exit)) (now (costs .exit)) (now (rows .exit)) (now (moves .exit)) ⌝ }
 {
     let outcome = first.outcome;
     if outcome.number != 0 {
@@ -130,17 +135,21 @@ pub fn search_files(
     let file = &reduced[0..written];
     let mut starts = [0u8; 64];
     let mut goal = [0u8; 64];
+    let mut conditions = [0u8; 32768];
+    let mut effects = [0u8; 32768];
     files::decode::read_task(
         file,
         sizes,
         &mut starts,
         &mut goal,
         costs,
-        conditions,
-        effects,
+        &mut conditions,
+        &mut effects,
     );
     search_arrays(
         entries,
+        rows,
+        moves,
         room,
         named,
         files::origin::actions_place(&origin[0..named]),
@@ -150,8 +159,8 @@ pub fn search_files(
         &starts,
         &goal,
         costs,
-        conditions,
-        effects,
+        &conditions,
+        &effects,
     )
 }
 

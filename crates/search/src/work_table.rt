@@ -9,12 +9,13 @@ ghost use Rattle.search.specs.Planner.{searchBuffers};
 ghost use Rattle.search.specs.Found.{CanSearchFiles, SearchesFiles};
 use crate::Entry;
 use crate::entries;
+use crate::fact_rows;
 use crate::first_plan;
 use crate::first_plan::Step;
+use crate::moves;
 use crate::stages;
 use crate::stages::Found;
 use crate::stages::Searched;
-use crate::states;
 use plans::Steps;
 
 // The entry of a state; that of none past the end of the table.
@@ -52,19 +53,17 @@ fn first_step(
     table: &[Entry],
     searched: Searched,
     state: usize,
-    values: &[u8; 64],
-    sizes: &[u8; 64],
+    here: &[u64; 72],
     costs: &[u32; 512],
-    conditions: &[u8; 32768],
-    effects: &[u8; 32768],
+    moves: &[u64; 1536],
 ) -> Step
-    requires { ⌜ CanLead (tableEntry (now table)) searched state (now values) (now sizes) (now costs) (now conditions) (now effects) ⌝ }
-    ensures { λ r. ⌜ FirstLed (tableEntry (now (table .entry))) searched state (now (sizes .entry)) (now (costs .entry)) (now (conditions .entry)) (now (effects .entry)) r ⌝ }
+    requires { ⌜ CanLead (tableEntry (now table)) searched state (now here) (now costs) (now moves) ⌝ }
+    ensures { λ r. ⌜ FirstLed (tableEntry (now (table .entry))) searched state (now (here .entry)) (now (costs .entry)) (now (moves .entry)) r ⌝ }
 {
     let own = entry_at(table, state);
-    let mut step = first_plan::step_from(searched, 0, state, values, sizes, conditions, effects);
+    let mut step = first_plan::step_from(searched, 0, state, here, moves);
     while first_plan::looks_on(searched, step, entry_at(table, step.next), costs, own) {
-        step = first_plan::step_after(searched, step, state, values, sizes, conditions, effects);
+        step = first_plan::step_after(searched, step, state, here, moves);
     }
     step
 }
@@ -78,27 +77,18 @@ fn write_steps(
     origin: &[u8],
     sizes: &[u8; 64],
     costs: &[u32; 512],
-    conditions: &[u8; 32768],
-    effects: &[u8; 32768],
+    rows: &[u64; 1184],
+    moves: &[u64; 1536],
 )
-    requires { ⌜ StepsToWrite (tableEntry (now table)) (now plan) (steps .0) searched (now origin) (now sizes) (now costs) (now conditions) (now effects) ⌝ }
-    ensures { λ r. ⌜ StepsWritten (tableEntry (now (table .entry))) (now (plan .entry)) (steps .0) searched (now (origin .entry)) (now (sizes .entry)) (now (costs .entry)) (now (conditions .entry)) (now (effects .entry)) (now (plan .exit)) ⌝ }
+    requires { ⌜ StepsToWrite (tableEntry (now table)) (now plan) (steps .0) searched (now origin) (now sizes) (now costs) (now rows) (now moves) ⌝ }
+    ensures { λ r. ⌜ StepsWritten (tableEntry (now (table .entry))) (now (plan .entry)) (steps .0) searched (now (origin .entry)) (now (sizes .entry)) (now (costs .entry)) (now (rows .entry)) (now (moves .entry)) (now (plan .exit)) ⌝ }
 {
     let count = steps.0 as usize;
     let mut state = searched.start;
     let mut i: usize = 0;
     while i < count {
-        let values = states::values_of(sizes, searched.variables, state);
-        let step = first_step(
-            table,
-            searched,
-            state,
-            &values,
-            sizes,
-            costs,
-            conditions,
-            effects,
-        );
+        let here = first_plan::here(sizes, rows, searched.variables, state);
+        let step = first_step(table, searched, state, &here, costs, moves);
         state = first_plan::put_step(plan, i, step, searched, origin);
         i += 1;
     }
@@ -119,8 +109,8 @@ pub fn search(
     let mut entries = [0u64; entries::MOST_NUMBERS];
     let mut sizes = [0u8; 64];
     let mut costs = [0u32; 512];
-    let mut conditions = [0u8; 32768];
-    let mut effects = [0u8; 32768];
+    let mut rows = [0u64; fact_rows::MOST_WORDS];
+    let mut moves = [0u64; moves::MOST_NUMBERS];
     let searched = stages::search_files(
         first,
         reduced,
@@ -129,8 +119,8 @@ pub fn search(
         &mut entries,
         &mut sizes,
         &mut costs,
-        &mut conditions,
-        &mut effects,
+        &mut rows,
+        &mut moves,
     );
     fill(table, &entries, searched.states);
     let begun = stages::begin(plan, searched, entry_at(table, searched.start));
@@ -143,8 +133,8 @@ pub fn search(
         origin,
         &sizes,
         &costs,
-        &conditions,
-        &effects,
+        &rows,
+        &moves,
     );
     stages::finish(plan, signer, begun)
 }
