@@ -27,6 +27,7 @@ pub mod Blocks
 pub mod Begun
 pub mod BitLaws
 pub mod SetLoops
+pub mod WordLoops
 pub mod FactRowLoops
 pub mod FactRowLaws
 pub mod FactBound

@@ -1,25 +1,20 @@
--- The moves of the actions: what a variable adds to the sums and to the word of a step, and three numbers more for each action.
+-- The moves of the actions: what a variable adds to the sums of a step, and three numbers more for each action.
 use Prim.Native.Nat.{ℕ, zero, suc, _+_, _-_, _*_, _/_, _%_, _^_, _≤_, _<_}
 use mathlib.Core.Path.{_≡_, refl, sym, ap, ap₂, subst, _∙_}
 use mathlib.Core.Bool.{Bool, false, not, cond, _&&_, _||_}
 use mathlib.Core.List.{List}
 use native.Mathlib.Omega.{arith}
-use native.Mathlib.Nat.{add-zero, pow-suc, zero-div}
 use native.Mathlib.Numerals.{add-one}
 use lib.Dec.{eqb, ltb}
 use lib.ListN.{length, length-set, getD, set}
-use lib.Pow.{pow-mono}
 use lib.Seq.{getD-set-same, getD-set-other}
 use borrow.Author.Tests.{eq-eqb, ne-eqb, lt-ltb, le-ltb}
 use Rattle.files.specs.Below.{bit}
-use Rattle.files.proofs.BelowLaws.{bit-most}
 use Rattle.files.proofs.Logic.{split-le, cond-case}
-use Rattle.files.proofs.Truth.{bit-marked}
 use Rattle.plans.specs.State.{State}
 use Rattle.search.specs.Rows.{rowWeight}
 use Rattle.search.specs.Sets.{inWord}
 use Rattle.search.specs.Moves.{weighted, setBy, askedOf, setFreely, mostMoves, MovesOf, WeightsOf, SumsOf, FreeWord}
-use Rattle.search.proofs.BitLaws.{in-first, in-later}
 use Rattle.search.proofs.StateLoops.{product-most}
 
 -- a cell's value, 0 without one
@@ -95,64 +90,11 @@ module _ (variables base : ℕ) (weights conditions effects : List ℕ) where
       let last : v ≡ variables = omega (arith, c .within) in
       subst (λ (n : ℕ). SumsOf n base sizes conditions effects set asked) last (c .is sizes weight)
 
--- the word of the variables from v on
-pub bit-few : (b : Bool) (x : ℕ) → x ≡ bit b → x ≤ 1
-bit-few b x e = omega (arith, bit-most b)
-
-in-none : (k : ℕ) → inWord 0 k ≡ false
-unfolding inWord
-in-none k = ap (λ (n : ℕ). eqb (n % 2) 1) (zero-div (2 ^ k))
-
-module _ (variables base : ℕ) (conditions effects : List ℕ) where
-  pub record Marking (v word : ℕ) : Type 0 where
-    pub within : v ≤ variables
-    pub small : word < 2 ^ (variables - v)
-    pub bits : (k : ℕ) → inWord word k ≡ ltb (v + k) variables && setFreely conditions effects base (v + k)
-
-  pub mark-begin : Marking variables 0
-  mark-begin =
-      let none : variables - variables ≡ 0 = omega arith in
-      record {
-        within = omega arith;
-        small = subst (λ (n : ℕ). 0 < 2 ^ n) (sym none) (omega arith);
-        bits = λ k. in-none k ∙ sym (ap (λ (b : Bool). b && setFreely conditions effects base (variables + k)) (le-ltb (variables + k) variables (omega arith)));
-      }
-
-  -- the word doubled fits
-  pub mark-fits : (v word : ℕ) → variables ≤ 64 → 0 < v → Marking v word → word < 9223372036854775808
-  mark-fits v word few h c = omega (arith, c .small, pow-mono {i = variables - v} {j = 63} (omega arith))
-
-  module _ (v word b effect condition : ℕ) (c : Marking v word) (h : 0 < v) (effect-is : effect ≡ getD effects (base + (v - 1)) 0) (condition-is : condition ≡ getD conditions (base + (v - 1)) 0)
-      (b-is : b ≡ bit (not (eqb effect 255) && eqb condition 255)) where
-    freely-at : not (eqb effect 255) && eqb condition 255 ≡ setFreely conditions effects base (v - 1)
-    unfolding setFreely
-    freely-at = ap₂ (λ (n m : ℕ). not (eqb n 255) && eqb m 255) effect-is condition-is
-
-    mark-bits : (k : ℕ) → inWord (2 * word + b) k ≡ ltb (v - 1 + k) variables && setFreely conditions effects base (v - 1 + k)
-    mark-bits zero =
-        in-first word b (bit-few (not (eqb effect 255) && eqb condition 255) b b-is)
-        ∙ ap (λ (n : ℕ). eqb n 1) b-is
-        ∙ bit-marked (not (eqb effect 255) && eqb condition 255)
-        ∙ freely-at
-        ∙ sym (ap (λ (x : Bool). x && setFreely conditions effects base (v - 1)) (lt-ltb (v - 1) variables (omega (arith, c .within))))
-        ∙ ap (λ (n : ℕ). ltb n variables && setFreely conditions effects base n) (sym (add-zero (v - 1)))
-    mark-bits (suc k) =
-        let e : v + k ≡ v - 1 + suc k = omega arith in
-        in-later word b k (bit-few (not (eqb effect 255) && eqb condition 255) b b-is) ∙ c .bits k ∙ ap (λ (n : ℕ). ltb n variables && setFreely conditions effects base n) e
-
-    pub mark-next : Marking (v - 1) (2 * word + b)
-    mark-next =
-        let one : variables - (v - 1) ≡ suc (variables - v) = omega (arith, c .within) in
-        record {
-          within = omega (arith, c .within);
-          small = subst (λ (n : ℕ). 2 * word + b < 2 ^ n) (sym one) (omega (arith, pow-suc 2 (variables - v), c .small, bit-few (not (eqb effect 255) && eqb condition 255) b b-is));
-          bits = mark-bits;
-        }
-
-  pub mark-end : (v word : ℕ) → Marking v word → v ≤ 0 → FreeWord variables base conditions effects word
-  mark-end v word c l k =
-      let e : v + k ≡ k = omega arith in
-      c .bits k ∙ ap (λ (n : ℕ). ltb n variables && setFreely conditions effects base n) e
+-- the bit of variable v
+pub freely-bit : (conditions effects : List ℕ) (base v effect condition b : ℕ) → effect ≡ getD effects (base + v) 0 → condition ≡ getD conditions (base + v) 0
+    → b ≡ bit (not (eqb effect 255) && eqb condition 255) → b ≡ bit (setFreely conditions effects base v)
+unfolding setFreely
+freely-bit conditions effects base v effect condition b e f is = is ∙ ap₂ (λ (n m : ℕ). bit (not (eqb n 255) && eqb m 255)) e f
 
 -- the moves of the actions before a
 module _ (variables : ℕ) (weights conditions effects : List ℕ) where

@@ -19,7 +19,7 @@ use Rattle.plans.specs.Tally.{meetsCell}
 use Rattle.plans.proofs.RowStates.{meets-none, meets-some, after-none, after-some, meetsAt, hold-below, apply-row, apply-behind}
 use Rattle.files.proofs.Truth.{same-truth}
 use Rattle.search.specs.States.{stateNumber, stateAt}
-use Rattle.search.specs.Rows.{rowVariables, rowStates, rowState, canHave, canReach, differsOnly, leadsTo, Spanned}
+use Rattle.search.specs.Rows.{rowVariables, rowStates, rowState, canHave, canReach, differsOnly, leadsTo}
 use Rattle.search.specs.Moves.{weighted}
 use Rattle.search.proofs.RowNumbers.{RowSizes, RowInside, number-sum, state-alike}
 use Rattle.search.proofs.StateLoops.{after-inside}
@@ -41,27 +41,6 @@ module _ (condition effect value : ℕ) where
   pub have-any : effect ≡ 255 → condition ≡ 255 → true ≡ canHave condition effect value
   have-any e d = meets-none condition value d ∙ have-left e
 
--- the values that a variable may have had
-pub any-earlier : (condition size : ℕ) → condition ≡ 255 → Spanned condition size 0 size
-any-earlier condition size e = record { order = omega arith; inside = omega arith; values = λ value h. sym (meets-none condition value e) ∙ sym (and-join (le-leb 0 value (omega arith)) (lt-ltb value size h)) }
-
-pub one-earlier : (condition size : ℕ) → (condition ≡ 255 → ⊥) → condition < size → Spanned condition size condition (condition + 1)
-one-earlier condition size d l =
-    record {
-      order = omega arith;
-      inside = omega arith;
-      values =
-          λ value h.
-          sym (meets-some condition value d)
-          ∙ same-truth (eqb condition value) (leb condition value && ltb value (condition + 1))
-          (λ e.
-          let is : condition ≡ value = eqb-true condition value e in
-          and-join (le-leb condition value (omega arith)) (lt-ltb value (condition + 1) (omega arith)))
-          (λ e.
-          let both = and-split (leb condition value) (ltb value (condition + 1)) e in
-          eq-eqb condition value (omega (arith, leb-true condition value (both .0), ltb-true value (condition + 1) (both .1))));
-    }
-
 module _ (conditions effects : List ℕ) (base : ℕ) where
   abbrev pub conditionAt : ℕ → ℕ
   conditionAt v = getD conditions (base + v) 0
@@ -72,22 +51,7 @@ module _ (conditions effects : List ℕ) (base : ℕ) where
   abbrev pub reachAt : State → ℕ → Bool
   reachAt s v = canHave (conditionAt v) (effectAt v) (s v)
 
-  -- the loop over the variables
   module _ (s : State) where
-    pub reach-next : (v : ℕ) (b : Bool) → allBelow v (reachAt s) ≡ true → b ≡ reachAt s v → b ≡ true → allBelow (v + 1) (reachAt s) ≡ true
-    reach-next v b e f t = ap (λ (k : ℕ). allBelow k (reachAt s)) (add-one v) ∙ and-join (sym f ∙ t) e
-
-    pub reach-stop : (n v : ℕ) (b : Bool) → v < n → b ≡ reachAt s v → b ≡ false → false ≡ canReach conditions effects base n s
-    unfolding canReach
-    reach-stop n v b h f t =
-        split (allBelow n (reachAt s))
-        (λ e. clash (allBelow-elim n (reachAt s) e v h) (sym f ∙ t))
-        (λ e. sym e)
-
-    pub reach-end : (n v : ℕ) → v ≤ n → n ≤ v → allBelow v (reachAt s) ≡ true → true ≡ canReach conditions effects base n s
-    unfolding canReach
-    reach-end n v a b e = let is : v ≡ n = omega arith in sym (sym (ap (λ (k : ℕ). allBelow k (reachAt s)) is) ∙ e)
-
     -- each variable of a state that can be reached
     pub reached-set : (n v : ℕ) → canReach conditions effects base n s ≡ true → v < n → (effectAt v ≡ 255 → ⊥) → effectAt v ≡ s v
     unfolding canReach

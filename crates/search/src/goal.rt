@@ -1,12 +1,12 @@
 // The states at which a goal holds.
 ghost use mathlib.Core.Path.{_≡_};
-ghost use mathlib.Core.Bool.{cond};
 ghost use mathlib.Core.List.{List};
 ghost use Prim.Native.Nat.{ℕ, _≤_};
 ghost use lib.Dec.{eqb};
 ghost use Rattle.files.specs.Below.{bit};
 ghost use Rattle.search.specs.Moves.{weighted, WeightsOf};
 ghost use Rattle.search.specs.Offers.{goalValues, GoalFree, SmallWeights};
+use crate::moves;
 use files::bytes;
 use files::limits;
 
@@ -20,16 +20,6 @@ fn asks_nothing(cell: usize) -> u64
         return 1;
     }
     0
-}
-
-// The value that a cell asks, 0 where it asks nothing.
-fn asked(cell: usize) -> usize
-    ensures { λ r. ⌜ r ≡ cond (eqb cell 255) 0 cell ⌝ }
-{
-    if cell == NO_PAIR {
-        return 0;
-    }
-    cell
 }
 
 // The set of the variables of which a goal asks nothing.
@@ -54,7 +44,7 @@ pub fn number(goal: &[u8; 64], weights: &[usize; 64], variables: usize) -> usize
     let mut number: usize = 0;
     let mut v: usize = 0;
     while v < variables {
-        number = weights[v] * asked(bytes::byte_at(goal, v)) + number;
+        number = weights[v] * moves::set_by(bytes::byte_at(goal, v)) + number;
         v += 1;
     }
     number

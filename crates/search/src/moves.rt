@@ -21,8 +21,8 @@ struct Sums {
     asked: u64,
 }
 
-// The value that an effect sets, 0 without one.
-fn set_by(effect: usize) -> usize
+// The value that a cell names, 0 where it names none.
+pub fn set_by(effect: usize) -> usize
     ensures { λ r. ⌜ r ≡ cond (eqb effect 255) 0 effect ⌝ }
 {
     if effect == NO_PAIR {

@@ -1,21 +1,24 @@
 -- The loop's invariant: the word has the variables from `v` on that are set freely.
-use mathlib.Core.Bool.{not, _&&_}
+use Prim.Native.Nat.{_-_}
+use mathlib.Core.Path.{_≡_}
 use native.Mathlib.Omega.{arith}
-use lib.Dec.{eqb}
-use Rattle.search.proofs.MoveLoops.{Marking, bit-few, mark-begin, mark-fits, mark-next, mark-end}
+use Rattle.files.specs.Below.{bit}
+use Rattle.search.specs.Moves.{setFreely}
+use Rattle.search.proofs.MoveLoops.{freely-bit}
+use Rattle.search.proofs.WordLoops.{Marking, mark-begin, mark-fits, mark-most, mark-next, mark-end}
 use denote.Ref.{now}
 use borrow.Author.Needs.{needs}
 use Rattle.search.proofs.moves.free.Statement.{statement}
 use Rattle.search.proofs.moves.free.Tie as tie
 
 abbrev Inv-loop : tie.InvT-loop
-Inv-loop conditions effects base variables word₀ v₀ word v = Marking variables base conditions effects v word
+Inv-loop conditions effects base variables word₀ v₀ word v = Marking variables (setFreely conditions effects base) v word
 
 abbrev μ-loop : tie.MeasureT-loop
 μ-loop conditions effects base variables word₀ v₀ word v = v
 
 loop-holds : tie.Need-loop-holds Inv-loop μ-loop
-loop-holds c = mark-begin _ _ _ _
+loop-holds c = mark-begin _ _
 
 sub-v : tie.Need-sub-v Inv-loop μ-loop
 sub-v c = search needs
@@ -36,30 +39,30 @@ byte-at-requires-2 : tie.Need-byte-at-requires-2 Inv-loop μ-loop
 byte-at-requires-2 c κs = search needs
 
 mul-word : tie.Need-mul-word Inv-loop μ-loop
-mul-word c =
-    let l = c .before .before .before .before .before .loop in
-    let start = c .before .before .before .before .before .before in
-    omega (arith, mark-fits _ _ (now (start .args .conditions)) (now (start .args .effects)) _ _ (start .pre .variables-few) (c .before .before .before .before .loop-test .taken) (l .inv))
+mul-word c = omega (arith, mark-fits _ _ _ _ (c .before .before .before .before .before .loop .inv) (c .before .before .before .before .loop-test .taken) (c .before .before .before .before .before .before .pre .variables-few))
 
 set-freely-requires : tie.Need-set-freely-requires Inv-loop μ-loop
 set-freely-requires c κs = search needs
+
+-- the bit of the variable
+marked : (c : tie.After-set-freely Inv-loop μ-loop)
+    → c .set-freely .result ≡ bit (setFreely (now (c .before .before .before .before .before .before .before .args .conditions)) (now (c .before .before .before .before .before .before .before .args .effects)) (c .before .before .before .before .before .before .before .args .base) (c .before .before .before .before .before .before .loop .v - 1))
+marked c = freely-bit _ _ _ _ _ _ _ (c .before .before .before .byte-at .ensures .is) (c .before .byte-at2 .ensures .is) (c .set-freely .ensures)
 
 add-word : tie.Need-add-word Inv-loop μ-loop
 add-word c =
     let l = c .before .before .before .before .before .before .loop in
     let start = c .before .before .before .before .before .before .before in
-    omega (arith, bit-few (not (eqb (c .before .before .before .byte-at .result) 255) && eqb (c .before .byte-at2 .result) 255) _ (c .set-freely .ensures), mark-fits _ _ (now (start .args .conditions)) (now (start .args .effects)) _ _ (start .pre .variables-few) (c .before .before .before .before .before .loop-test .taken) (l .inv))
+    omega (arith, mark-most _ _ _ _ (l .inv) (c .before .before .before .before .before .loop-test .taken) _ (marked c) (start .pre .variables-few))
 
 loop-less : tie.Need-loop-less Inv-loop μ-loop
 loop-less c = search needs
 
 loop-again : tie.Need-loop-again Inv-loop μ-loop
-loop-again c =
-    let l = c .before .before .before .before .before .before .loop in
-    mark-next _ _ _ _ _ _ _ _ _ (l .inv) (c .before .before .before .before .before .loop-test .taken) (c .before .before .before .byte-at .ensures .is) (c .before .byte-at2 .ensures .is) (c .set-freely .ensures)
+loop-again c = mark-next _ _ _ _ (c .before .before .before .before .before .before .loop .inv) (c .before .before .before .before .before .loop-test .taken) _ (marked c)
 
 returns : tie.Need-returns Inv-loop μ-loop
-returns c = mark-end _ _ _ _ _ _ (c .before .loop .inv) (c .loop-test .left)
+returns c = mark-end _ _ _ _ (c .before .loop .inv) (c .loop-test .left)
 
 pub free-spec : {M : Type 1} → statement M
 free-spec =
