@@ -1,26 +1,22 @@
 -- The loops over rows of actions by fact: from one turn to the next, and at the end.
-use Prim.Native.Nat.{ℕ, zero, suc, _+_, _-_, _*_, _^_, _≤_, _<_}
+use Prim.Native.Nat.{ℕ, _+_, _-_, _*_, _≤_, _<_}
 use mathlib.Core.Path.{_≡_, refl, sym, ap, ap₂, subst, _∙_}
 use mathlib.Core.Bool.{Bool, true, false, _&&_}
 use mathlib.Core.List.{List}
 use native.Mathlib.Omega.{arith}
-use native.Mathlib.Nat.{pow-suc}
 use native.Mathlib.Numerals.{add-one}
 use lib.Bits.{bitAnd}
-use lib.Dec.{eqb}
 use lib.ListN.{length, getD, set, length-set, replicate}
-use lib.Pow.{pow-pos, pow-mono}
 use lib.Seq.{getD-set-same, getD-set-other}
 use Rattle.files.specs.Below.{bit, allBelow, sumOf}
-use Rattle.files.proofs.BelowLaws.{bit-true, bit-false, bit-most}
+use Rattle.files.proofs.BelowLaws.{bit-true, bit-false}
 use Rattle.files.proofs.Filling.{filled-before, filled-after, below-next}
 use Rattle.files.proofs.Logic.{split-le}
 use Rattle.files.proofs.LoopCounts.{sum-within}
-use Rattle.files.proofs.Truth.{bit-marked}
 use Rattle.search.specs.Rows.{canHave}
 use Rattle.search.specs.Sets.{inWord, inWords, LesserOf}
 use Rattle.search.specs.FactRows.{mostFacts, leadsToFact, factNumber, RowsByFact, RowsFor, InAllRows, WordHas, RowPut, VariablePut, Kept}
-use Rattle.search.proofs.BitLaws.{in-first, in-later, in-both-words, in-full-words, in-row-before, in-row}
+use Rattle.search.proofs.BitLaws.{in-both-words, in-full-words, in-row-before, in-row}
 
 pub lesser-both : (a b r : ℕ) → LesserOf a b r → (r ≤ a) × (r ≤ b)
 lesser-both a b r l =
@@ -44,51 +40,6 @@ module _ (conditions effects : List ℕ) (v z a condition effect : ℕ) (b : Boo
 
   pub lead-none : b ≡ false → 0 ≡ bit (leadsToFact conditions effects v z a)
   lead-none t = sym (bit-false (leadsToFact conditions effects v z a) (sym lead-is ∙ t))
-
--- the actions from `left` on are in the word
-pub record Gathered (conditions effects : List ℕ) (v z first count word left : ℕ) : Type 0 where
-  pub within : left ≤ count
-  pub small : word < 2 ^ (count - left)
-  pub has : (k : ℕ) → k < count - left → inWord word k ≡ leadsToFact conditions effects v z (first + (left + k))
-
-module _ (conditions effects : List ℕ) (v z first count : ℕ) where
-  pub gather-begin : Gathered conditions effects v z first count 0 count
-  gather-begin = record { within = omega arith; small = pow-pos (count - count); has = λ k h. absurd (omega arith) }
-
-  module _ (word left : ℕ) (g : Gathered conditions effects v z first count word left) where
-    pub gather-fits : 0 < left → count ≤ 64 → word < 9223372036854775808
-    gather-fits h few =
-        let l : 2 ^ (count - left) ≤ 2 ^ 63 = pow-mono {i = count - left} {j = 63} (omega (arith, g .within)) in
-        omega (arith, g .small, l)
-
-    module _ (b : ℕ) (h : 0 < left) (is : b ≡ bit (leadsToFact conditions effects v z (first + (left - 1)))) where
-      one : b ≤ 1
-      one = omega (arith, is, bit-most (leadsToFact conditions effects v z (first + (left - 1))))
-
-      pub gather-most : count ≤ 64 → 2 * word + b < 18446744073709551616
-      gather-most few = omega (arith, gather-fits h few, one)
-
-      more : (k : ℕ) → k < count - (left - 1) → inWord (2 * word + b) k ≡ leadsToFact conditions effects v z (first + (left - 1 + k))
-      more zero l =
-          let e : left - 1 ≡ left - 1 + 0 = omega arith in
-          in-first word b one
-          ∙ ap (λ (x : ℕ). eqb x 1) is
-          ∙ bit-marked (leadsToFact conditions effects v z (first + (left - 1)))
-          ∙ ap (λ (x : ℕ). leadsToFact conditions effects v z (first + x)) e
-      more (suc k) l =
-          let e : left + k ≡ left - 1 + suc k = omega arith in
-          in-later word b k one ∙ g .has k (omega (arith, g .within)) ∙ ap (λ (x : ℕ). leadsToFact conditions effects v z (first + x)) e
-
-      pub gather-next : Gathered conditions effects v z first count (2 * word + b) (left - 1)
-      gather-next =
-          let e : count - (left - 1) ≡ suc (count - left) = omega (arith, g .within) in
-          let twice : 2 ^ (count - (left - 1)) ≡ 2 ^ (count - left) * 2 = ap (λ (x : ℕ). 2 ^ x) e ∙ pow-suc 2 (count - left) in
-          record { within = omega (arith, g .within); small = omega (arith, twice, g .small, one); has = more }
-
-    pub gather-end : left ≤ 0 → WordHas conditions effects v z first count word
-    gather-end h k l =
-        let e : left + k ≡ k = omega arith in
-        g .has k (omega arith) ∙ ap (λ (x : ℕ). leadsToFact conditions effects v z (first + x)) e
 
 -- the words of a row before that at i are written
 pub record Rowed (conditions effects : List ℕ) (v z actions at : ℕ) (rows₀ rows : List ℕ) (i : ℕ) : Type 0 where

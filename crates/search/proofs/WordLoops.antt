@@ -1,5 +1,5 @@
 -- The loop that makes a word of the numbers that pass a test, the last first.
-use Prim.Native.Nat.{ℕ, zero, suc, _+_, _-_, _*_, _/_, _%_, _^_, _≤_, _<_}
+use Prim.Native.Nat.{ℕ, zero, suc, _+_, _-_, _*_, _%_, _^_, _≤_, _<_}
 use mathlib.Core.Path.{_≡_, sym, ap, subst, _∙_}
 use mathlib.Core.Bool.{Bool, false, _&&_}
 use native.Mathlib.Omega.{arith}
@@ -69,3 +69,7 @@ module _ (limit : ℕ) (test : ℕ → Bool) where
   mark-end v word c l k =
       let e : v + k ≡ k = omega arith in
       c .bits k ∙ ap (λ (n : ℕ). ltb n limit && test n) e
+
+  -- a number below the limit is in the word where it passes the test
+  pub mark-below : (v word : ℕ) → Marking v word → v ≤ 0 → (k : ℕ) → k < limit → inWord word k ≡ test k
+  mark-below v word c l k h = mark-end v word c l k ∙ ap (λ (b : Bool). b && test k) (lt-ltb k limit h)
