@@ -37,6 +37,7 @@ pub mod EntrySlices
 pub mod Spelled
 pub mod TableFilling
 pub mod MoveLoops
+pub mod Goals
 pub mod Going
 pub mod HereLoops
 pub mod Leading
