@@ -182,6 +182,11 @@ after-total : (a : Action) (e : Entry) → entryTotal (afterStep a e) ≡ addSte
 unfolding afterStep addStep
 after-total a e = refl
 
+-- a step more on an entry that has room for it
+pub near-after : (a : Action) (e : Entry) → a .cost ≤ 1000000 → Low e → Near (afterStep a e)
+unfolding afterStep addStep entryOf
+near-after a e h low = omega (arith, h, low .minutes)
+
 after-near : (a : Action) (e : Entry) → Near (afterStep a e) → Near e
 unfolding afterStep addStep
 after-near a e h = omega (arith, h)

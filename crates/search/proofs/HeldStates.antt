@@ -62,7 +62,7 @@ module _ (d : Arrays) where
           variables-few = held-few;
           actions-few = omega (arith, held-valid .actions-few, actions-held d);
           size-least = held-sizes;
-          size-most = λ v h. omega (arith, held-valid .size-most v (omega (arith, variables-held d)), size-held d v h);
+          size-most = λ v h. omega (arith, held-valid .size-most v, size-held d v h);
           condition-inside = λ a v h l n. omega (arith, condition-valid d held-valid a v h l (ne-eqb (getD (d .conditions) (64 * a + v) 0) 255 n), size-held d v l);
           effect-inside = λ a v h l n. omega (arith, effect-valid d held-valid a v h l (ne-eqb (getD (d .effects) (64 * a + v) 0) 255 n), size-held d v l);
           cost-most = λ a h. omega (arith, held-valid .action a .cost, cost-held d a h);

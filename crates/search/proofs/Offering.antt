@@ -1,5 +1,5 @@
 -- What the steps to a settled state offer.
-use Prim.Native.Nat.{ℕ, zero, suc, _<_}
+use Prim.Native.Nat.{ℕ, zero, suc, _≤_, _<_}
 use mathlib.Core.Path.{_≡_, refl, sym, ap, subst, _∙_}
 use mathlib.Core.Bool.{true, false}
 use mathlib.Core.List.{List}
@@ -26,6 +26,16 @@ unfolding offered
 offered-same variables f g x e s y zero h = refl
 offered-same variables f g x e s y (suc count) h =
     rw (offered-same variables f g x e s y count (λ a l. h a (omega arith)), h count (omega arith)) refl
+
+-- actions that do not lead to state x offer nothing
+pub offered-skip : (variables : List Variable) (action : ℕ → Action) (x : ℕ) (e : Entry) (s : ℕ) (y : Entry) (from count : ℕ) → from ≤ count
+    → ((a : ℕ) → from ≤ a → a < count → leadsTo variables (action a) s x ≡ false) → offered variables action x e s y from ≡ offered variables action x e s y count
+unfolding offered
+offered-skip variables action x e s y from zero l h = let is : from ≡ 0 = omega arith in ap (offered variables action x e s y) is
+offered-skip variables action x e s y from (suc count) l h =
+    split-le from count
+    (λ k. offered-skip variables action x e s y from count k (λ a b c. h a b (omega arith)) ∙ rw (h count k (omega arith)) refl)
+    (λ k. let is : from ≡ suc count = omega arith in ap (offered variables action x e s y) is)
 
 -- what the offers make of an entry y of state s
 pub record Offers (variables : List Variable) (action : ℕ → Action) (x : ℕ) (e : Entry) (s : ℕ) (y z : Entry) (count : ℕ) : Type 0 where
