@@ -16,7 +16,9 @@ use Rattle.files.proofs.HeldTask.{held-action, variables-held, actions-held, si
 use Rattle.search.specs.States.{stateCount, stateNumber}
 use Rattle.search.specs.FirstPlan.{startNumber}
 use Rattle.search.specs.Rows.{rowVariables, rowStates, Searchable}
+use Rattle.search.specs.FactRows.{mostFacts, FewFacts}
 use Rattle.search.proofs.RowNumbers.{states-count}
+use Rattle.search.proofs.FactBound.{facts-few}
 
 pub number-same : (vs : List Variable) (s r : State) → ((v : ℕ) → v < length vs → s v ≡ r v) → stateNumber vs s ≡ stateNumber vs r
 unfolding stateNumber
@@ -56,11 +58,14 @@ module _ (d : Arrays) where
     pub held-few : d .variables ≤ 64
     held-few = omega (arith, held-valid .variables-few, variables-held d)
 
+    pub held-actions-few : d .actions ≤ 512
+    held-actions-few = omega (arith, held-valid .actions-few, actions-held d)
+
     pub searchable : stateCount (held d .variables) ≤ 4096 → Searchable (d .variables) (d .actions) (d .sizes) (d .costs) (d .conditions) (d .effects)
     searchable few =
         record {
           variables-few = held-few;
-          actions-few = omega (arith, held-valid .actions-few, actions-held d);
+          actions-few = held-actions-few;
           size-least = held-sizes;
           size-most = λ v h. omega (arith, held-valid .size-most v, size-held d v h);
           condition-inside = λ a v h l n. omega (arith, condition-valid d held-valid a v h l (ne-eqb (getD (d .conditions) (64 * a + v) 0) 255 n), size-held d v l);
@@ -68,3 +73,9 @@ module _ (d : Arrays) where
           cost-most = λ a h. omega (arith, held-valid .action a .cost, cost-held d a h);
           states-few = omega (arith, held-states);
         }
+
+    -- few facts
+    pub held-facts : stateCount (held d .variables) ≤ 4096 → (rows : List ℕ) → 8 * mostFacts ≤ length rows → FewFacts (d .variables) (d .sizes) rows
+    held-facts few rows room =
+        let size-most : (v : ℕ) → v < d .variables → getD (d .sizes) v 0 ≤ 32 = λ v h. omega (arith, held-valid .size-most v, size-held d v h) in
+        record { variables-few = held-few; facts-few = facts-few (d .sizes) (d .variables) held-few held-sizes size-most (omega (arith, held-states)); room = room }

@@ -14,11 +14,24 @@ use Rattle.search.specs.States.{stateAt}
 use Rattle.search.specs.Rows.{rowVariables, rowWeight, rowState}
 use Rattle.search.specs.Sets.{inWord, inWords, FirstFrom}
 use Rattle.search.specs.FactRows.{factNumber, RowsFor, InAllRows}
-use Rattle.search.specs.ReadOff.{HereOf, CanKnow, Begun, freedBy, takenBy, goesBy}
+use Rattle.search.specs.ReadOff.{HereOf, CanKnow, Begun, freedBy, takenBy, goesBy, CanGo}
 use Rattle.search.proofs.StateLoops.{weight-first, weight-next}
 use Rattle.search.proofs.OneChange.{state-inside}
 use Rattle.search.proofs.BitLaws.{in-row-before}
 use Rattle.search.proofs.Going.{freed-next, freed-skip, freed-most}
+
+module _ (n : ℕ) (sizes : List ℕ) (s : ℕ) where
+  -- a list that begins as another, and what the variables before v add
+  pub record Knowing (here₀ here : List ℕ) (weight v : ℕ) : Type 0 where
+    pub begun : Begun here₀ here
+    pub added : (w : ℕ) → w < v → getD here (8 + w) 0 ≡ rowWeight sizes w * rowState n sizes s w
+    pub weight-is : weight ≡ rowWeight sizes v
+    pub within : v ≤ n
+    pub full : length here ≡ 72
+
+  pub know-begin : (here : List ℕ) → length here ≡ 72 → Knowing here here 1 0
+  know-begin here full =
+      record { begun = λ i h. refl; added = λ w h. absurd (omega arith); weight-is = weight-first sizes; within = omega arith; full = full }
 
 -- what is known of a state
 module _ (n : ℕ) (sizes rows : List ℕ) (s : ℕ) (values : List ℕ) (state : (starts : List ℕ) → listState values ≡ stateAt (rowVariables n sizes starts) s) where
@@ -30,21 +43,9 @@ module _ (n : ℕ) (sizes rows : List ℕ) (s : ℕ) (values : List ℕ) (state 
   can-find can =
       record { few = can .facts; inside = λ v h. omega (arith, value-is v, state-inside sizes n (can .states .sized .least) s v h) }
 
-  -- the words, and what the variables before v add
-  pub record Knowing (words here : List ℕ) (weight v : ℕ) : Type 0 where
-    pub begun : Begun words here
-    pub added : (w : ℕ) → w < v → getD here (8 + w) 0 ≡ rowWeight sizes w * rowState n sizes s w
-    pub weight-is : weight ≡ rowWeight sizes v
-    pub within : v ≤ n
-    pub full : length here ≡ 72
-
-  pub know-begin : (words here : List ℕ) → Begun words here → length here ≡ 72 → Knowing words here 1 0
-  know-begin words here begun full =
-      record { begun = begun; added = λ w h. absurd (omega arith); weight-is = weight-first sizes; within = omega arith; full = full }
-
-  pub know-next : (words here : List ℕ) (weight v value size : ℕ) → Knowing words here weight v → v < n → n ≤ 64 → value ≡ getD values v 0 → size ≡ getD sizes v 0
-      → Knowing words (set here (8 + v) (weight * value)) (weight * size) (v + 1)
-  know-next words here weight v value size c h few is d =
+  pub know-next : (here₀ here : List ℕ) (weight v value size : ℕ) → Knowing n sizes s here₀ here weight v → v < n → n ≤ 64 → value ≡ getD values v 0 → size ≡ getD sizes v 0
+      → Knowing n sizes s here₀ (set here (8 + v) (weight * value)) (weight * size) (v + 1)
+  know-next here₀ here weight v value size c h few is d =
       record {
         begun = λ i l. getD-set-other here (8 + v) i (weight * value) 0 (omega arith) ∙ c .begun i l;
         added = λ w l.
@@ -59,12 +60,12 @@ module _ (n : ℕ) (sizes rows : List ℕ) (s : ℕ) (values : List ℕ) (state 
         full = length-set here (8 + v) (weight * value) ∙ c .full;
       }
 
-  pub know-end : (words here : List ℕ) (weight v : ℕ) → Knowing words here weight v → n ≤ v → InAllRows n sizes values rows words → HereOf n sizes rows s here
+  pub know-end : (words here₀ here : List ℕ) (weight v : ℕ) → Knowing n sizes s here₀ here weight v → n ≤ v → Begun words here₀ → InAllRows n sizes values rows words → HereOf n sizes rows s here
   unfolding listState rowState
-  know-end words here weight v c l all =
+  know-end words here₀ here weight v c l first all =
       record {
         applicable-are = λ a h.
-            in-row-before here words 0 8 (c .begun) (omega arith) a h
+            in-row-before here words 0 8 (λ i k. c .begun i k ∙ first i k) (omega arith) a h
             ∙ all a h
             ∙ ap (λ (f : State). allBelow n (λ u. inWords rows (8 * factNumber sizes u (f u)) a)) (state []);
         added = λ w h. c .added w (omega arith);
@@ -106,11 +107,11 @@ module _ (here moves : List ℕ) (s a r : ℕ) (f : FirstFrom (inWords here 0) (
   pub goes-applicable : r ≡ a → inWords here 0 a ≡ true
   goes-applicable e = subst (λ (b : ℕ). inWords here 0 b ≡ true) e (f .there (omega arith))
 
-  pub taken-is : (asked freed : ℕ) → asked ≡ getD moves (3 * a + 1) 0 → freed ≡ freedBy here (getD moves (3 * a + 2) 0) 64 → asked + freed ≡ takenBy here moves a
+  -- it takes no more than there is
+  pub goes-enough : CanGo here moves s a → r ≡ a → getD moves (3 * a + 1) 0 + freedBy here (getD moves (3 * a + 2) 0) 64 ≤ s + getD moves (3 * a) 0
   unfolding takenBy
-  taken-is asked freed e k = (λ i. e i + k i)
+  goes-enough can e = can .enough (goes-applicable e)
 
-  pub goes-further : r ≡ a → (asked freed : ℕ) → asked ≡ getD moves (3 * a + 1) 0 → freed ≡ freedBy here (getD moves (3 * a + 2) 0) 64
-      → s + getD moves (3 * a) 0 - asked - freed ≡ goesBy here moves s a
-  unfolding goesBy
-  goes-further e asked freed k l = let yes-here = goes-applicable e in rw yes-here (omega (arith, taken-is asked freed k l))
+  pub goes-further : r ≡ a → (freed : ℕ) → freed ≡ freedBy here (getD moves (3 * a + 2) 0) 64 → s + getD moves (3 * a) 0 - getD moves (3 * a + 1) 0 - freed ≡ goesBy here moves s a
+  unfolding goesBy takenBy
+  goes-further e freed k = let yes-here = goes-applicable e in rw yes-here (omega arith)

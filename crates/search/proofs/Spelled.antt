@@ -3,13 +3,13 @@ use mathlib.Core.Path.{_≡_, ap, subst, _∙_}
 use Prim.Native.Nat.{ℕ, zero, suc, _+_}
 use native.Mathlib.Nat.{add-zero, add-suc}
 use mathlib.Core.List.{List, [], _∷_}
-use mir.Syntax.{Ty, Lifetime, imm, mut, w8, w64, tyInt, tyRef}
+use mir.Syntax.{Ty, Lifetime, imm, mut, w64, tyInt, tyRef}
 use mir.Val.{Val}
 use denote.RattleType.{RattleType}
 use denote.Laws.{Is, Tells}
 use denote.Memory.{pointee}
 use denote.Plain.{uint-vals, uint-tells}
-use denote.Builtin.{u8, u32}
+use denote.Builtin.{u8, u32, u64}
 use denote.Array.{Array, array-vals, array-tells}
 use denote.Steps.{only}
 use denote.Struct.Laws as LL
@@ -83,24 +83,27 @@ planned-is r vs k = subst (Is P r) (P′.lowers .val-is r vs k) k
 pub entry-is : (e : Entry) (vs : List Val) → Is R e vs → Is R e (T′.lowered e ∷ [])
 entry-is e vs k = subst (Is R e) (T′.lowers .val-is e vs k) k
 
--- the sizes of variables, their values, the costs of actions, and their conditions or effects
+-- the sizes of variables, the costs of actions, their rows by fact and moves, and what is known of a state
 abbrev pub Sizes : RattleType
 Sizes = Array u8 64
-
-abbrev pub Values : RattleType
-Values = Array u8 64
 
 abbrev pub Costs : RattleType
 Costs = Array u32 512
 
 abbrev pub Rows : RattleType
-Rows = Array u8 32768
+Rows = Array u64 1184
 
-abbrev pub values-val : List ℕ → Val
-values-val xs = only (array-vals (uint-vals w8) xs)
+abbrev pub Moves : RattleType
+Moves = Array u64 1536
 
-pub values-tells : Tells Values (Is Values) (λ xs. values-val xs ∷ [])
-values-tells = array-tells u8 (uint-vals w8) (uint-tells w8) 64
+abbrev pub Here : RattleType
+Here = Array u64 72
+
+abbrev pub here-val : List ℕ → Val
+here-val xs = only (array-vals (uint-vals w64) xs)
+
+pub here-tells : Tells Here (Is Here) (λ xs. here-val xs ∷ [])
+here-tells = array-tells u64 (uint-vals w64) (uint-tells w64) 72
 
 -- the types of locals
 abbrev pub word : Ty

@@ -47,6 +47,10 @@ abbrev pub InAllRows : (variables : ℕ) (sizes values rows words : List ℕ) �
 InAllRows variables sizes values rows words =
     (a : ℕ) → a < 512 → inWords words 0 a ≡ allBelow variables (λ v. inWords rows (8 * factNumber sizes v (getD values v 0)) a)
 
+pub record EightWords (variables : ℕ) (sizes values rows words : List ℕ) : Type 0 where
+  pub all : InAllRows variables sizes values rows words
+  pub eight : length words ≡ 8
+
 -- the cell of a variable in the row of an action
 pub record CellOf (v a : ℕ) : Type 0 where
   pub variable : v < 64

@@ -2,7 +2,7 @@
 ghost use mathlib.Core.Path.{_≡_};
 ghost use Rattle.files.specs.Below.{bit};
 ghost use Rattle.search.specs.Rows.{canHave};
-ghost use Rattle.search.specs.FactRows.{leadsToFact, RowsByFact, CanFillRows, RowsFor, InAllRows, CellOf, WordOf, WordHas, RoomForRow, RowPut, RoomForVariable, VariablePut, CanKeep, Kept};
+ghost use Rattle.search.specs.FactRows.{leadsToFact, RowsByFact, CanFillRows, RowsFor, EightWords, CellOf, WordOf, WordHas, RoomForRow, RowPut, RoomForVariable, VariablePut, CanKeep, Kept};
 use crate::sets;
 use files::bytes;
 use files::limits;
@@ -150,7 +150,7 @@ fn keep(words: &mut [u64], rows: &[u64], at: usize)
 // The actions that are in the row of each value.
 pub fn in_all(rows: &[u64], sizes: &[u8; 64], variables: usize, values: &[u8; 64]) -> [u64; 8]
     requires { ⌜ RowsFor variables (now sizes) (now values) (now rows) ⌝ }
-    ensures { λ r. ⌜ InAllRows variables (now (sizes .entry)) (now (values .entry)) (now (rows .entry)) r ⌝ }
+    ensures { λ r. ⌜ EightWords variables (now (sizes .entry)) (now (values .entry)) (now (rows .entry)) r ⌝ }
 {
     let mut words = [EVERY_ACTION; 8];
     let mut fact: usize = 0;

@@ -79,7 +79,8 @@ loop-again c =
 returns : tie.Need-returns Inv-loop μ-loop
 returns c =
     let start = c .before .before .before in
-    all-end (now (start .args .sizes)) (now (start .args .values)) (now (start .args .rows)) _ _ _ (c .before .loop .inv .2) (c .loop-test .left) (c .before .loop .inv .0)
+    let inv = c .before .loop .inv in
+    record { all = all-end (now (start .args .sizes)) (now (start .args .values)) (now (start .args .rows)) _ _ _ (inv .2) (c .loop-test .left) (inv .0); eight = inv .3 }
 
 pub in-all-spec : {M : Type 1} → statement M
 in-all-spec =

@@ -1,85 +1,81 @@
+-- The loop's invariant: the words stand first, and what the variables before `v` add behind them.
+use Prim.Native.Nat.{_-_, _≤_}
+use native.Mathlib.Omega.{arith}
+use denote.Ref.{now}
+use Rattle.search.proofs.RowNumbers.{weight-most}
+use Rattle.search.proofs.StateLoops.{product-most}
+use Rattle.search.proofs.HereLoops.{Knowing, can-find, know-begin, know-next, know-end}
+use borrow.Author.Needs.{needs}
 use Rattle.search.proofs.first_plan.here.Statement.{statement}
 use Rattle.search.proofs.first_plan.here.Tie as tie
-use Rattle.search.proofs.first_plan.here.Reads as reads
-use Rattle.search.proofs.first_plan.here.Lts as lts
-use Rattle.files.proofs.bytes.byte_at.Reads as byte-at-reads
-use Rattle.search.proofs.fact_rows.in_all.Reads as in-all-reads
-use Rattle.search.proofs.first_plan.put_words.Reads as put-words-reads
-use Rattle.search.proofs.states.values_of.Reads as values-of-reads
 
 abbrev Inv-loop : tie.InvT-loop
-Inv-loop sizes rows variables state values here₀ weight₀ v₀ here weight v = ?
+Inv-loop sizes rows variables state values here₀ weight₀ v₀ here weight v = Knowing variables sizes state here₀ here weight v
 
 abbrev μ-loop : tie.MeasureT-loop
-μ-loop sizes rows variables state values here₀ weight₀ v₀ here weight v = ?
+μ-loop sizes rows variables state values here₀ weight₀ v₀ here weight v = variables - v
 
--- src/first_plan.rt:42:18
 values-of-requires : tie.Need-values-of-requires Inv-loop μ-loop
-values-of-requires c κs = ?
+values-of-requires c κs = c .pre .states .sized
 
--- src/first_plan.rt:43:17
 in-all-requires : tie.Need-in-all-requires Inv-loop μ-loop
-in-all-requires c κs = ?
+in-all-requires c κs = can-find _ _ (now (c .before .before .before .args .rows)) _ _ (c .before .before .values-of .ensures) (c .before .before .before .pre)
 
--- src/first_plan.rt:45:15
 slice-aggregate-put-words : tie.Need-slice-aggregate-put-words Inv-loop μ-loop
-slice-aggregate-put-words c = ?
+slice-aggregate-put-words c = search needs
 
--- src/first_plan.rt:45:5
 put-words-requires : tie.Need-put-words-requires Inv-loop μ-loop
-put-words-requires c κs = ?
+put-words-requires c κs = search needs
 
--- src/first_plan.rt:48:5
 loop-holds : tie.Need-loop-holds Inv-loop μ-loop
-loop-holds c = ?
+loop-holds c = know-begin _ _ _ _ (c .here2 .given)
 
--- src/first_plan.rt:49:48
 slice-aggregate-byte-at : tie.Need-slice-aggregate-byte-at Inv-loop μ-loop
-slice-aggregate-byte-at c = ?
+slice-aggregate-byte-at c = search needs
 
--- src/first_plan.rt:49:33
 byte-at-requires : tie.Need-byte-at-requires Inv-loop μ-loop
-byte-at-requires c κs = ?
+byte-at-requires c κs = search needs
 
--- src/first_plan.rt:49:24
 mul-here : tie.Need-mul-here Inv-loop μ-loop
-mul-here c = ?
+mul-here c =
+    let start = c .before .before .before .before .before .before .before .before .before .before .before .before in
+    let l = c .before .before .before .loop in
+    let few : l .weight ≤ 4096 = omega (arith, l .inv .weight-is, weight-most (now (start .args .sizes)) (l .v) (start .args .variables) (start .pre .states .sized .least) (l .inv .within), start .pre .states .states) in
+    omega (arith, product-most _ _ few (c .byte-at .ensures .below))
 
--- src/first_plan.rt:49:14
 add-here : tie.Need-add-here Inv-loop μ-loop
-add-here c = ?
+add-here c = search needs
 
--- src/first_plan.rt:49:9
 mul-here-2 : tie.Need-mul-here-2 Inv-loop μ-loop
-mul-here-2 c = ?
+mul-here-2 c = search needs
 
--- src/first_plan.rt:49:9
 array-write-here : tie.Need-array-write-here Inv-loop μ-loop
-array-write-here c = ?
+array-write-here c = omega (arith, c .before .before .before .before .before .before .before .before .before .before .before .before .pre .states .sized .few, c .before .before .loop-test .taken)
 
--- src/first_plan.rt:50:27
 byte-at-requires-2 : tie.Need-byte-at-requires-2 Inv-loop μ-loop
-byte-at-requires-2 c κs = ?
+byte-at-requires-2 c κs = search needs
 
--- src/first_plan.rt:50:18
 mul-weight : tie.Need-mul-weight Inv-loop μ-loop
-mul-weight c = ?
+mul-weight c =
+    let start = c .before .before .before .before .before .before .before .before .before .before .before .before .before .before in
+    let l = c .before .before .before .before .before .loop in
+    let few : l .weight ≤ 4096 = omega (arith, l .inv .weight-is, weight-most (now (start .args .sizes)) (l .v) (start .args .variables) (start .pre .states .sized .least) (l .inv .within), start .pre .states .states) in
+    omega (arith, product-most _ _ few (c .byte-at2 .ensures .below))
 
--- src/first_plan.rt:51:9
 add-v : tie.Need-add-v Inv-loop μ-loop
-add-v c = ?
+add-v c = search needs
 
--- src/first_plan.rt:48:5
 loop-less : tie.Need-loop-less Inv-loop μ-loop
-loop-less c = ?
+loop-less c = search needs
 
--- src/first_plan.rt:48:5
 loop-again : tie.Need-loop-again Inv-loop μ-loop
-loop-again c = ?
+loop-again c =
+    let start = c .before .before .before .before .before .before .before .before .before .before .before .before .before .before in
+    let l = c .before .before .before .before .before .loop in
+    know-next _ (now (start .args .sizes)) (now (start .args .rows)) _ _ (c .before .before .before .before .before .before .before .before .before .before .before .before .before .values-of .ensures) _ (l .here) _ _ _ _ (l .inv) (c .before .before .before .before .loop-test .taken) (start .pre .states .sized .few) (c .before .before .byte-at .ensures .is) (c .byte-at2 .ensures .is)
 
--- src/first_plan.rt:38:1
 returns : tie.Need-returns Inv-loop μ-loop
-returns c = ?
+returns c = know-end _ _ _ _ _ (c .before .before .before .before .before .before .before .before .before .values-of .ensures) _ _ _ _ _ (c .before .loop .inv) (c .loop-test .left) (c .before .before .before .put-words .ensures) (c .before .before .before .before .before .before .in-all .ensures .all)
 
 pub here-spec : {M : Type 1} → statement M
 here-spec =

@@ -4,7 +4,6 @@ use native.Mathlib.Omega.{arith}
 use lib.ListN.{set, length-set}
 use Rattle.search.proofs.MoveLoops.{Moved, moved-begin, moved-next, moved-end}
 use denote.Ref.{now}
-use borrow.Author.Needs.{needs}
 use Rattle.search.proofs.moves.fill.Statement.{statement}
 use Rattle.search.proofs.moves.fill.Tie as tie
 

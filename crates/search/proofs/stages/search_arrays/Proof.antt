@@ -1,80 +1,127 @@
+-- Too many states, no room for the table, or the table.
+use Prim.Native.Nat.{ℕ, _≤_, _<_}
+use mathlib.Core.Path.{_≡_, sym, ap, _∙_}
+use native.Mathlib.Omega.{arith}
+use denote.Ref.{now}
+use lib.ListN.{getD}
+use Rattle.files.specs.Dense.{Arrays, held, arrays}
+use Rattle.files.specs.Outcome.{refusal}
+use Rattle.files.proofs.Guards.{refusal-number}
+use Rattle.search.specs.States.{stateCount}
+use Rattle.search.specs.Rows.{FewStates}
+use Rattle.search.specs.ReadOff.{StepTables}
+use Rattle.search.proofs.RowNumbers.{weight-most}
+use Rattle.search.proofs.HeldStates.{held-states, held-sizes, held-few, held-actions-few, held-facts, searchable}
+use Rattle.search.proofs.FoundLaws.{states-many, table-short, states-fit, searched-refused, searched-done}
 use borrow.Author.Needs.{needs}
 use Rattle.search.proofs.stages.search_arrays.Statement.{statement}
 use Rattle.search.proofs.stages.search_arrays.Tie as tie
-use Rattle.search.proofs.stages.search_arrays.Reads as reads
-use Rattle.search.proofs.stages.search_arrays.Lts as lts
-use Rattle.files.proofs.outcomes.done.Reads as done-reads
-use Rattle.files.proofs.outcomes.refuse.Reads as refuse-reads
-use Rattle.search.proofs.fact_rows.fill.Reads as fact-rows-fill-reads
-use Rattle.search.proofs.moves.fill.Reads as moves-fill-reads
-use Rattle.search.proofs.stages.unsearched.Reads as unsearched-reads
-use Rattle.search.proofs.states.count.Reads as count-reads
-use Rattle.search.proofs.states.weights.Reads as weights-reads
-use Rattle.search.proofs.table.search.Reads as search-reads
 
--- src/stages.rt:81:9
+abbrev task-of : tie.Start → Arrays
+task-of s = arrays (s .args .variables) (s .args .actions) (now (s .args .sizes)) (now (s .args .starts)) (now (s .args .goal)) (now (s .args .costs)) (now (s .args .conditions)) (now (s .args .effects))
+
+abbrev to-start : tie.After-count → tie.Start
+to-start c = c .before .before .before .before
+
+states-of : (k : tie.After-count) → k .count .result ≤ 4096 → k .count .result ≡ stateCount (held (task-of (to-start k)) .variables)
+states-of k h = k .count .ensures .few h ∙ sym (held-states (task-of (to-start k)))
+
 count-requires : tie.Need-count-requires
-count-requires c κs = ?
+count-requires c κs = record { few = held-few (task-of (c .before .before .before)) (c .before .before .before .pre .accepted); least = held-sizes (task-of (c .before .before .before)) (c .before .before .before .pre .accepted) }
 
--- src/stages.rt:83:27
 refuse-requires : tie.Need-refuse-requires
 refuse-requires c κs = search needs
 
--- src/stages.rt:83:9
 unsearched-requires : tie.Need-unsearched-requires
 unsearched-requires c κs = search needs
 
--- src/stages.rt:83:9
 returns : tie.Need-returns
-returns c = ?
+returns c =
+    let k = c .before .before .before in
+    let t = held (task-of (to-start k)) in
+    let many : 4096 < stateCount (t .variables) = omega (arith, held-states (task-of (to-start k)), k .count .ensures .many (c .before .before .if1 .taken)) in
+    searched-refused t _ _ _ _ (states-many t _ _ many (c .before .refuse .ensures)) (refusal-number _ 25 _ (omega arith) (c .before .refuse .ensures)) _ (c .unsearched .ensures) _ _ _ _ _
 
--- src/stages.rt:86:27
 refuse-requires-2 : tie.Need-refuse-requires-2
 refuse-requires-2 c κs = search needs
 
--- src/stages.rt:86:9
 unsearched-requires-2 : tie.Need-unsearched-requires-2
 unsearched-requires-2 c κs = search needs
 
--- src/stages.rt:86:9
 returns-2 : tie.Need-returns-2
-returns-2 c = ?
+returns-2 c =
+    let k = c .before .before .before .before in
+    let t = held (task-of (to-start k)) in
+    let s = states-of k (c .before .before .before .if1 .left) in
+    let few : stateCount (t .variables) ≤ 4096 = omega (arith, c .before .before .before .if1 .left) in
+    let short : to-start k .args .room < stateCount (t .variables) = omega (arith, c .before .before .if2 .taken) in
+    searched-refused t _ _ _ _ (table-short t _ _ few short (c .before .refuse2 .ensures ∙ ap (refusal 21) s)) (refusal-number _ 21 _ (omega arith) (c .before .refuse2 .ensures)) _ (c .unsearched2 .ensures) _ _ _ _ _
 
--- src/stages.rt:88:9
 search-requires : tie.Need-search-requires
-search-requires c κs = ?
+search-requires c κs =
+    let k = c .before .before .before in
+    let l = c .before .before .if1 .left in
+    let s = to-start k in
+    record { accepted = s .pre .accepted; states = states-of k l; few = l; room = omega (arith, s .pre .entries-room) }
 
--- src/stages.rt:100:19
+-- the sizes and states of the task, after the count
+few-of : (k : tie.After-count) → k .count .result ≤ 4096 → FewStates (to-start k .args .variables) (now (to-start k .args .sizes))
+few-of k h =
+    let d = task-of (to-start k) in
+    let accepted = to-start k .pre .accepted in
+    record { sized = record { few = held-few d accepted; least = held-sizes d accepted }; states = omega (arith, states-of k h, held-states d) }
+
 weights-requires : tie.Need-weights-requires
-weights-requires c κs = ?
+weights-requires c κs = few-of (c .before .before .before .before .before .before) (c .before .before .before .before .before .if1 .left)
 
--- src/stages.rt:101:5
 fill-requires : tie.Need-fill-requires
-fill-requires c κs = ?
+fill-requires c κs =
+    let k = c .before .before .before .before .before .before .before .before .before in
+    let few = few-of k (c .before .before .before .before .before .before .before .before .if1 .left) in
+    let sizes = now (to-start k .args .sizes) in
+    let light : (v : ℕ) → v < to-start k .args .variables → getD (c .before .before .weights .result) v 0 ≤ 4096 =
+    λ v h. omega (arith, c .before .before .weights .ensures v h, weight-most sizes v (to-start k .args .variables) (few .sized .least) (omega arith), few .states) in
+    record { variables-few = few .sized .few; actions-few = held-actions-few (task-of (to-start k)) (to-start k .pre .accepted); weights-few = light; room = to-start k .pre .moves-room }
 
--- src/stages.rt:102:5
 fill-requires-2 : tie.Need-fill-requires-2
-fill-requires-2 c κs = ?
+fill-requires-2 c κs =
+    let k = c .before .before .before .before .before .before .before .before .before .before .before .before .before in
+    let d = task-of (to-start k) in
+    let accepted = to-start k .pre .accepted in
+    let few : stateCount (held d .variables) ≤ 4096 = omega (arith, states-of k (c .before .before .before .before .before .before .before .before .before .before .before .before .if1 .left), c .before .before .before .before .before .before .before .before .before .before .before .before .if1 .left) in
+    record { few = held-facts d accepted few _ (to-start k .pre .rows-room); actions-few = held-actions-few d accepted }
 
--- src/stages.rt:104:18
 done-requires : tie.Need-done-requires
 done-requires c κs = search needs
 
--- src/stages.rt:62:1
 same-length : tie.Need-same-length
 same-length c = search needs
 
--- src/stages.rt:62:1
 same-length-2 : tie.Need-same-length-2
 same-length-2 c = search needs
 
--- src/stages.rt:62:1
 same-length-3 : tie.Need-same-length-3
 same-length-3 c = search needs
 
--- src/stages.rt:62:1
 returns-3 : tie.Need-returns-3
-returns-3 c = ?
+returns-3 c =
+    let h = c .before .before .before .before .before .before .before .before .before .before .before .before .before in
+    let k = h .before .before .before .before in
+    let s = to-start k in
+    let d = task-of s in
+    let t = held d in
+    let states = states-of k (h .before .before .before .if1 .left) in
+    let few : stateCount (t .variables) ≤ 4096 = omega (arith, h .before .before .before .if1 .left) in
+    let fit = states-fit t (s .args .room) few (omega (arith, h .before .before .if2 .left)) in
+    let tables : StepTables (d .variables) (d .actions) (d .sizes) (d .costs) (d .conditions) (d .effects) (c .before .before .before .fill2 .last .0) (c .before .before .before .before .before .before .before .fill .last .0) =
+    record {
+      asked = searchable d (s .pre .accepted) few;
+      few = held-facts d (s .pre .accepted) few _ (omega (arith, s .pre .rows-room, c .before .before .rows .given));
+      rows-are = c .before .before .before .fill2 .ensures;
+      moves-are = c .before .before .before .before .before .before .before .fill .ensures (d .sizes) (c .before .before .before .before .before .before .before .before .before .before .weights .ensures);
+    }
+    in
+    searched-done d _ _ _ (s .pre .accepted) few fit _ (c .done .ensures) _ _ states (h .search .ensures .start) _ (h .search .ensures .table) _ _ tables
 
 pub search-arrays-spec : {M : Type 1} → statement M
 search-arrays-spec =

@@ -1,74 +1,104 @@
+-- Nothing is searched beside a refusal; else the arrays hold the task of the file.
+use Prim.Native.Nat.{ℕ, _-_}
+use mathlib.Core.Path.{_≡_, ap, _∙_}
+use mathlib.Core.List.{List}
+use native.Mathlib.Omega.{arith}
+use denote.Ref.{now}
+use lib.ListN.{take}
+use Rattle.files.specs.declared.Outcome.{Outcome}
+use Rattle.files.specs.Accepted.{acceptedTask}
+use Rattle.files.specs.Bytes.{Octets}
+use Rattle.files.specs.Outcome.{done}
+use Rattle.files.specs.OriginFile.{originActionsPlace}
+use Rattle.files.specs.TaskFile.{checkTask, taskOf}
+use Rattle.files.proofs.TaskChecked.{task-accepted}
+use Rattle.files.proofs.HeldTask.{held-by}
+use Rattle.search.proofs.FoundLaws.{file-part, part-octets, searched-not, searched-files}
 use borrow.Author.Needs.{needs}
 use Rattle.search.proofs.stages.search_files.Statement.{statement}
 use Rattle.search.proofs.stages.search_files.Tie as tie
-use Rattle.search.proofs.stages.search_files.Reads as reads
-use Rattle.search.proofs.stages.search_files.Lts as lts
-use Rattle.files.proofs.decode.read_task.Reads as read-task-reads
-use Rattle.files.proofs.origin.actions_place.Reads as actions-place-reads
-use Rattle.files.proofs.task.actions_in.Reads as actions-in-reads
-use Rattle.files.proofs.task.variables_in.Reads as variables-in-reads
-use Rattle.search.proofs.stages.search_arrays.Reads as search-arrays-reads
-use Rattle.search.proofs.stages.unsearched.Reads as unsearched-reads
 
--- src/stages.rt:131:9
+-- from each call to the one before it
+abbrev to-start : tie.After-read-task → tie.Start
+to-start c = c .before .before .before .before .before .before .before .before .before .before .before .before .before .before
+
+abbrev to-read : tie.After-actions-in → tie.After-read-task
+to-read c = c .before .before .before .before .before .before .before
+
+reduced-done : (c : tie.After-read-task) → to-start c .args .first .outcome .number ≡ 0
+reduced-done c = c .before .before .before .before .before .before .before .before .if1 .left
+
+-- the part of the buffer that holds the reduced file
+abbrev file-of : tie.After-read-task → List ℕ
+file-of c = take (to-start c .args .first .reduced - 0) (now (to-start c .args .reduced))
+
+checked : (c : tie.After-read-task) → checkTask (file-of c) ≡ done
+checked c = ap checkTask (file-part (to-start c .args .first .reduced) (now (to-start c .args .reduced))) ∙ to-start c .pre .source (reduced-done c) .checked
+
+passes : (c : tie.After-read-task) → c .read-task .result .number ≡ 0
+passes c = ap (λ (o : Outcome). o .number) (c .read-task .ensures .outcome ∙ checked c)
+
 unsearched-requires : tie.Need-unsearched-requires
 unsearched-requires c κs = search needs
 
--- src/stages.rt:131:9
 returns : tie.Need-returns
-returns c = ?
+returns c = searched-not _ _ _ _ _ _ _ _ _ _ (c .before .if1 .taken) (c .unsearched .ensures)
 
--- src/stages.rt:135:16
 sub-file : tie.Need-sub-file
 sub-file c = search needs
 
--- src/stages.rt:135:16
 part-file-start : tie.Need-part-file-start
 part-file-start c = search needs
 
--- src/stages.rt:135:16
 part-file-end : tie.Need-part-file-end
-part-file-end c = ?
+part-file-end c = omega (arith, c .before .before .before .before .before .before .pre .source (c .if1 .left) .reduced-fits)
 
--- src/stages.rt:140:5
 read-task-requires : tie.Need-read-task-requires
 read-task-requires c κs = search needs
 
--- src/stages.rt:155:38
 sub-actions-place : tie.Need-sub-actions-place
 sub-actions-place c = search needs
 
--- src/stages.rt:155:38
 part-actions-place-start : tie.Need-part-actions-place-start
 part-actions-place-start c = search needs
 
--- src/stages.rt:155:38
 part-actions-place-end : tie.Need-part-actions-place-end
-part-actions-place-end c = ?
+part-actions-place-end c = omega (arith, to-start (c .before .before .before) .pre .source (reduced-done (c .before .before .before)) .origin-fits)
 
--- src/stages.rt:155:9
 actions-place-requires : tie.Need-actions-place-requires
 actions-place-requires c κs = search needs
 
--- src/stages.rt:156:9
 variables-in-requires : tie.Need-variables-in-requires
 variables-in-requires c κs = search needs
 
--- src/stages.rt:157:9
 actions-in-requires : tie.Need-actions-in-requires
 actions-in-requires c κs = search needs
 
--- src/stages.rt:149:5
 search-arrays-requires : tie.Need-search-arrays-requires
-search-arrays-requires c κs = ?
+search-arrays-requires c κs =
+    let a = c .before .before .before .before .before .before in
+    let d = to-read a in
+    let octets : Octets (now (to-start d .args .reduced)) = λ i. omega (arith, d .before .before .before .before .before .before .before .before .before .before .before .before .before .shared-slice-known .given i) in
+    let is = held-by _ _ _ _ _ _ _ _ _ _ _ (a .before .variables-in .ensures .is) (a .actions-in .ensures .is) (d .read-task .ensures .task (passes d)) in
+    record {
+      accepted = ap acceptedTask is ∙ task-accepted (file-of d) (part-octets (to-start d .args .first .reduced - 0) (now (to-start d .args .reduced)) octets) (ap (λ (o : Outcome). o .number) (checked d));
+      entries-room = to-start d .pre .room;
+      rows-room = omega (arith, c .before .before .before .before .before .before .before .before .before .before .before .search-arrays-arg2 .given);
+      moves-room = omega (arith, c .before .before .before .before .before .before .before .before .before .before .search-arrays-arg3 .given);
+    }
 
--- src/stages.rt:115:1
 same-length : tie.Need-same-length
 same-length c = search needs
 
--- src/stages.rt:115:1
 returns-2 : tie.Need-returns-2
-returns-2 c = ?
+returns-2 c =
+    let a = c .before .before .before .before .before .before .before .before .before in
+    let d = to-read a in
+    let s = to-start d in
+    let is = held-by _ _ _ _ _ _ _ _ _ _ _ (a .before .variables-in .ensures .is) (a .actions-in .ensures .is) (d .read-task .ensures .task (passes d)) in
+    let origins = file-part (s .args .first .origin) (now (s .args .origin)) in
+    searched-files _ _ _ _ _ _ _ _ _ _ (reduced-done d) _ (is ∙ ap taskOf (file-part (s .args .first .reduced) (now (s .args .reduced)))) _
+    (a .before .before .actions-place .ensures .is ∙ ap originActionsPlace origins) (omega (arith, a .before .before .actions-place .ensures .below)) (c .before .before .search-arrays .ensures)
 
 pub search-files-spec : {M : Type 1} → statement M
 search-files-spec =

@@ -54,7 +54,7 @@ use Rattle.search.proofs.Entry.Laws as T′
 use Rattle.search.proofs.stages.Searched as S₀
 use Rattle.search.proofs.stages.Searched.Laws as S′
 use Rattle.search.proofs.EntrySlices.{R, vals, tells}
-use Rattle.search.proofs.Spelled.{S, searched-vals, searched-tells, St, step-vals, step-tells, Sizes, Costs, Rows, Values, word, shrTy}
+use Rattle.search.proofs.Spelled.{S, searched-vals, searched-tells, St, step-vals, step-tells, Costs, Moves, Here, word, shrTy}
 use Rattle.search.proofs.Leading.{Led, can-begin, led-first, led-compare, led-more, led-next, led-fewer, led-stop}
 use Rattle.search.proofs.Hand.{ref, tests}
 use Rattle.search.proofs.work_table.entry_at as g
@@ -81,10 +81,10 @@ use Rattle.search.proofs.work_table.first_step.Code.Mir as code-mir
 
 abbrev stayed : Stays (f.ended .signature .params) (f.ended .kept)
 stayed =
-    (stay-none-slice (0 ∷ []) tt (plain (λ _. R)) yes, (stay-none (λ _. S) yes, (stay-none (λ _. usize) yes, (stay-none-ref (1 ∷ []) tt (plain (λ _. Values)) yes, (stay-none-ref (2 ∷ []) tt (plain (λ _. Sizes)) yes, (stay-none-ref (3 ∷ []) tt (plain (λ _. Costs)) yes, (stay-none-ref (4 ∷ []) tt (plain (λ _. Rows)) yes, (stay-none-ref (5 ∷ []) tt (plain (λ _. Rows)) yes, tt))))))))
+    (stay-none-slice (0 ∷ []) tt (plain (λ _. R)) yes, (stay-none (λ _. S) yes, (stay-none (λ _. usize) yes, (stay-none-ref (1 ∷ []) tt (plain (λ _. Here)) yes, (stay-none-ref (2 ∷ []) tt (plain (λ _. Costs)) yes, (stay-none-ref (3 ∷ []) tt (plain (λ _. Moves)) yes, tt))))))
 
 abbrev Arg : Type 0
-Arg = RefT (List Entry) × (Searched × (ℕ × (RefT (List ℕ) × (RefT (List ℕ) × (RefT (List ℕ) × (RefT (List ℕ) × (RefT (List ℕ) × Unit {0})))))))
+Arg = RefT (List Entry) × (Searched × (ℕ × (RefT (List ℕ) × (RefT (List ℕ) × (RefT (List ℕ) × Unit {0})))))
 
 -- the contracts that the proof cites
 module _ {M : Type 1} (𝓤 : URA M) (H : Heap 𝓤) (A : Atoms 𝓤) (mem : Memory → SProp 𝓤) (run : Routine → Fun 𝓤) where
@@ -101,25 +101,25 @@ module _ {M : Type 1} (𝓤 : URA M) (H : Heap 𝓤) (A : Atoms 𝓤) (mem : Mem
   After = tripleOf 𝓤 H A z.signature (z.spec 𝓤 H A mem run)
 
 -- what a turn knows: a step, before whose action all others were looked at in vain
-record Turn (ys : List Entry) (searched : Searched) (s : ℕ) (values sizes costs conditions effects : List ℕ) : Type 0 where
+record Turn (ys : List Entry) (searched : Searched) (s : ℕ) (here costs moves : List ℕ) : Type 0 where
   pub step : Step
   pub fits : Is St step (step-vals step)
-  pub led : Led (tableEntry ys) searched s values sizes costs conditions effects step
+  pub led : Led (tableEntry ys) searched s here costs moves step
 
-module _ {M : Type 1} (𝓤 : URA M) (H : Heap 𝓤) (A : Atoms 𝓤) (W : Given 𝓤 H A) (at-mem : Memory → SProp 𝓤) (run : Routine → Fun 𝓤) (κ₀ κ₁ κ₂ κ₃ κ₄ κ₅ : Lft) (q₀ q₁ q₂ q₃ q₄ q₅ : Share)
-    (b₀ o₀ : ℕ) (γ₀ : GName) (ys : List Entry) (searched : Searched) (s : ℕ) (b₁ o₁ : ℕ) (γ₁ : GName) (values : List ℕ) (b₂ o₂ : ℕ) (γ₂ : GName) (sizes : List ℕ) (b₃ o₃ : ℕ) (γ₃ : GName) (costs : List ℕ) (b₄ o₄ : ℕ) (γ₄ : GName) (conditions : List ℕ) (b₅ o₅ : ℕ) (γ₅ : GName) (effects : List ℕ)
-    (gn : Room R (length ys)) (gz : Is S searched (searched-vals searched)) (gs : s < 2 ^ 64) (can : CanLead (tableEntry ys) searched s values sizes costs conditions effects) where
+module _ {M : Type 1} (𝓤 : URA M) (H : Heap 𝓤) (A : Atoms 𝓤) (W : Given 𝓤 H A) (at-mem : Memory → SProp 𝓤) (run : Routine → Fun 𝓤) (κ₀ κ₁ κ₂ κ₃ : Lft) (q₀ q₁ q₂ q₃ : Share)
+    (b₀ o₀ : ℕ) (γ₀ : GName) (ys : List Entry) (searched : Searched) (s : ℕ) (b₁ o₁ : ℕ) (γ₁ : GName) (here : List ℕ) (b₂ o₂ : ℕ) (γ₂ : GName) (costs : List ℕ) (b₃ o₃ : ℕ) (γ₃ : GName) (moves : List ℕ)
+    (gn : Room R (length ys)) (gz : Is S searched (searched-vals searched)) (gs : s < 2 ^ 64) (can : CanLead (tableEntry ys) searched s here costs moves) where
   abbrev a : Arg
-  a = (ref b₀ o₀ γ₀ ys, (searched, (s, (ref b₁ o₁ γ₁ values, (ref b₂ o₂ γ₂ sizes, (ref b₃ o₃ γ₃ costs, (ref b₄ o₄ γ₄ conditions, (ref b₅ o₅ γ₅ effects, tt))))))))
+  a = (ref b₀ o₀ γ₀ ys, (searched, (s, (ref b₁ o₁ γ₁ here, (ref b₂ o₂ γ₂ costs, (ref b₃ o₃ γ₃ moves, tt))))))
 
   abbrev sv : Val
   sv = sliceVal (b₀, o₀) (length ys)
 
-  abbrev at : Vals f.signature (κ₀, (κ₁, (κ₂, (κ₃, (κ₄, (κ₅, tt))))))
-  at = (sv ∷ [], (searched-vals searched, (vint w64 s ∷ [], (vptr b₁ o₁ ∷ [], (vptr b₂ o₂ ∷ [], (vptr b₃ o₃ ∷ [], (vptr b₄ o₄ ∷ [], (vptr b₅ o₅ ∷ [], tt))))))))
+  abbrev at : Vals f.signature (κ₀, (κ₁, (κ₂, (κ₃, tt))))
+  at = (sv ∷ [], (searched-vals searched, (vint w64 s ∷ [], (vptr b₁ o₁ ∷ [], (vptr b₂ o₂ ∷ [], (vptr b₃ o₃ ∷ [], tt))))))
 
   abbrev Post : Val → SProp 𝓤
-  Post = walkOf 𝓤 H A f.ended stayed (f.clauses 𝓤 H A at-mem run) .post (((κ₀, (κ₁, (κ₂, (κ₃, (κ₄, (κ₅, tt)))))), (q₀, (q₁, (q₂, (q₃, (q₄, (q₅, tt)))))), tt, a, at), tt)
+  Post = walkOf 𝓤 H A f.ended stayed (f.clauses 𝓤 H A at-mem run) .post (((κ₀, (κ₁, (κ₂, (κ₃, tt)))), (q₀, (q₁, (q₂, (q₃, tt)))), tt, a, at), tt)
 
   -- the entry of a state
   abbrev looked : ℕ → Entry
@@ -127,14 +127,14 @@ module _ {M : Type 1} (𝓤 : URA M) (H : Heap 𝓤) (A : Atoms 𝓤) (W : Given
 
   -- what the references own, with their tokens
   abbrev Refs : List (Item 𝓤) → List (Item 𝓤)
-  Refs Γ = ‵ (ShrSlice (named 0) κ₀ R .own (ref b₀ o₀ γ₀ ys) (sv ∷ [])) ∷ ‵ (flft κ₀ q₀) ∷ ‵ (ShrRef (named 1) κ₁ Values .own (ref b₁ o₁ γ₁ values) (vptr b₁ o₁ ∷ [])) ∷ ‵ (flft κ₁ q₁) ∷ ‵ (ShrRef (named 2) κ₂ Sizes .own (ref b₂ o₂ γ₂ sizes) (vptr b₂ o₂ ∷ [])) ∷ ‵ (flft κ₂ q₂) ∷ ‵ (ShrRef (named 3) κ₃ Costs .own (ref b₃ o₃ γ₃ costs) (vptr b₃ o₃ ∷ [])) ∷ ‵ (flft κ₃ q₃) ∷ ‵ (ShrRef (named 4) κ₄ Rows .own (ref b₄ o₄ γ₄ conditions) (vptr b₄ o₄ ∷ [])) ∷ ‵ (flft κ₄ q₄) ∷ ‵ (ShrRef (named 5) κ₅ Rows .own (ref b₅ o₅ γ₅ effects) (vptr b₅ o₅ ∷ [])) ∷ ‵ (flft κ₅ q₅) ∷ Γ
+  Refs Γ = ‵ (ShrSlice (named 0) κ₀ R .own (ref b₀ o₀ γ₀ ys) (sv ∷ [])) ∷ ‵ (flft κ₀ q₀) ∷ ‵ (ShrRef (named 1) κ₁ Here .own (ref b₁ o₁ γ₁ here) (vptr b₁ o₁ ∷ [])) ∷ ‵ (flft κ₁ q₁) ∷ ‵ (ShrRef (named 2) κ₂ Costs .own (ref b₂ o₂ γ₂ costs) (vptr b₂ o₂ ∷ [])) ∷ ‵ (flft κ₂ q₂) ∷ ‵ (ShrRef (named 3) κ₃ Moves .own (ref b₃ o₃ γ₃ moves) (vptr b₃ o₃ ∷ [])) ∷ ‵ (flft κ₃ q₃) ∷ Γ
 
-  exits : (r : Step) → Is St r (step-vals r) → FirstLed looked searched s sizes costs conditions effects r → ent 𝓤 (⋆ 𝓤 H A (Refs [])) (Post (St′.lowered r))
+  exits : (r : Step) → Is St r (step-vals r) → FirstLed looked searched s here costs moves r → ent 𝓤 (⋆ 𝓤 H A (Refs [])) (Post (St′.lowered r))
   exits r fits is =
       qed W (Refs []) ∵
-      suffices ! _ (ends-at 𝓤 H A f.ended stayed (f.clauses 𝓤 H A at-mem run) W (((κ₀, (κ₁, (κ₂, (κ₃, (κ₄, (κ₅, tt)))))), (q₀, (q₁, (q₂, (q₃, (q₄, (q₅, tt)))))), tt, a, at), tt) (St′.lowered r) r (tt, (tt, (tt, (tt, (tt, (tt, (tt, (tt, tt)))))))) (tt, (tt, (tt, (tt, (tt, (tt, (tt, (tt, tt))))))))) $ says ! is $
-      nothing ! $ move ! (12 ∷ 0 ∷ []) $ join ! $ move ! (10 ∷ 0 ∷ []) $ join ! $ move ! (8 ∷ 0 ∷ []) $ join ! $ move ! (6 ∷ 0 ∷ []) $ join ! $ move ! (4 ∷ 0 ∷ []) $ join ! $ move ! (2 ∷ 0 ∷ []) $ join ! $ frame ! $
-      nothing ! $ move ! (6 ∷ 0 ∷ []) $ fjoin ! $ move ! (5 ∷ 0 ∷ []) $ fjoin ! $ move ! (4 ∷ 0 ∷ []) $ fjoin ! $ move ! (3 ∷ 0 ∷ []) $ fjoin ! $ move ! (2 ∷ 0 ∷ []) $ fjoin ! $ owned ! usize (Is usize) (uint-makes 𝓤 H A W w64) s _ (refl, gs) $ fjoin ! $ owned ! S (Is S) (LL.makes S₀.the-type S′.the-plain 𝓤 H A) searched (searched-vals searched) gz $ fjoin ! $ move ! (1 ∷ 0 ∷ []) $ fjoin ! $ frame ! $
+      suffices ! _ (ends-at 𝓤 H A f.ended stayed (f.clauses 𝓤 H A at-mem run) W (((κ₀, (κ₁, (κ₂, (κ₃, tt)))), (q₀, (q₁, (q₂, (q₃, tt)))), tt, a, at), tt) (St′.lowered r) r (tt, (tt, (tt, (tt, (tt, (tt, tt)))))) (tt, (tt, (tt, (tt, (tt, (tt, tt))))))) $ says ! is $
+      nothing ! $ move ! (8 ∷ 0 ∷ []) $ join ! $ move ! (6 ∷ 0 ∷ []) $ join ! $ move ! (4 ∷ 0 ∷ []) $ join ! $ move ! (2 ∷ 0 ∷ []) $ join ! $ frame ! $
+      nothing ! $ move ! (4 ∷ 0 ∷ []) $ fjoin ! $ move ! (3 ∷ 0 ∷ []) $ fjoin ! $ move ! (2 ∷ 0 ∷ []) $ fjoin ! $ owned ! usize (Is usize) (uint-makes 𝓤 H A W w64) s _ (refl, gs) $ fjoin ! $ owned ! S (Is S) (LL.makes S₀.the-type S′.the-plain 𝓤 H A) searched (searched-vals searched) gz $ fjoin ! $ move ! (1 ∷ 0 ∷ []) $ fjoin ! $ frame ! $
       owned ! St (Is St) (LL.makes St₀.the-type St′.the-plain 𝓤 H A) r (step-vals r) fits $ done !
 
   -- what each callee's triple binds outside, and that it is had
@@ -149,48 +149,48 @@ module _ {M : Type 1} (𝓤 : URA M) (H : Heap 𝓤) (A : Atoms 𝓤) (W : Given
       qed W (‵ (flft κ₀ q₀) ∷ ‵ (ShrSlice (named 0) κ₀ R .own (ref b₀ o₀ γ₀ ys) (sv ∷ [])) ∷ []) ∵ nothing ! $ move ! (1 ∷ 0 ∷ []) $ join ! $
       nothing ! $ owned ! usize (Is usize) (uint-makes 𝓤 H A W w64) j _ (refl, lt) $ fjoin ! $ move ! (2 ∷ 0 ∷ []) $ fjoin ! $ move ! (1 ∷ 0 ∷ []) $ join ! $ nothing ! $ move ! (1 ∷ 0 ∷ []) $ done !
 
-  -- the values of the state, and the arrays that tell where an action leads
+  -- what is known of the state, and the moves
   abbrev Seen : List (Item 𝓤)
-  Seen = ‵ (flft κ₁ q₁) ∷ ‵ (flft κ₂ q₂) ∷ ‵ (flft κ₄ q₄) ∷ ‵ (flft κ₅ q₅) ∷ ‵ (ShrRef (named 1) κ₁ Values .own (ref b₁ o₁ γ₁ values) (vptr b₁ o₁ ∷ [])) ∷ ‵ (ShrRef (named 2) κ₂ Sizes .own (ref b₂ o₂ γ₂ sizes) (vptr b₂ o₂ ∷ [])) ∷ ‵ (ShrRef (named 4) κ₄ Rows .own (ref b₄ o₄ γ₄ conditions) (vptr b₄ o₄ ∷ [])) ∷ ‵ (ShrRef (named 5) κ₅ Rows .own (ref b₅ o₅ γ₅ effects) (vptr b₅ o₅ ∷ [])) ∷ []
+  Seen = ‵ (flft κ₁ q₁) ∷ ‵ (flft κ₃ q₃) ∷ ‵ (ShrRef (named 1) κ₁ Here .own (ref b₁ o₁ γ₁ here) (vptr b₁ o₁ ∷ [])) ∷ ‵ (ShrRef (named 3) κ₃ Moves .own (ref b₃ o₃ γ₃ moves) (vptr b₃ o₃ ∷ [])) ∷ []
 
-  abbrev from-args : Searched × (ℕ × (ℕ × (RefT (List ℕ) × (RefT (List ℕ) × (RefT (List ℕ) × (RefT (List ℕ) × Unit {0}))))))
-  from-args = (searched, (0, (s, (ref b₁ o₁ γ₁ values, (ref b₂ o₂ γ₂ sizes, (ref b₄ o₄ γ₄ conditions, (ref b₅ o₅ γ₅ effects, tt)))))))
+  abbrev from-args : Searched × (ℕ × (ℕ × (RefT (List ℕ) × (RefT (List ℕ) × Unit {0}))))
+  from-args = (searched, (0, (s, (ref b₁ o₁ γ₁ here, (ref b₃ o₃ γ₃ moves, tt)))))
 
   abbrev to-from : From 𝓤 H A at-mem run .Ghost
-  to-from = (((κ₁, (κ₂, (κ₄, (κ₅, tt)))), (q₁, (q₂, (q₄, (q₅, tt)))), tt, from-args, (searched-vals searched, (vint w64 0 ∷ [], (vint w64 s ∷ [], (vptr b₁ o₁ ∷ [], (vptr b₂ o₂ ∷ [], (vptr b₄ o₄ ∷ [], (vptr b₅ o₅ ∷ [], tt)))))))), tt)
+  to-from = (((κ₁, (κ₃, tt)), (q₁, (q₃, tt)), tt, from-args, (searched-vals searched, (vint w64 0 ∷ [], (vint w64 s ∷ [], (vptr b₁ o₁ ∷ [], (vptr b₃ o₃ ∷ [], tt)))))), tt)
 
-  goes-from : CanStepFrom searched 0 s values sizes conditions effects → ent 𝓤 (⋆ 𝓤 H A Seen) (From 𝓤 H A at-mem run .pre to-from)
+  goes-from : CanStepFrom searched 0 s here moves → ent 𝓤 (⋆ 𝓤 H A Seen) (From 𝓤 H A at-mem run .pre to-from)
   goes-from begins =
       qed W Seen ∵ says ! begins $
-      nothing ! $ move ! (4 ∷ 0 ∷ []) $ join ! $ move ! (3 ∷ 0 ∷ []) $ join ! $ move ! (2 ∷ 0 ∷ []) $ join ! $ move ! (1 ∷ 0 ∷ []) $ join ! $ frame ! $
-      nothing ! $ move ! (4 ∷ 0 ∷ []) $ fjoin ! $ move ! (3 ∷ 0 ∷ []) $ fjoin ! $ move ! (2 ∷ 0 ∷ []) $ fjoin ! $ move ! (1 ∷ 0 ∷ []) $ fjoin ! $ owned ! usize (Is usize) (uint-makes 𝓤 H A W w64) s _ (refl, gs) $ fjoin ! $ owned ! usize (Is usize) (uint-makes 𝓤 H A W w64) 0 _ (refl, lit< tt) $ fjoin ! $ owned ! S (Is S) (LL.makes S₀.the-type S′.the-plain 𝓤 H A) searched (searched-vals searched) gz $ fjoin ! $ done !
+      nothing ! $ move ! (2 ∷ 0 ∷ []) $ join ! $ move ! (1 ∷ 0 ∷ []) $ join ! $ frame ! $
+      nothing ! $ move ! (2 ∷ 0 ∷ []) $ fjoin ! $ move ! (1 ∷ 0 ∷ []) $ fjoin ! $ owned ! usize (Is usize) (uint-makes 𝓤 H A W w64) s _ (refl, gs) $ fjoin ! $ owned ! usize (Is usize) (uint-makes 𝓤 H A W w64) 0 _ (refl, lit< tt) $ fjoin ! $ owned ! S (Is S) (LL.makes S₀.the-type S′.the-plain 𝓤 H A) searched (searched-vals searched) gz $ fjoin ! $ done !
 
-  abbrev after-args : Step → Searched × (Step × (ℕ × (RefT (List ℕ) × (RefT (List ℕ) × (RefT (List ℕ) × (RefT (List ℕ) × Unit {0}))))))
-  after-args step = (searched, (step, (s, (ref b₁ o₁ γ₁ values, (ref b₂ o₂ γ₂ sizes, (ref b₄ o₄ γ₄ conditions, (ref b₅ o₅ γ₅ effects, tt)))))))
+  abbrev after-args : Step → Searched × (Step × (ℕ × (RefT (List ℕ) × (RefT (List ℕ) × Unit {0}))))
+  after-args step = (searched, (step, (s, (ref b₁ o₁ γ₁ here, (ref b₃ o₃ γ₃ moves, tt)))))
 
   abbrev to-after : Step → After 𝓤 H A at-mem run .Ghost
-  to-after step = (((κ₁, (κ₂, (κ₄, (κ₅, tt)))), (q₁, (q₂, (q₄, (q₅, tt)))), tt, after-args step, (searched-vals searched, (step-vals step, (vint w64 s ∷ [], (vptr b₁ o₁ ∷ [], (vptr b₂ o₂ ∷ [], (vptr b₄ o₄ ∷ [], (vptr b₅ o₅ ∷ [], tt)))))))), tt)
+  to-after step = (((κ₁, (κ₃, tt)), (q₁, (q₃, tt)), tt, after-args step, (searched-vals searched, (step-vals step, (vint w64 s ∷ [], (vptr b₁ o₁ ∷ [], (vptr b₃ o₃ ∷ [], tt)))))), tt)
 
-  goes-after : (step : Step) → Is St step (step-vals step) → CanStepFrom searched (step .action .0 + 1) s values sizes conditions effects → ent 𝓤 (⋆ 𝓤 H A Seen) (After 𝓤 H A at-mem run .pre (to-after step))
+  goes-after : (step : Step) → Is St step (step-vals step) → CanStepFrom searched (step .action .0 + 1) s here moves → ent 𝓤 (⋆ 𝓤 H A Seen) (After 𝓤 H A at-mem run .pre (to-after step))
   goes-after step fits more =
       qed W Seen ∵ says ! more $
-      nothing ! $ move ! (4 ∷ 0 ∷ []) $ join ! $ move ! (3 ∷ 0 ∷ []) $ join ! $ move ! (2 ∷ 0 ∷ []) $ join ! $ move ! (1 ∷ 0 ∷ []) $ join ! $ frame ! $
-      nothing ! $ move ! (4 ∷ 0 ∷ []) $ fjoin ! $ move ! (3 ∷ 0 ∷ []) $ fjoin ! $ move ! (2 ∷ 0 ∷ []) $ fjoin ! $ move ! (1 ∷ 0 ∷ []) $ fjoin ! $ owned ! usize (Is usize) (uint-makes 𝓤 H A W w64) s _ (refl, gs) $ fjoin ! $ owned ! St (Is St) (LL.makes St₀.the-type St′.the-plain 𝓤 H A) step (step-vals step) fits $ fjoin ! $ owned ! S (Is S) (LL.makes S₀.the-type S′.the-plain 𝓤 H A) searched (searched-vals searched) gz $ fjoin ! $ done !
+      nothing ! $ move ! (2 ∷ 0 ∷ []) $ join ! $ move ! (1 ∷ 0 ∷ []) $ join ! $ frame ! $
+      nothing ! $ move ! (2 ∷ 0 ∷ []) $ fjoin ! $ move ! (1 ∷ 0 ∷ []) $ fjoin ! $ owned ! usize (Is usize) (uint-makes 𝓤 H A W w64) s _ (refl, gs) $ fjoin ! $ owned ! St (Is St) (LL.makes St₀.the-type St′.the-plain 𝓤 H A) step (step-vals step) fits $ fjoin ! $ owned ! S (Is S) (LL.makes S₀.the-type S′.the-plain 𝓤 H A) searched (searched-vals searched) gz $ fjoin ! $ done !
 
   abbrev looks-args : Step → Searched × (Step × (Entry × (RefT (List ℕ) × (Entry × Unit {0}))))
-  looks-args step = (searched, (step, (looked (step .next), (ref b₃ o₃ γ₃ costs, (looked s, tt)))))
+  looks-args step = (searched, (step, (looked (step .next), (ref b₂ o₂ γ₂ costs, (looked s, tt)))))
 
   abbrev to-looks : Step → Looks 𝓤 H A at-mem run .Ghost
-  to-looks step = (((κ₃, tt), (q₃, tt), tt, looks-args step, (searched-vals searched, (step-vals step, (vals (looked (step .next)), (vptr b₃ o₃ ∷ [], (vals (looked s), tt)))))), tt)
+  to-looks step = (((κ₂, tt), (q₂, tt), tt, looks-args step, (searched-vals searched, (step-vals step, (vals (looked (step .next)), (vptr b₂ o₂ ∷ [], (vals (looked s), tt)))))), tt)
 
-  goes-looks : (step : Step) → Is St step (step-vals step) → Is R (looked (step .next)) (vals (looked (step .next))) → Is R (looked s) (vals (looked s)) → CanCompare (step .action .0) (looked (step .next)) costs → ent 𝓤 (sep 𝓤 (A .lft κ₃ q₃) (sem 𝓤 H A (ShrRef (named 3) κ₃ Costs .own (ref b₃ o₃ γ₃ costs) (vptr b₃ o₃ ∷ [])))) (Looks 𝓤 H A at-mem run .pre (to-looks step))
+  goes-looks : (step : Step) → Is St step (step-vals step) → Is R (looked (step .next)) (vals (looked (step .next))) → Is R (looked s) (vals (looked s)) → CanCompare (step .action .0) (looked (step .next)) costs → ent 𝓤 (sep 𝓤 (A .lft κ₂ q₂) (sem 𝓤 H A (ShrRef (named 2) κ₂ Costs .own (ref b₂ o₂ γ₂ costs) (vptr b₂ o₂ ∷ [])))) (Looks 𝓤 H A at-mem run .pre (to-looks step))
   goes-looks step fits there mine compares =
-      qed W (‵ (flft κ₃ q₃) ∷ ‵ (ShrRef (named 3) κ₃ Costs .own (ref b₃ o₃ γ₃ costs) (vptr b₃ o₃ ∷ [])) ∷ []) ∵ says ! compares $
+      qed W (‵ (flft κ₂ q₂) ∷ ‵ (ShrRef (named 2) κ₂ Costs .own (ref b₂ o₂ γ₂ costs) (vptr b₂ o₂ ∷ [])) ∷ []) ∵ says ! compares $
       nothing ! $ move ! (1 ∷ 0 ∷ []) $ join ! $ frame ! $
       nothing ! $ owned ! R (Is R) (LL.makes T₀.the-type T′.the-plain 𝓤 H A) (looked s) (vals (looked s)) mine $ fjoin ! $ move ! (1 ∷ 0 ∷ []) $ fjoin ! $ owned ! R (Is R) (LL.makes T₀.the-type T′.the-plain 𝓤 H A) (looked (step .next)) (vals (looked (step .next))) there $ fjoin ! $ owned ! St (Is St) (LL.makes St₀.the-type St′.the-plain 𝓤 H A) step (step-vals step) fits $ fjoin ! $ owned ! S (Is S) (LL.makes S₀.the-type S′.the-plain 𝓤 H A) searched (searched-vals searched) gz $ fjoin ! $ done !
 
   module _ (𝓣 : Tables 𝓤 H) (fm : FmC 𝓤 H (W .laws) (𝓣 .C)) (k-get : Triple 𝓤 (𝓣 .C #search·work-table·entry-at) (Get 𝓤 H A at-mem run)) (k-looks : Triple 𝓤 (𝓣 .C #search·first-plan·looks-on) (Looks 𝓤 H A at-mem run)) (k-after : Triple 𝓤 (𝓣 .C #search·first-plan·step-after) (After 𝓤 H A at-mem run))
-      (mine : Is R (looked s) (vals (looked s))) (l₀ l₁ l₂ l₃ l₄ l₅ l₆ l₇ l₈ l₉ l₁₀ l₁₁ l₁₂ : ℕ) where
+      (mine : Is R (looked s) (vals (looked s))) (l₀ l₁ l₂ l₃ l₄ l₅ l₆ l₇ l₈ l₉ l₁₀ : ℕ) where
     abbrev C : Calls 𝓤 H
     C = 𝓣 .C
 
@@ -198,14 +198,14 @@ module _ {M : Type 1} (𝓤 : URA M) (H : Heap 𝓤) (A : Atoms 𝓤) (W : Given
     Λ = 𝓣 .Λ
 
     abbrev En : Env 𝓤 H
-    En = (St′.mir, l₀) ∷ (sliceTy (shrTy (named 0) R), l₁) ∷ (S′.mir, l₂) ∷ (word, l₃) ∷ (shrTy (named 1) Values, l₄) ∷ (shrTy (named 2) Sizes, l₅) ∷ (shrTy (named 3) Costs, l₆) ∷ (shrTy (named 4) Rows, l₇) ∷ (shrTy (named 5) Rows, l₈) ∷ (T′.mir, l₉) ∷ (St′.mir, l₁₀) ∷ (tyBool, l₁₁) ∷ (T′.mir, l₁₂) ∷ []
+    En = (St′.mir, l₀) ∷ (sliceTy (shrTy (named 0) R), l₁) ∷ (S′.mir, l₂) ∷ (word, l₃) ∷ (shrTy (named 1) Here, l₄) ∷ (shrTy (named 2) Costs, l₅) ∷ (shrTy (named 3) Moves, l₆) ∷ (T′.mir, l₇) ∷ (St′.mir, l₈) ∷ (tyBool, l₉) ∷ (T′.mir, l₁₀) ∷ []
 
     -- the context of a turn: the references, and the locals, the last first
     abbrev At : Step → List (Item 𝓤)
-    At step = Refs (‵ (froom T′.mir l₁₂ 0) ∷ ‵ (fdies T′.mir l₁₂) ∷ ‵ (froom tyBool l₁₁ 0) ∷ ‵ (fdies tyBool l₁₁) ∷ ‵ (fat fullShare St′.mir l₁₀ 0 (St′.lowered step)) ∷ ‵ (fdies St′.mir l₁₀) ∷ ‵ (fat fullShare T′.mir l₉ 0 (T′.lowered (looked s))) ∷ ‵ (fdies T′.mir l₉) ∷ ‵ (fat fullShare (shrTy (named 5) Rows) l₈ 0 (vptr b₅ o₅)) ∷ ‵ (fdies (shrTy (named 5) Rows) l₈) ∷ ‵ (fat fullShare (shrTy (named 4) Rows) l₇ 0 (vptr b₄ o₄)) ∷ ‵ (fdies (shrTy (named 4) Rows) l₇) ∷ ‵ (fat fullShare (shrTy (named 3) Costs) l₆ 0 (vptr b₃ o₃)) ∷ ‵ (fdies (shrTy (named 3) Costs) l₆) ∷ ‵ (fat fullShare (shrTy (named 2) Sizes) l₅ 0 (vptr b₂ o₂)) ∷ ‵ (fdies (shrTy (named 2) Sizes) l₅) ∷ ‵ (fat fullShare (shrTy (named 1) Values) l₄ 0 (vptr b₁ o₁)) ∷ ‵ (fdies (shrTy (named 1) Values) l₄) ∷ ‵ (fat fullShare word l₃ 0 (vint w64 s)) ∷ ‵ (fdies word l₃) ∷ ‵ (fat fullShare S′.mir l₂ 0 (S′.lowered searched)) ∷ ‵ (fdies S′.mir l₂) ∷ ‵ (fat fullShare (sliceTy (shrTy (named 0) R)) l₁ 0 sv) ∷ ‵ (fdies (sliceTy (shrTy (named 0) R)) l₁) ∷ ‵ (froom St′.mir l₀ 0) ∷ ‵ (fdies St′.mir l₀) ∷ [])
+    At step = Refs (‵ (froom T′.mir l₁₀ 0) ∷ ‵ (fdies T′.mir l₁₀) ∷ ‵ (froom tyBool l₉ 0) ∷ ‵ (fdies tyBool l₉) ∷ ‵ (fat fullShare St′.mir l₈ 0 (St′.lowered step)) ∷ ‵ (fdies St′.mir l₈) ∷ ‵ (fat fullShare T′.mir l₇ 0 (T′.lowered (looked s))) ∷ ‵ (fdies T′.mir l₇) ∷ ‵ (fat fullShare (shrTy (named 3) Moves) l₆ 0 (vptr b₃ o₃)) ∷ ‵ (fdies (shrTy (named 3) Moves) l₆) ∷ ‵ (fat fullShare (shrTy (named 2) Costs) l₅ 0 (vptr b₂ o₂)) ∷ ‵ (fdies (shrTy (named 2) Costs) l₅) ∷ ‵ (fat fullShare (shrTy (named 1) Here) l₄ 0 (vptr b₁ o₁)) ∷ ‵ (fdies (shrTy (named 1) Here) l₄) ∷ ‵ (fat fullShare word l₃ 0 (vint w64 s)) ∷ ‵ (fdies word l₃) ∷ ‵ (fat fullShare S′.mir l₂ 0 (S′.lowered searched)) ∷ ‵ (fdies S′.mir l₂) ∷ ‵ (fat fullShare (sliceTy (shrTy (named 0) R)) l₁ 0 sv) ∷ ‵ (fdies (sliceTy (shrTy (named 0) R)) l₁) ∷ ‵ (froom St′.mir l₀ 0) ∷ ‵ (fdies St′.mir l₀) ∷ [])
 
     abbrev Turns : Type 0
-    Turns = Turn ys searched s values sizes costs conditions effects
+    Turns = Turn ys searched s here costs moves
 
     abbrev I : Turns → List (Item 𝓤)
     I t = At (t .step)
@@ -228,38 +228,36 @@ module _ {M : Type 1} (𝓤 : URA M) (H : Heap 𝓤) (A : Atoms 𝓤) (W : Given
         -- the entry where the step leads
         use1 W (‵ (ShrSlice (named 0) κ₀ R .own (ref b₀ o₀ γ₀ ys) (sv ∷ [])) ⊛ ‵ (ShrSlice (named 0) κ₀ R .own (ref b₀ o₀ γ₀ ys) (sv ∷ []))) (shr-slice-copy 𝓤 H A W (named 0) κ₀ R .twice (ref b₀ o₀ γ₀ ys) (sv ∷ [])) $ split ! $
         move ! (2 ∷ 1 ∷ []) $ use2 W (raw (Get 𝓤 H A at-mem run .pre (to-get (t .step .next)))) (goes-get (t .step .next) next-fits) $
-        calls-at ! fm (Get 𝓤 H A at-mem run) k-get (to-get (t .step .next)) (and-then ! (load ! (from ! (stop !)) (look ! 34 refl)) (and-then ! (load ! (from ! (fld ! refl (stop !))) (look-in ! 16 (sub ! 1 refl (whole !)))) (no-more !))) (λ w₁.
+        calls-at ! fm (Get 𝓤 H A at-mem run) k-get (to-get (t .step .next)) (and-then ! (load ! (from ! (stop !)) (look ! 26 refl)) (and-then ! (load ! (from ! (fld ! refl (stop !))) (look-in ! 12 (sub ! 1 refl (whole !)))) (no-more !))) (λ w₁.
         use1 W (later (some (λ (y : Entry). ((‵ (flft κ₀ q₀) ⊛ ‵ ftrue) ⊛ ‵ (R .own y (w₁ ∷ []))) ⊛ raw (ensured 𝓤 H A g.ended (g.clauses 𝓤 H A at-mem run) (κ₀, tt) (get-args (t .step .next)) tt y)))) (id⊢ 𝓤 _) $ await ! tt $ pick ! (λ r₁. split ! $ move ! (1 ∷ []) $
         use1 W (some (λ (zs₁ : Unit {0} × (Unit {0} × Unit {0})). ‵ (lasts g.ended (κ₀, tt) (get-args (t .step .next)) zs₁) ⊛ raw (fact 𝓤 (r₁ ≡ looked (t .step .next))))) (id⊢ 𝓤 _) $ pick ! (λ zs₁. split ! $ move ! (1 ∷ []) $ heard ! (r₁ ≡ looked (t .step .next)) (λ is₁. drop ! $ split ! $ split ! $ move ! (1 ∷ []) $ drop ! $ move ! (1 ∷ []) $
         rewrite ! 0 (λ (r : Entry). ‵ (R .own r (w₁ ∷ []))) is₁ refl $ peeks ! R (Is R) (shows 𝓤 H A R) (looked (t .step .next)) (w₁ ∷ []) (λ known₁.
-        land ! (from ! (stop !)) (init ! 13 refl (LL.lawful T₀.the-type T′.the-laws 𝓤 H A W .typed (looked (t .step .next)) (w₁ ∷ []) known₁ .0)) $ rewrite ! 13 (λ (u : Val). ‵ (fat fullShare T′.mir l₁₂ 0 u)) (ap only (tells (looked (t .step .next)) (w₁ ∷ []) known₁)) refl $ drop ! $
+        land ! (from ! (stop !)) (init ! 9 refl (LL.lawful T₀.the-type T′.the-laws 𝓤 H A W .typed (looked (t .step .next)) (w₁ ∷ []) known₁ .0)) $ rewrite ! 9 (λ (u : Val). ‵ (fat fullShare T′.mir l₁₀ 0 u)) (ap only (tells (looked (t .step .next)) (w₁ ∷ []) known₁)) refl $ drop ! $
         -- whether a later action is to be looked at
-        move ! (6 ∷ []) $ use1 W (‵ (ShrRef (named 3) κ₃ Costs .own (ref b₃ o₃ γ₃ costs) (vptr b₃ o₃ ∷ [])) ⊛ ‵ (ShrRef (named 3) κ₃ Costs .own (ref b₃ o₃ γ₃ costs) (vptr b₃ o₃ ∷ []))) (shr-copy 𝓤 H A W (named 3) κ₃ Costs .twice (ref b₃ o₃ γ₃ costs) (vptr b₃ o₃ ∷ [])) $ split ! $
-        move ! (8 ∷ 1 ∷ []) $ use2 W (raw (Looks 𝓤 H A at-mem run .pre (to-looks (t .step)))) (goes-looks (t .step) (t .fits) (subst (Is R (looked (t .step .next))) (tells (looked (t .step .next)) (w₁ ∷ []) known₁) known₁) mine (led-compare looked searched s values sizes costs conditions effects can (t .step) (t .led))) $
-        calls-at ! fm (Looks 𝓤 H A at-mem run) k-looks (to-looks (t .step)) (and-then ! (load ! (from ! (stop !)) (look ! 32 refl)) (and-then ! (load ! (from ! (stop !)) (look ! 16 refl)) (and-then ! (load ! (from ! (stop !)) (look ! 12 refl)) (and-then ! (load ! (from ! (stop !)) (look ! 24 refl)) (and-then ! (load ! (from ! (stop !)) (look ! 18 refl)) (no-more !)))))) (λ w₂.
-        use1 W (later (some (λ (y : Bool). ((‵ (flft κ₃ q₃) ⊛ ‵ ftrue) ⊛ ‵ (Boolean .own y (w₂ ∷ []))) ⊛ raw (ensured 𝓤 H A h.ended (h.clauses 𝓤 H A at-mem run) (κ₃, tt) (looks-args (t .step)) tt y)))) (id⊢ 𝓤 _) $ await ! tt $ pick ! (λ r₂. split ! $ move ! (1 ∷ []) $
-        use1 W (some (λ (zs₂ : (Unit {0} × (Unit {0} × (Unit {0} × (Unit {0} × (Unit {0} × Unit {0})))))). ‵ (lasts h.ended (κ₃, tt) (looks-args (t .step)) zs₂) ⊛ raw (fact 𝓤 (LooksOn searched (t .step) (looked (t .step .next)) costs (looked s) r₂)))) (id⊢ 𝓤 _) $ pick ! (λ zs₂. split ! $ move ! (1 ∷ []) $ heard ! (LooksOn searched (t .step) (looked (t .step .next)) costs (looked s) r₂) (λ looks. drop ! $ split ! $ split ! $ move ! (1 ∷ []) $ drop ! $ move ! (1 ∷ []) $ peeks ! Boolean (Is Boolean) (shows 𝓤 H A Boolean) r₂ (w₂ ∷ []) (λ known₂.
-        land ! (from ! (stop !)) (init ! 15 refl (bool-lawful 𝓤 H A W .typed r₂ (w₂ ∷ []) known₂ .0)) $ rewrite ! 15 (λ (u : Val). ‵ (fat fullShare tyBool l₁₁ 0 u)) (ap only (bool-tells r₂ (w₂ ∷ []) known₂)) refl $ drop ! $
-        tests ! r₂ (load ! (from ! (stop !)) (look ! 14 refl))
+        move ! (4 ∷ []) $ use1 W (‵ (ShrRef (named 2) κ₂ Costs .own (ref b₂ o₂ γ₂ costs) (vptr b₂ o₂ ∷ [])) ⊛ ‵ (ShrRef (named 2) κ₂ Costs .own (ref b₂ o₂ γ₂ costs) (vptr b₂ o₂ ∷ []))) (shr-copy 𝓤 H A W (named 2) κ₂ Costs .twice (ref b₂ o₂ γ₂ costs) (vptr b₂ o₂ ∷ [])) $ split ! $
+        move ! (6 ∷ 1 ∷ []) $ use2 W (raw (Looks 𝓤 H A at-mem run .pre (to-looks (t .step)))) (goes-looks (t .step) (t .fits) (subst (Is R (looked (t .step .next))) (tells (looked (t .step .next)) (w₁ ∷ []) known₁) known₁) mine (led-compare looked searched s here costs moves can (t .step) (t .led))) $
+        calls-at ! fm (Looks 𝓤 H A at-mem run) k-looks (to-looks (t .step)) (and-then ! (load ! (from ! (stop !)) (look ! 24 refl)) (and-then ! (load ! (from ! (stop !)) (look ! 12 refl)) (and-then ! (load ! (from ! (stop !)) (look ! 8 refl)) (and-then ! (load ! (from ! (stop !)) (look ! 18 refl)) (and-then ! (load ! (from ! (stop !)) (look ! 14 refl)) (no-more !)))))) (λ w₂.
+        use1 W (later (some (λ (y : Bool). ((‵ (flft κ₂ q₂) ⊛ ‵ ftrue) ⊛ ‵ (Boolean .own y (w₂ ∷ []))) ⊛ raw (ensured 𝓤 H A h.ended (h.clauses 𝓤 H A at-mem run) (κ₂, tt) (looks-args (t .step)) tt y)))) (id⊢ 𝓤 _) $ await ! tt $ pick ! (λ r₂. split ! $ move ! (1 ∷ []) $
+        use1 W (some (λ (zs₂ : (Unit {0} × (Unit {0} × (Unit {0} × (Unit {0} × (Unit {0} × Unit {0})))))). ‵ (lasts h.ended (κ₂, tt) (looks-args (t .step)) zs₂) ⊛ raw (fact 𝓤 (LooksOn searched (t .step) (looked (t .step .next)) costs (looked s) r₂)))) (id⊢ 𝓤 _) $ pick ! (λ zs₂. split ! $ move ! (1 ∷ []) $ heard ! (LooksOn searched (t .step) (looked (t .step .next)) costs (looked s) r₂) (λ looks. drop ! $ split ! $ split ! $ move ! (1 ∷ []) $ drop ! $ move ! (1 ∷ []) $ peeks ! Boolean (Is Boolean) (shows 𝓤 H A Boolean) r₂ (w₂ ∷ []) (λ known₂.
+        land ! (from ! (stop !)) (init ! 11 refl (bool-lawful 𝓤 H A W .typed r₂ (w₂ ∷ []) known₂ .0)) $ rewrite ! 11 (λ (u : Val). ‵ (fat fullShare tyBool l₉ 0 u)) (ap only (bool-tells r₂ (w₂ ∷ []) known₂)) refl $ drop ! $
+        tests ! r₂ (load ! (from ! (stop !)) (look ! 10 refl))
         (λ goes.
         -- the next step
-        move ! (4 ∷ []) $ use1 W (‵ (ShrRef (named 1) κ₁ Values .own (ref b₁ o₁ γ₁ values) (vptr b₁ o₁ ∷ [])) ⊛ ‵ (ShrRef (named 1) κ₁ Values .own (ref b₁ o₁ γ₁ values) (vptr b₁ o₁ ∷ []))) (shr-copy 𝓤 H A W (named 1) κ₁ Values .twice (ref b₁ o₁ γ₁ values) (vptr b₁ o₁ ∷ [])) $ split ! $
-        move ! (7 ∷ []) $ use1 W (‵ (ShrRef (named 2) κ₂ Sizes .own (ref b₂ o₂ γ₂ sizes) (vptr b₂ o₂ ∷ [])) ⊛ ‵ (ShrRef (named 2) κ₂ Sizes .own (ref b₂ o₂ γ₂ sizes) (vptr b₂ o₂ ∷ []))) (shr-copy 𝓤 H A W (named 2) κ₂ Sizes .twice (ref b₂ o₂ γ₂ sizes) (vptr b₂ o₂ ∷ [])) $ split ! $
-        move ! (10 ∷ []) $ use1 W (‵ (ShrRef (named 4) κ₄ Rows .own (ref b₄ o₄ γ₄ conditions) (vptr b₄ o₄ ∷ [])) ⊛ ‵ (ShrRef (named 4) κ₄ Rows .own (ref b₄ o₄ γ₄ conditions) (vptr b₄ o₄ ∷ []))) (shr-copy 𝓤 H A W (named 4) κ₄ Rows .twice (ref b₄ o₄ γ₄ conditions) (vptr b₄ o₄ ∷ [])) $ split ! $
-        move ! (13 ∷ []) $ use1 W (‵ (ShrRef (named 5) κ₅ Rows .own (ref b₅ o₅ γ₅ effects) (vptr b₅ o₅ ∷ [])) ⊛ ‵ (ShrRef (named 5) κ₅ Rows .own (ref b₅ o₅ γ₅ effects) (vptr b₅ o₅ ∷ []))) (shr-copy 𝓤 H A W (named 5) κ₅ Rows .twice (ref b₅ o₅ γ₅ effects) (vptr b₅ o₅ ∷ [])) $ split ! $
-        move ! (12 ∷ 13 ∷ 14 ∷ 15 ∷ 7 ∷ 5 ∷ 3 ∷ 1 ∷ []) $ cut Seen (raw (After 𝓤 H A at-mem run .pre (to-after (t .step))) ∷ []) _ (goes-after (t .step) (t .fits) (led-more looked searched s values sizes costs conditions effects can (t .step) (t .led) r₂ looks goes)) $
-        calls-at-last ! fm (After 𝓤 H A at-mem run) k-after (to-after (t .step)) (and-then ! (load ! (from ! (stop !)) (look ! 29 refl)) (and-then ! (load ! (from ! (stop !)) (look ! 13 refl)) (and-then ! (load ! (from ! (stop !)) (look ! 27 refl)) (and-then ! (load ! (from ! (stop !)) (look ! 25 refl)) (and-then ! (load ! (from ! (stop !)) (look ! 23 refl)) (and-then ! (load ! (from ! (stop !)) (look ! 19 refl)) (and-then ! (load ! (from ! (stop !)) (look ! 17 refl)) (no-more !)))))))) (λ w₃.
-        use1 W (later (some (λ (y : Step). ((‵ (flft κ₁ q₁) ⊛ ‵ (flft κ₂ q₂) ⊛ ‵ (flft κ₄ q₄) ⊛ ‵ (flft κ₅ q₅) ⊛ ‵ ftrue) ⊛ ‵ (St .own y (w₃ ∷ []))) ⊛ raw (ensured 𝓤 H A z.ended (z.clauses 𝓤 H A at-mem run) (κ₁, (κ₂, (κ₄, (κ₅, tt)))) (after-args (t .step)) tt y)))) (id⊢ 𝓤 _) $ await ! tt $ pick ! (λ r₃. split ! $ move ! (1 ∷ []) $
-        use1 W (some (λ (zs₃ : (Unit {0} × (Unit {0} × (Unit {0} × (Unit {0} × (Unit {0} × (Unit {0} × (Unit {0} × Unit {0})))))))). ‵ (lasts z.ended (κ₁, (κ₂, (κ₄, (κ₅, tt)))) (after-args (t .step)) zs₃) ⊛ raw (fact 𝓤 (StepFrom searched (t .step .action .0 + 1) s sizes conditions effects r₃)))) (id⊢ 𝓤 _) $ pick ! (λ zs₃. split ! $ move ! (1 ∷ []) $ heard ! (StepFrom searched (t .step .action .0 + 1) s sizes conditions effects r₃) (λ is₃. drop ! $ split ! $ split ! $ move ! (1 ∷ []) $ split ! $ move ! (1 ∷ []) $ split ! $ move ! (1 ∷ []) $ split ! $ move ! (1 ∷ []) $ drop ! $ move ! (4 ∷ []) $ peeks ! St (Is St) (shows 𝓤 H A St) r₃ (w₃ ∷ []) (λ known₃.
-        land-last ! (from ! (stop !)) (store ! 17 refl (LL.lawful St₀.the-type St′.the-laws 𝓤 H A W .typed r₃ (w₃ ∷ []) known₃ .0)) $ rewrite ! 17 (λ (u : Val). ‵ (fat fullShare St′.mir l₁₀ 0 u)) (ap only (step-tells r₃ (w₃ ∷ []) known₃)) refl $ drop ! $
-        move ! (11 ∷ 10 ∷ 7 ∷ 3 ∷ 6 ∷ 2 ∷ 9 ∷ 8 ∷ 5 ∷ 1 ∷ 4 ∷ 0 ∷ []) $ forget ! 14 refl $ forget ! 12 refl $
-        again ! ≺ I t (record { step = r₃; fits = subst (Is St r₃) (step-tells r₃ (w₃ ∷ []) known₃) known₃; led = led-next looked searched s values sizes costs conditions effects can (t .step) (t .led) r₂ looks goes r₃ is₃ }) (led-fewer looked searched s values sizes costs conditions effects can (t .step) (t .led) r₃ is₃)))))))
+        move ! (4 ∷ []) $ use1 W (‵ (ShrRef (named 1) κ₁ Here .own (ref b₁ o₁ γ₁ here) (vptr b₁ o₁ ∷ [])) ⊛ ‵ (ShrRef (named 1) κ₁ Here .own (ref b₁ o₁ γ₁ here) (vptr b₁ o₁ ∷ []))) (shr-copy 𝓤 H A W (named 1) κ₁ Here .twice (ref b₁ o₁ γ₁ here) (vptr b₁ o₁ ∷ [])) $ split ! $
+        move ! (7 ∷ []) $ use1 W (‵ (ShrRef (named 3) κ₃ Moves .own (ref b₃ o₃ γ₃ moves) (vptr b₃ o₃ ∷ [])) ⊛ ‵ (ShrRef (named 3) κ₃ Moves .own (ref b₃ o₃ γ₃ moves) (vptr b₃ o₃ ∷ []))) (shr-copy 𝓤 H A W (named 3) κ₃ Moves .twice (ref b₃ o₃ γ₃ moves) (vptr b₃ o₃ ∷ [])) $ split ! $
+        move ! (8 ∷ 9 ∷ 3 ∷ 1 ∷ []) $ cut Seen (raw (After 𝓤 H A at-mem run .pre (to-after (t .step))) ∷ []) _ (goes-after (t .step) (t .fits) (led-more looked searched s here costs moves can (t .step) (t .led) r₂ looks goes)) $
+        calls-at-last ! fm (After 𝓤 H A at-mem run) k-after (to-after (t .step)) (and-then ! (load ! (from ! (stop !)) (look ! 23 refl)) (and-then ! (load ! (from ! (stop !)) (look ! 11 refl)) (and-then ! (load ! (from ! (stop !)) (look ! 21 refl)) (and-then ! (load ! (from ! (stop !)) (look ! 19 refl)) (and-then ! (load ! (from ! (stop !)) (look ! 15 refl)) (no-more !)))))) (λ w₃.
+        use1 W (later (some (λ (y : Step). ((‵ (flft κ₁ q₁) ⊛ ‵ (flft κ₃ q₃) ⊛ ‵ ftrue) ⊛ ‵ (St .own y (w₃ ∷ []))) ⊛ raw (ensured 𝓤 H A z.ended (z.clauses 𝓤 H A at-mem run) (κ₁, (κ₃, tt)) (after-args (t .step)) tt y)))) (id⊢ 𝓤 _) $ await ! tt $ pick ! (λ r₃. split ! $ move ! (1 ∷ []) $
+        use1 W (some (λ (zs₃ : (Unit {0} × (Unit {0} × (Unit {0} × (Unit {0} × (Unit {0} × Unit {0})))))). ‵ (lasts z.ended (κ₁, (κ₃, tt)) (after-args (t .step)) zs₃) ⊛ raw (fact 𝓤 (StepFrom searched (t .step .action .0 + 1) s here moves r₃)))) (id⊢ 𝓤 _) $ pick ! (λ zs₃. split ! $ move ! (1 ∷ []) $ heard ! (StepFrom searched (t .step .action .0 + 1) s here moves r₃) (λ is₃. drop ! $ split ! $ split ! $ move ! (1 ∷ []) $ split ! $ move ! (1 ∷ []) $ drop ! $ move ! (2 ∷ []) $ peeks ! St (Is St) (shows 𝓤 H A St) r₃ (w₃ ∷ []) (λ known₃.
+        land-last ! (from ! (stop !)) (store ! 13 refl (LL.lawful St₀.the-type St′.the-laws 𝓤 H A W .typed r₃ (w₃ ∷ []) known₃ .0)) $ rewrite ! 13 (λ (u : Val). ‵ (fat fullShare St′.mir l₈ 0 u)) (ap only (step-tells r₃ (w₃ ∷ []) known₃)) refl $ drop ! $
+        move ! (7 ∷ 6 ∷ 3 ∷ 1 ∷ 5 ∷ 4 ∷ 2 ∷ 0 ∷ []) $ forget ! 10 refl $ forget ! 8 refl $
+        again ! ≺ I t (record { step = r₃; fits = subst (Is St r₃) (step-tells r₃ (w₃ ∷ []) known₃) known₃; led = led-next looked searched s here costs moves can (t .step) (t .led) r₂ looks goes r₃ is₃ }) (led-fewer looked searched s here costs moves can (t .step) (t .led) r₃ is₃)))))))
         (λ ends.
-        move ! (3 ∷ 2 ∷ 4 ∷ 5 ∷ 6 ∷ 7 ∷ 1 ∷ 0 ∷ 8 ∷ 9 ∷ 10 ∷ 11 ∷ []) $ exec ! C Λ En code-mir.t-4 (atRet En Post) $
-        assigns ! (of-opd ! (load ! (from ! (stop !)) (look ! 16 refl))) (from ! (stop !)) (init ! 36 refl (LL.lawful St₀.the-type St′.the-laws 𝓤 H A W .typed (t .step) (step-vals (t .step)) (t .fits) .0)) $
-        returns ! (look ! 36 refl) $ forget ! 36 refl $ forget ! 34 refl $ forget ! 32 refl $ forget ! 30 refl $ forget ! 28 refl $ forget ! 26 refl $ forget ! 24 refl $ forget ! 22 refl $ forget ! 20 refl $ forget ! 18 refl $ forget ! 16 refl $ forget ! 14 refl $ forget ! 12 refl $
-        move ! (36 ∷ 37 ∷ []) $ free1 ! $ move ! (34 ∷ 35 ∷ []) $ free1 ! $ move ! (32 ∷ 33 ∷ []) $ free1 ! $ move ! (30 ∷ 31 ∷ []) $ free1 ! $ move ! (28 ∷ 29 ∷ []) $ free1 ! $ move ! (26 ∷ 27 ∷ []) $ free1 ! $ move ! (24 ∷ 25 ∷ []) $ free1 ! $ move ! (22 ∷ 23 ∷ []) $ free1 ! $ move ! (20 ∷ 21 ∷ []) $ free1 ! $ move ! (18 ∷ 19 ∷ []) $ free1 ! $ move ! (16 ∷ 17 ∷ []) $ free1 ! $ move ! (14 ∷ 15 ∷ []) $ free1 ! $ move ! (12 ∷ 13 ∷ []) $ free1 ! $ free0 ! $
-        by ! (exits (t .step) (t .fits) (led-stop looked searched s values sizes costs conditions effects can (t .step) (t .led) r₂ looks ends)))))))))))))
+        move ! (3 ∷ 2 ∷ 4 ∷ 5 ∷ 1 ∷ 0 ∷ 6 ∷ 7 ∷ []) $ exec ! C Λ En code-mir.t-4 (atRet En Post) $
+        assigns ! (of-opd ! (load ! (from ! (stop !)) (look ! 12 refl))) (from ! (stop !)) (init ! 28 refl (LL.lawful St₀.the-type St′.the-laws 𝓤 H A W .typed (t .step) (step-vals (t .step)) (t .fits) .0)) $
+        returns ! (look ! 28 refl) $ forget ! 28 refl $ forget ! 26 refl $ forget ! 24 refl $ forget ! 22 refl $ forget ! 20 refl $ forget ! 18 refl $ forget ! 16 refl $ forget ! 14 refl $ forget ! 12 refl $ forget ! 10 refl $ forget ! 8 refl $
+        move ! (28 ∷ 29 ∷ []) $ free1 ! $ move ! (26 ∷ 27 ∷ []) $ free1 ! $ move ! (24 ∷ 25 ∷ []) $ free1 ! $ move ! (22 ∷ 23 ∷ []) $ free1 ! $ move ! (20 ∷ 21 ∷ []) $ free1 ! $ move ! (18 ∷ 19 ∷ []) $ free1 ! $ move ! (16 ∷ 17 ∷ []) $ free1 ! $ move ! (14 ∷ 15 ∷ []) $ free1 ! $ move ! (12 ∷ 13 ∷ []) $ free1 ! $ move ! (10 ∷ 11 ∷ []) $ free1 ! $ move ! (8 ∷ 9 ∷ []) $ free1 ! $ free0 ! $
+        by ! (exits (t .step) (t .fits) (led-stop looked searched s here costs moves can (t .step) (t .led) r₂ looks ends)))))))))))))
       where
         next-fits : t .step .next < 2 ^ 64
         next-fits = LL.owed St₀.the-type St′.the-laws (t .step) (step-vals (t .step)) (t .fits) .1 .0 .1
@@ -268,49 +266,47 @@ module _ {M : Type 1} (𝓤 : URA M) (H : Heap 𝓤) (A : Atoms 𝓤) (W : Given
     runs-loop t = first ! $ blocks ! $ loops ! 𝓣 ≺ (InvImage·wf behind (Nat·lt-wfRel .wf)) I turn t
 
   walk : (𝓣 : Tables 𝓤 H) → FmC 𝓤 H (W .laws) (𝓣 .C) → Triple 𝓤 (𝓣 .C #search·work-table·entry-at) (Get 𝓤 H A at-mem run) → Triple 𝓤 (𝓣 .C #search·first-plan·step-from) (From 𝓤 H A at-mem run) → Triple 𝓤 (𝓣 .C #search·first-plan·looks-on) (Looks 𝓤 H A at-mem run) → Triple 𝓤 (𝓣 .C #search·first-plan·step-after) (After 𝓤 H A at-mem run)
-      → ent 𝓤 (onEntry 𝓤 H A f.signature (κ₀, (κ₁, (κ₂, (κ₃, (κ₄, (κ₅, tt)))))) (q₀, (q₁, (q₂, (q₃, (q₄, (q₅, tt)))))) a at) (WpFn 𝓤 H (𝓣 .C) (𝓣 .Λ) code.function (sv ∷ S′.lowered searched ∷ vint w64 s ∷ vptr b₁ o₁ ∷ vptr b₂ o₂ ∷ vptr b₃ o₃ ∷ vptr b₄ o₄ ∷ vptr b₅ o₅ ∷ []) Post)
+      → ent 𝓤 (onEntry 𝓤 H A f.signature (κ₀, (κ₁, (κ₂, (κ₃, tt)))) (q₀, (q₁, (q₂, (q₃, tt)))) a at) (WpFn 𝓤 H (𝓣 .C) (𝓣 .Λ) code.function (sv ∷ S′.lowered searched ∷ vint w64 s ∷ vptr b₁ o₁ ∷ vptr b₂ o₂ ∷ vptr b₃ o₃ ∷ []) Post)
   walk 𝓣 fm k-get k-from k-looks k-after =
-      qed W ((‵ (flft κ₀ q₀) ⊛ ‵ (flft κ₁ q₁) ⊛ ‵ (flft κ₂ q₂) ⊛ ‵ (flft κ₃ q₃) ⊛ ‵ (flft κ₄ q₄) ⊛ ‵ (flft κ₅ q₅) ⊛ ‵ ftrue)
-      ∷ ‵ (owns (ShrSlice (named 0) κ₀ R ∷ S ∷ usize ∷ ShrRef (named 1) κ₁ Values ∷ ShrRef (named 2) κ₂ Sizes ∷ ShrRef (named 3) κ₃ Costs ∷ ShrRef (named 4) κ₄ Rows ∷ ShrRef (named 5) κ₅ Rows ∷ []) a at) ∷ []) ∵
-      enter ! (𝓣 .C) (𝓣 .Λ) code.function (sv ∷ S′.lowered searched ∷ vint w64 s ∷ vptr b₁ o₁ ∷ vptr b₂ o₂ ∷ vptr b₃ o₃ ∷ vptr b₄ o₄ ∷ vptr b₅ o₅ ∷ []) _ $
-      alloc1 ! (λ l₀. alloc1 ! (λ l₁. alloc1 ! (λ l₂. alloc1 ! (λ l₃. alloc1 ! (λ l₄. alloc1 ! (λ l₅. alloc1 ! (λ l₆. alloc1 ! (λ l₇. alloc1 ! (λ l₈. alloc1 ! (λ l₉. alloc1 ! (λ l₁₀. alloc1 ! (λ l₁₁. alloc1 ! (λ l₁₂. alloc0 ! $ params1 ! $
-      pass1 ! (init ! 22 refl (tt, (tt, (record { fits = gn .0 }, tt)))) $ pass1 ! (init ! 20 refl (LL.lawful S₀.the-type S′.the-laws 𝓤 H A W .typed searched (searched-vals searched) gz .0)) $ pass1 ! (init ! 18 refl (tt, record { fits = gs })) $ pass1 ! (init ! 16 refl (tt, tt)) $ pass1 ! (init ! 14 refl (tt, tt)) $ pass1 ! (init ! 12 refl (tt, tt)) $ pass1 ! (init ! 10 refl (tt, tt)) $ pass1 ! (init ! 8 refl (tt, tt)) $ pass0 ! $
-      move ! (27 ∷ []) $ fsplit ! $ move ! (1 ∷ []) $ fsplit ! $ drop ! $ fsplit ! $ drop ! $ fsplit ! $ move ! (1 ∷ []) $ fsplit ! $ move ! (1 ∷ []) $ fsplit ! $ move ! (1 ∷ []) $ fsplit ! $ move ! (1 ∷ []) $ fsplit ! $ move ! (1 ∷ []) $ drop ! $ move ! (32 ∷ []) $ split ! $ move ! (1 ∷ []) $ split ! $ move ! (1 ∷ []) $ split ! $ move ! (1 ∷ []) $ split ! $ move ! (1 ∷ []) $ split ! $ move ! (1 ∷ []) $ split ! $ move ! (1 ∷ []) $ drop ! $
+      qed W ((‵ (flft κ₀ q₀) ⊛ ‵ (flft κ₁ q₁) ⊛ ‵ (flft κ₂ q₂) ⊛ ‵ (flft κ₃ q₃) ⊛ ‵ ftrue)
+      ∷ ‵ (owns (ShrSlice (named 0) κ₀ R ∷ S ∷ usize ∷ ShrRef (named 1) κ₁ Here ∷ ShrRef (named 2) κ₂ Costs ∷ ShrRef (named 3) κ₃ Moves ∷ []) a at) ∷ []) ∵
+      enter ! (𝓣 .C) (𝓣 .Λ) code.function (sv ∷ S′.lowered searched ∷ vint w64 s ∷ vptr b₁ o₁ ∷ vptr b₂ o₂ ∷ vptr b₃ o₃ ∷ []) _ $
+      alloc1 ! (λ l₀. alloc1 ! (λ l₁. alloc1 ! (λ l₂. alloc1 ! (λ l₃. alloc1 ! (λ l₄. alloc1 ! (λ l₅. alloc1 ! (λ l₆. alloc1 ! (λ l₇. alloc1 ! (λ l₈. alloc1 ! (λ l₉. alloc1 ! (λ l₁₀. alloc0 ! $ params1 ! $
+      pass1 ! (init ! 18 refl (tt, (tt, (record { fits = gn .0 }, tt)))) $ pass1 ! (init ! 16 refl (LL.lawful S₀.the-type S′.the-laws 𝓤 H A W .typed searched (searched-vals searched) gz .0)) $ pass1 ! (init ! 14 refl (tt, record { fits = gs })) $ pass1 ! (init ! 12 refl (tt, tt)) $ pass1 ! (init ! 10 refl (tt, tt)) $ pass1 ! (init ! 8 refl (tt, tt)) $ pass0 ! $
+      move ! (23 ∷ []) $ fsplit ! $ move ! (1 ∷ []) $ fsplit ! $ drop ! $ fsplit ! $ drop ! $ fsplit ! $ move ! (1 ∷ []) $ fsplit ! $ move ! (1 ∷ []) $ fsplit ! $ move ! (1 ∷ []) $ drop ! $ move ! (26 ∷ []) $ split ! $ move ! (1 ∷ []) $ split ! $ move ! (1 ∷ []) $ split ! $ move ! (1 ∷ []) $ split ! $ move ! (1 ∷ []) $ drop ! $
       -- the state's own entry: a shared reference is passed on by a copy
-      move ! (11 ∷ []) $ use1 W (‵ (ShrSlice (named 0) κ₀ R .own (ref b₀ o₀ γ₀ ys) (sv ∷ [])) ⊛ ‵ (ShrSlice (named 0) κ₀ R .own (ref b₀ o₀ γ₀ ys) (sv ∷ []))) (shr-slice-copy 𝓤 H A W (named 0) κ₀ R .twice (ref b₀ o₀ γ₀ ys) (sv ∷ [])) $ split ! $
-      move ! (7 ∷ 1 ∷ []) $ use2 W (raw (Get 𝓤 H A at-mem run .pre (to-get s))) (goes-get s gs) $
-      calls-at ! fm (Get 𝓤 H A at-mem run) k-get (to-get s) (and-then ! (load ! (from ! (stop !)) (look ! 34 refl)) (and-then ! (load ! (from ! (stop !)) (look ! 30 refl)) (no-more !))) (λ w₁.
+      move ! (7 ∷ []) $ use1 W (‵ (ShrSlice (named 0) κ₀ R .own (ref b₀ o₀ γ₀ ys) (sv ∷ [])) ⊛ ‵ (ShrSlice (named 0) κ₀ R .own (ref b₀ o₀ γ₀ ys) (sv ∷ []))) (shr-slice-copy 𝓤 H A W (named 0) κ₀ R .twice (ref b₀ o₀ γ₀ ys) (sv ∷ [])) $ split ! $
+      move ! (5 ∷ 1 ∷ []) $ use2 W (raw (Get 𝓤 H A at-mem run .pre (to-get s))) (goes-get s gs) $
+      calls-at ! fm (Get 𝓤 H A at-mem run) k-get (to-get s) (and-then ! (load ! (from ! (stop !)) (look ! 26 refl)) (and-then ! (load ! (from ! (stop !)) (look ! 22 refl)) (no-more !))) (λ w₁.
       use1 W (later (some (λ (y : Entry). ((‵ (flft κ₀ q₀) ⊛ ‵ ftrue) ⊛ ‵ (R .own y (w₁ ∷ []))) ⊛ raw (ensured 𝓤 H A g.ended (g.clauses 𝓤 H A at-mem run) (κ₀, tt) (get-args s) tt y)))) (id⊢ 𝓤 _) $ await ! tt $ pick ! (λ r₁. split ! $ move ! (1 ∷ []) $
       use1 W (some (λ (zs₁ : Unit {0} × (Unit {0} × Unit {0})). ‵ (lasts g.ended (κ₀, tt) (get-args s) zs₁) ⊛ raw (fact 𝓤 (r₁ ≡ looked s)))) (id⊢ 𝓤 _) $ pick ! (λ zs₁. split ! $ move ! (1 ∷ []) $ heard ! (r₁ ≡ looked s) (λ is₁. drop ! $ split ! $ split ! $ move ! (1 ∷ []) $ drop ! $ move ! (1 ∷ []) $
       rewrite ! 0 (λ (r : Entry). ‵ (R .own r (w₁ ∷ []))) is₁ refl $ peeks ! R (Is R) (shows 𝓤 H A R) (looked s) (w₁ ∷ []) (λ known₁.
-      land ! (from ! (stop !)) (init ! 19 refl (LL.lawful T₀.the-type T′.the-laws 𝓤 H A W .typed (looked s) (w₁ ∷ []) known₁ .0)) $ rewrite ! 19 (λ (u : Val). ‵ (fat fullShare T′.mir l₉ 0 u)) (ap only (tells (looked s) (w₁ ∷ []) known₁)) refl $ drop ! $
+      land ! (from ! (stop !)) (init ! 15 refl (LL.lawful T₀.the-type T′.the-laws 𝓤 H A W .typed (looked s) (w₁ ∷ []) known₁ .0)) $ rewrite ! 15 (λ (u : Val). ‵ (fat fullShare T′.mir l₇ 0 u)) (ap only (tells (looked s) (w₁ ∷ []) known₁)) refl $ drop ! $
       -- the first step
-      move ! (11 ∷ []) $ use1 W (‵ (ShrRef (named 1) κ₁ Values .own (ref b₁ o₁ γ₁ values) (vptr b₁ o₁ ∷ [])) ⊛ ‵ (ShrRef (named 1) κ₁ Values .own (ref b₁ o₁ γ₁ values) (vptr b₁ o₁ ∷ []))) (shr-copy 𝓤 H A W (named 1) κ₁ Values .twice (ref b₁ o₁ γ₁ values) (vptr b₁ o₁ ∷ [])) $ split ! $
-      move ! (12 ∷ []) $ use1 W (‵ (ShrRef (named 2) κ₂ Sizes .own (ref b₂ o₂ γ₂ sizes) (vptr b₂ o₂ ∷ [])) ⊛ ‵ (ShrRef (named 2) κ₂ Sizes .own (ref b₂ o₂ γ₂ sizes) (vptr b₂ o₂ ∷ []))) (shr-copy 𝓤 H A W (named 2) κ₂ Sizes .twice (ref b₂ o₂ γ₂ sizes) (vptr b₂ o₂ ∷ [])) $ split ! $
-      move ! (12 ∷ []) $ use1 W (‵ (ShrRef (named 4) κ₄ Rows .own (ref b₄ o₄ γ₄ conditions) (vptr b₄ o₄ ∷ [])) ⊛ ‵ (ShrRef (named 4) κ₄ Rows .own (ref b₄ o₄ γ₄ conditions) (vptr b₄ o₄ ∷ []))) (shr-copy 𝓤 H A W (named 4) κ₄ Rows .twice (ref b₄ o₄ γ₄ conditions) (vptr b₄ o₄ ∷ [])) $ split ! $
-      move ! (13 ∷ []) $ use1 W (‵ (ShrRef (named 5) κ₅ Rows .own (ref b₅ o₅ γ₅ effects) (vptr b₅ o₅ ∷ [])) ⊛ ‵ (ShrRef (named 5) κ₅ Rows .own (ref b₅ o₅ γ₅ effects) (vptr b₅ o₅ ∷ []))) (shr-copy 𝓤 H A W (named 5) κ₅ Rows .twice (ref b₅ o₅ γ₅ effects) (vptr b₅ o₅ ∷ [])) $ split ! $
-      move ! (14 ∷ 13 ∷ 11 ∷ 10 ∷ 7 ∷ 5 ∷ 3 ∷ 1 ∷ []) $ cut Seen (raw (From 𝓤 H A at-mem run .pre to-from) ∷ []) _ (goes-from (can-begin looked searched s values sizes costs conditions effects can)) $
-      calls-at ! fm (From 𝓤 H A at-mem run) k-from to-from (and-then ! (load ! (from ! (stop !)) (look ! 29 refl)) (and-then ! (lit ! tt) (and-then ! (load ! (from ! (stop !)) (look ! 27 refl)) (and-then ! (load ! (from ! (stop !)) (look ! 25 refl)) (and-then ! (load ! (from ! (stop !)) (look ! 23 refl)) (and-then ! (load ! (from ! (stop !)) (look ! 19 refl)) (and-then ! (load ! (from ! (stop !)) (look ! 17 refl)) (no-more !)))))))) (λ w₂.
-      use1 W (later (some (λ (y : Step). ((‵ (flft κ₁ q₁) ⊛ ‵ (flft κ₂ q₂) ⊛ ‵ (flft κ₄ q₄) ⊛ ‵ (flft κ₅ q₅) ⊛ ‵ ftrue) ⊛ ‵ (St .own y (w₂ ∷ []))) ⊛ raw (ensured 𝓤 H A x.ended (x.clauses 𝓤 H A at-mem run) (κ₁, (κ₂, (κ₄, (κ₅, tt)))) from-args tt y)))) (id⊢ 𝓤 _) $ await ! tt $ pick ! (λ r₂. split ! $ move ! (1 ∷ []) $
-      use1 W (some (λ (zs₂ : (Unit {0} × (Unit {0} × (Unit {0} × (Unit {0} × (Unit {0} × (Unit {0} × (Unit {0} × Unit {0})))))))). ‵ (lasts x.ended (κ₁, (κ₂, (κ₄, (κ₅, tt)))) from-args zs₂) ⊛ raw (fact 𝓤 (StepFrom searched 0 s sizes conditions effects r₂)))) (id⊢ 𝓤 _) $ pick ! (λ zs₂. split ! $ move ! (1 ∷ []) $ heard ! (StepFrom searched 0 s sizes conditions effects r₂) (λ is₂. drop ! $ split ! $ split ! $ move ! (1 ∷ []) $ split ! $ move ! (1 ∷ []) $ split ! $ move ! (1 ∷ []) $ split ! $ move ! (1 ∷ []) $ drop ! $ move ! (4 ∷ []) $ peeks ! St (Is St) (shows 𝓤 H A St) r₂ (w₂ ∷ []) (λ known₂.
-      land ! (from ! (stop !)) (init ! 17 refl (LL.lawful St₀.the-type St′.the-laws 𝓤 H A W .typed r₂ (w₂ ∷ []) known₂ .0)) $ rewrite ! 17 (λ (u : Val). ‵ (fat fullShare St′.mir l₁₀ 0 u)) (ap only (step-tells r₂ (w₂ ∷ []) known₂)) refl $ drop ! $
-      move ! (9 ∷ 8 ∷ 7 ∷ 3 ∷ 6 ∷ 2 ∷ 11 ∷ 10 ∷ 5 ∷ 1 ∷ 4 ∷ 0 ∷ []) $
-      runs-loop 𝓣 fm k-get k-looks k-after (subst (Is R (looked s)) (tells (looked s) (w₁ ∷ []) known₁) known₁) l₀ l₁ l₂ l₃ l₄ l₅ l₆ l₇ l₈ l₉ l₁₀ l₁₁ l₁₂ (record { step = r₂; fits = subst (Is St r₂) (step-tells r₂ (w₂ ∷ []) known₂) known₂; led = led-first looked searched s values sizes costs conditions effects can r₂ is₂ }))))))))))))))))))))))))
+      move ! (7 ∷ []) $ use1 W (‵ (ShrRef (named 1) κ₁ Here .own (ref b₁ o₁ γ₁ here) (vptr b₁ o₁ ∷ [])) ⊛ ‵ (ShrRef (named 1) κ₁ Here .own (ref b₁ o₁ γ₁ here) (vptr b₁ o₁ ∷ []))) (shr-copy 𝓤 H A W (named 1) κ₁ Here .twice (ref b₁ o₁ γ₁ here) (vptr b₁ o₁ ∷ [])) $ split ! $
+      move ! (7 ∷ []) $ use1 W (‵ (ShrRef (named 3) κ₃ Moves .own (ref b₃ o₃ γ₃ moves) (vptr b₃ o₃ ∷ [])) ⊛ ‵ (ShrRef (named 3) κ₃ Moves .own (ref b₃ o₃ γ₃ moves) (vptr b₃ o₃ ∷ []))) (shr-copy 𝓤 H A W (named 3) κ₃ Moves .twice (ref b₃ o₃ γ₃ moves) (vptr b₃ o₃ ∷ [])) $ split ! $
+      move ! (8 ∷ 6 ∷ 3 ∷ 1 ∷ []) $ cut Seen (raw (From 𝓤 H A at-mem run .pre to-from) ∷ []) _ (goes-from (can-begin looked searched s here costs moves can)) $
+      calls-at ! fm (From 𝓤 H A at-mem run) k-from to-from (and-then ! (load ! (from ! (stop !)) (look ! 23 refl)) (and-then ! (lit ! tt) (and-then ! (load ! (from ! (stop !)) (look ! 21 refl)) (and-then ! (load ! (from ! (stop !)) (look ! 19 refl)) (and-then ! (load ! (from ! (stop !)) (look ! 15 refl)) (no-more !)))))) (λ w₂.
+      use1 W (later (some (λ (y : Step). ((‵ (flft κ₁ q₁) ⊛ ‵ (flft κ₃ q₃) ⊛ ‵ ftrue) ⊛ ‵ (St .own y (w₂ ∷ []))) ⊛ raw (ensured 𝓤 H A x.ended (x.clauses 𝓤 H A at-mem run) (κ₁, (κ₃, tt)) from-args tt y)))) (id⊢ 𝓤 _) $ await ! tt $ pick ! (λ r₂. split ! $ move ! (1 ∷ []) $
+      use1 W (some (λ (zs₂ : (Unit {0} × (Unit {0} × (Unit {0} × (Unit {0} × (Unit {0} × Unit {0})))))). ‵ (lasts x.ended (κ₁, (κ₃, tt)) from-args zs₂) ⊛ raw (fact 𝓤 (StepFrom searched 0 s here moves r₂)))) (id⊢ 𝓤 _) $ pick ! (λ zs₂. split ! $ move ! (1 ∷ []) $ heard ! (StepFrom searched 0 s here moves r₂) (λ is₂. drop ! $ split ! $ split ! $ move ! (1 ∷ []) $ split ! $ move ! (1 ∷ []) $ drop ! $ move ! (2 ∷ []) $ peeks ! St (Is St) (shows 𝓤 H A St) r₂ (w₂ ∷ []) (λ known₂.
+      land ! (from ! (stop !)) (init ! 13 refl (LL.lawful St₀.the-type St′.the-laws 𝓤 H A W .typed r₂ (w₂ ∷ []) known₂ .0)) $ rewrite ! 13 (λ (u : Val). ‵ (fat fullShare St′.mir l₈ 0 u)) (ap only (step-tells r₂ (w₂ ∷ []) known₂)) refl $ drop ! $
+      move ! (5 ∷ 4 ∷ 3 ∷ 1 ∷ 7 ∷ 6 ∷ 2 ∷ 0 ∷ []) $
+      runs-loop 𝓣 fm k-get k-looks k-after (subst (Is R (looked s)) (tells (looked s) (w₁ ∷ []) known₁) known₁) l₀ l₁ l₂ l₃ l₄ l₅ l₆ l₇ l₈ l₉ l₁₀ (record { step = r₂; fits = subst (Is St r₂) (step-tells r₂ (w₂ ∷ []) known₂) known₂; led = led-first looked searched s here costs moves can r₂ is₂ }))))))))))))))))))))))
 
 module _ {M : Type 1} (𝓤 : URA M) (H : Heap 𝓤) (A : Atoms 𝓤) (W : Given 𝓤 H A) (mem : Memory → SProp 𝓤) (run : Routine → Fun 𝓤) where
   walks : (𝓣 : Tables 𝓤 H) → Triple 𝓤 (𝓣 .C #search·work-table·entry-at) (Get 𝓤 H A mem run) → Triple 𝓤 (𝓣 .C #search·first-plan·step-from) (From 𝓤 H A mem run) → Triple 𝓤 (𝓣 .C #search·first-plan·looks-on) (Looks 𝓤 H A mem run) → Triple 𝓤 (𝓣 .C #search·first-plan·step-after) (After 𝓤 H A mem run) →
       Walks 𝓤 H A f.ended stayed (WpFn 𝓤 H (𝓣 .C) (𝓣 .Λ) code.function) (f.clauses 𝓤 H A mem run)
-  walks 𝓣 k₁ k₂ k₃ k₄ = walked 𝓤 H A f.ended stayed (f.clauses 𝓤 H A mem run) (WpFn 𝓤 H (𝓣 .C) (𝓣 .Λ) code.function) (λ κs. (slice-vals, (searched-vals, (uint-vals w64, (ptr-vals, (ptr-vals, (ptr-vals, (ptr-vals, (ptr-vals, tt)))))))))
-      (λ κs. (shr-slice-tells (named 0) (κs .0) R, (searched-tells, (uint-tells w64, (shr-tells (named 1) (κs .1 .0) Values, (shr-tells (named 2) (κs .1 .1 .0) Sizes, (shr-tells (named 3) (κs .1 .1 .1 .0) Costs, (shr-tells (named 4) (κs .1 .1 .1 .1 .0) Rows, (shr-tells (named 5) (κs .1 .1 .1 .1 .1 .0) Rows, tt)))))))))
-      (λ κs qs bounds a y are. needs 𝓤 (CanLead (tableEntry (now (a .0))) (a .1 .0) (a .1 .1 .0) (now (a .1 .1 .1 .0)) (now (a .1 .1 .1 .1 .0)) (now (a .1 .1 .1 .1 .1 .0)) (now (a .1 .1 .1 .1 .1 .1 .0)) (now (a .1 .1 .1 .1 .1 .1 .1 .0))) _ (λ can.
-      walk 𝓤 H A W mem run (κs .0) (κs .1 .0) (κs .1 .1 .0) (κs .1 .1 .1 .0) (κs .1 .1 .1 .1 .0) (κs .1 .1 .1 .1 .1 .0) (qs .0) (qs .1 .0) (qs .1 .1 .0) (qs .1 .1 .1 .0) (qs .1 .1 .1 .1 .0) (qs .1 .1 .1 .1 .1 .0)
-      (a .0 .ptr .0) (a .0 .ptr .1) (a .0 .name) (a .0 .now) (a .1 .0) (a .1 .1 .0) (a .1 .1 .1 .0 .ptr .0) (a .1 .1 .1 .0 .ptr .1) (a .1 .1 .1 .0 .name) (a .1 .1 .1 .0 .now) (a .1 .1 .1 .1 .0 .ptr .0) (a .1 .1 .1 .1 .0 .ptr .1) (a .1 .1 .1 .1 .0 .name) (a .1 .1 .1 .1 .0 .now) (a .1 .1 .1 .1 .1 .0 .ptr .0) (a .1 .1 .1 .1 .1 .0 .ptr .1) (a .1 .1 .1 .1 .1 .0 .name) (a .1 .1 .1 .1 .1 .0 .now) (a .1 .1 .1 .1 .1 .1 .0 .ptr .0) (a .1 .1 .1 .1 .1 .1 .0 .ptr .1) (a .1 .1 .1 .1 .1 .1 .0 .name) (a .1 .1 .1 .1 .1 .1 .0 .now) (a .1 .1 .1 .1 .1 .1 .1 .0 .ptr .0) (a .1 .1 .1 .1 .1 .1 .1 .0 .ptr .1) (a .1 .1 .1 .1 .1 .1 .1 .0 .name) (a .1 .1 .1 .1 .1 .1 .1 .0 .now)
+  walks 𝓣 k₁ k₂ k₃ k₄ = walked 𝓤 H A f.ended stayed (f.clauses 𝓤 H A mem run) (WpFn 𝓤 H (𝓣 .C) (𝓣 .Λ) code.function) (λ κs. (slice-vals, (searched-vals, (uint-vals w64, (ptr-vals, (ptr-vals, (ptr-vals, tt)))))))
+      (λ κs. (shr-slice-tells (named 0) (κs .0) R, (searched-tells, (uint-tells w64, (shr-tells (named 1) (κs .1 .0) Here, (shr-tells (named 2) (κs .1 .1 .0) Costs, (shr-tells (named 3) (κs .1 .1 .1 .0) Moves, tt)))))))
+      (λ κs qs bounds a y are. needs 𝓤 (CanLead (tableEntry (now (a .0))) (a .1 .0) (a .1 .1 .0) (now (a .1 .1 .1 .0)) (now (a .1 .1 .1 .1 .0)) (now (a .1 .1 .1 .1 .1 .0))) _ (λ can.
+      walk 𝓤 H A W mem run (κs .0) (κs .1 .0) (κs .1 .1 .0) (κs .1 .1 .1 .0) (qs .0) (qs .1 .0) (qs .1 .1 .0) (qs .1 .1 .1 .0)
+      (a .0 .ptr .0) (a .0 .ptr .1) (a .0 .name) (a .0 .now) (a .1 .0) (a .1 .1 .0) (a .1 .1 .1 .0 .ptr .0) (a .1 .1 .1 .0 .ptr .1) (a .1 .1 .1 .0 .name) (a .1 .1 .1 .0 .now) (a .1 .1 .1 .1 .0 .ptr .0) (a .1 .1 .1 .1 .0 .ptr .1) (a .1 .1 .1 .1 .0 .name) (a .1 .1 .1 .1 .0 .now) (a .1 .1 .1 .1 .1 .0 .ptr .0) (a .1 .1 .1 .1 .1 .0 .ptr .1) (a .1 .1 .1 .1 .1 .0 .name) (a .1 .1 .1 .1 .1 .0 .now)
       (are .0 .0 .1) (are .1 .0) (are .1 .1 .0 .1) can 𝓣 (fmOf 𝓤 H (W .laws) 𝓣) k₁ k₂ k₃ k₄))
 
 meets : {M : Type 1} (𝓤 : URA M) (H : Heap 𝓤) (A : Atoms 𝓤) → Given 𝓤 H A → (mem : Memory → SProp 𝓤) (run : Routine → Fun 𝓤) (𝓣 : Tables 𝓤 H) → Triple 𝓤 (𝓣 .C #search·work-table·entry-at) (Get 𝓤 H A mem run) → Triple 𝓤 (𝓣 .C #search·first-plan·step-from) (From 𝓤 H A mem run) → Triple 𝓤 (𝓣 .C #search·first-plan·looks-on) (Looks 𝓤 H A mem run) → Triple 𝓤 (𝓣 .C #search·first-plan·step-after) (After 𝓤 H A mem run) →
     Meets 𝓤 H A f.signature (WpFn 𝓤 H (𝓣 .C) (𝓣 .Λ) code.function) (f.spec 𝓤 H A mem run)
 meets 𝓤 H A W mem run 𝓣 k₁ k₂ k₃ k₄ =
-    walk-meets 𝓤 H A f.ended stayed W (goes-none-slice 𝓤 H A W 6 (0 ∷ []) tt (plain (λ _. R)) yes, (goes-none 𝓤 H A W 6 (λ _. S) yes (λ κs x f. refl), (goes-none 𝓤 H A W 6 (λ _. usize) yes (λ κs x f. refl), (goes-none-ref 𝓤 H A W 6 (1 ∷ []) tt (plain (λ _. Values)) yes, (goes-none-ref 𝓤 H A W 6 (2 ∷ []) tt (plain (λ _. Sizes)) yes, (goes-none-ref 𝓤 H A W 6 (3 ∷ []) tt (plain (λ _. Costs)) yes, (goes-none-ref 𝓤 H A W 6 (4 ∷ []) tt (plain (λ _. Rows)) yes, (goes-none-ref 𝓤 H A W 6 (5 ∷ []) tt (plain (λ _. Rows)) yes, tt)))))))) (f.clauses 𝓤 H A mem run)
+    walk-meets 𝓤 H A f.ended stayed W (goes-none-slice 𝓤 H A W 4 (0 ∷ []) tt (plain (λ _. R)) yes, (goes-none 𝓤 H A W 4 (λ _. S) yes (λ κs x f. refl), (goes-none 𝓤 H A W 4 (λ _. usize) yes (λ κs x f. refl), (goes-none-ref 𝓤 H A W 4 (1 ∷ []) tt (plain (λ _. Here)) yes, (goes-none-ref 𝓤 H A W 4 (2 ∷ []) tt (plain (λ _. Costs)) yes, (goes-none-ref 𝓤 H A W 4 (3 ∷ []) tt (plain (λ _. Moves)) yes, tt)))))) (f.clauses 𝓤 H A mem run)
     (WpFn 𝓤 H (𝓣 .C) (𝓣 .Λ) code.function) (WpFn-mono 𝓤 H (W .laws) 𝓣 code.function) (walks 𝓤 H A W mem run 𝓣 k₁ k₂ k₃ k₄)
 
 pub first-step-spec : {M : Type 1} → stated.statement M

@@ -63,7 +63,7 @@ use Rattle.search.proofs.stages.Searched.Laws as S′
 use Rattle.search.proofs.stages.Found as F₀
 use Rattle.search.proofs.stages.Found.Laws as F′
 use Rattle.search.proofs.EntrySlices.{R}
-use Rattle.search.proofs.Spelled.{N, steps-vals, S, D, F, found-is, entry-is, Sizes, Costs, Rows}
+use Rattle.search.proofs.Spelled.{N, steps-vals, S, D, F, found-is, entry-is, Sizes, Costs, Rows, Moves}
 use Rattle.search.proofs.PlanFiles.{can-finish}
 use Rattle.search.proofs.SearchLaws.{can-fill, can-steps, searches-files}
 use Rattle.search.proofs.Hand.{big-lit, ref, lend-array, array-home, lend-array-mut, array-mut-home, lend-mut, mut-home, lend-shr, shr-home, lend-on, get-back, share-on, unshare}
@@ -170,11 +170,11 @@ sizes-of zs = zs .1 .1 .1 .1 .1 .0
 abbrev costs-of : Last → List ℕ
 costs-of zs = zs .1 .1 .1 .1 .1 .1 .0
 
-abbrev conditions-of : Last → List ℕ
-conditions-of zs = zs .1 .1 .1 .1 .1 .1 .1 .0
+abbrev rows-of : Last → List ℕ
+rows-of zs = zs .1 .1 .1 .1 .1 .1 .1 .0
 
-abbrev effects-of : Last → List ℕ
-effects-of zs = zs .1 .1 .1 .1 .1 .1 .1 .1 .0
+abbrev moves-of : Last → List ℕ
+moves-of zs = zs .1 .1 .1 .1 .1 .1 .1 .1 .0
 
 module _ {M : Type 1} (𝓤 : URA M) (H : Heap 𝓤) (A : Atoms 𝓤) (W : Given 𝓤 H A) (at-mem : Memory → SProp 𝓤) (run : Routine → Fun 𝓤) (κ₀ κ₁ κ₂ κ₃ : Lft) (q₀ q₁ q₂ q₃ : Share)
     (first : Reduced) (sg : ℕ) (br or : ℕ) (γr : GName) (xr : List ℕ) (bo oo : ℕ) (γo : GName) (xo : List ℕ) (bt ot : ℕ) (γt : GName) (ys : List Entry) (bp op : ℕ) (γp : GName) (xp : List ℕ)
@@ -226,7 +226,7 @@ module _ {M : Type 1} (𝓤 : URA M) (H : Heap 𝓤) (A : Atoms 𝓤) (W : Given
   lfts-files νs = (κ₀, (κ₁, (νs .0 ∷ [], (νs .1 ∷ [], (νs .2 ∷ [], (νs .3 ∷ [], (νs .4 ∷ [], tt)))))))
 
   abbrev files-args : Five GName → Five ℕ → Reduced × (RefT (List ℕ) × (RefT (List ℕ) × (ℕ × (RefT (List ℕ) × (RefT (List ℕ) × (RefT (List ℕ) × (RefT (List ℕ) × (RefT (List ℕ) × Unit {0}))))))))
-  files-args δs ls = (first, (ref br or γr xr, (ref bo oo γo xo, (length ys, (ref (ls .0) 0 (δs .0) (zeros w64 mostNumbers), (ref (ls .1) 0 (δs .1) (zeros w8 64), (ref (ls .2) 0 (δs .2) (zeros w32 512), (ref (ls .3) 0 (δs .3) (zeros w8 32768), (ref (ls .4) 0 (δs .4) (zeros w8 32768), tt)))))))))
+  files-args δs ls = (first, (ref br or γr xr, (ref bo oo γo xo, (length ys, (ref (ls .0) 0 (δs .0) (zeros w64 mostNumbers), (ref (ls .1) 0 (δs .1) (zeros w8 64), (ref (ls .2) 0 (δs .2) (zeros w32 512), (ref (ls .3) 0 (δs .3) (zeros w64 1184), (ref (ls .4) 0 (δs .4) (zeros w64 1536), tt)))))))))
 
   abbrev to-files : Five ℕ → Five GName → Five ℕ → Files 𝓤 H A at-mem run .Ghost
   to-files νs δs ls = ((lfts-files νs, (q₀, (q₁, (fullShare, (fullShare, (fullShare, (fullShare, (fullShare, tt))))))), tt, files-args δs ls, (dv ∷ [], (rv ∷ [], (ov ∷ [], (vint w64 (length ys) ∷ [], (sliceVal (ls .0, 0) mostNumbers ∷ [], (vptr (ls .1) 0 ∷ [], (vptr (ls .2) 0 ∷ [], (vptr (ls .3) 0 ∷ [], (vptr (ls .4) 0 ∷ [], tt)))))))))), tt)
@@ -238,7 +238,7 @@ module _ {M : Type 1} (𝓤 : URA M) (H : Heap 𝓤) (A : Atoms 𝓤) (W : Given
   Filing νs δs ls = ‵ (flft κ₀ q₀) ∷ ‵ (flft κ₁ q₁) ∷ ‵ (flft (νs .0 ∷ []) fullShare) ∷ ‵ (flft (νs .1 ∷ []) fullShare) ∷ ‵ (flft (νs .2 ∷ []) fullShare) ∷ ‵ (flft (νs .3 ∷ []) fullShare) ∷ ‵ (flft (νs .4 ∷ []) fullShare)
       ∷ ‵ (ShrSlice (named 0) κ₀ u8 .own (ref br or γr xr) (rv ∷ [])) ∷ ‵ (ShrSlice (named 1) κ₁ u8 .own (ref bo oo γo xo) (ov ∷ [])) ∷ ‵ (MutSlice (named 2) (νs .0 ∷ []) u64 .own (ref (ls .0) 0 (δs .0) (zeros w64 mostNumbers)) (sliceVal (ls .0, 0) mostNumbers ∷ []))
       ∷ ‵ (MutRef (named 3) (νs .1 ∷ []) Sizes .own (ref (ls .1) 0 (δs .1) (zeros w8 64)) (vptr (ls .1) 0 ∷ [])) ∷ ‵ (MutRef (named 4) (νs .2 ∷ []) Costs .own (ref (ls .2) 0 (δs .2) (zeros w32 512)) (vptr (ls .2) 0 ∷ []))
-      ∷ ‵ (MutRef (named 5) (νs .3 ∷ []) Rows .own (ref (ls .3) 0 (δs .3) (zeros w8 32768)) (vptr (ls .3) 0 ∷ [])) ∷ ‵ (MutRef (named 6) (νs .4 ∷ []) Rows .own (ref (ls .4) 0 (δs .4) (zeros w8 32768)) (vptr (ls .4) 0 ∷ [])) ∷ []
+      ∷ ‵ (MutRef (named 5) (νs .3 ∷ []) Rows .own (ref (ls .3) 0 (δs .3) (zeros w64 1184)) (vptr (ls .3) 0 ∷ [])) ∷ ‵ (MutRef (named 6) (νs .4 ∷ []) Moves .own (ref (ls .4) 0 (δs .4) (zeros w64 1536)) (vptr (ls .4) 0 ∷ [])) ∷ []
 
   goes-files : (νs : Five ℕ) (δs : Five GName) (ls : Five ℕ) → length (zeros w64 mostNumbers) ≡ mostNumbers → ent 𝓤 (⋆ 𝓤 H A (Filing νs δs ls)) (Files 𝓤 H A at-mem run .pre (to-files νs δs ls))
   goes-files νs δs ls e =
@@ -247,7 +247,7 @@ module _ {M : Type 1} (𝓤 : URA M) (H : Heap 𝓤) (A : Atoms 𝓤) (W : Given
 
   -- what its `ensures` says, the table filled by it, and the entry of the start state
   abbrev Filed : Searched → Last → Type 0
-  Filed searched zs = SearchedFiles first xr xo (length ys) searched (entriesIn (entries-of zs) (searched .states)) (sizes-of zs) (costs-of zs) (conditions-of zs) (effects-of zs)
+  Filed searched zs = SearchedFiles first xr xo (length ys) searched (entriesIn (entries-of zs) (searched .states)) (sizes-of zs) (costs-of zs) (rows-of zs) (moves-of zs)
 
   abbrev filled : Searched → Last → List Entry
   filled searched zs = overwrite ys (entriesIn (entries-of zs) (searched .states))
@@ -308,7 +308,7 @@ module _ {M : Type 1} (𝓤 : URA M) (H : Heap 𝓤) (A : Atoms 𝓤) (W : Given
   lfts-write μ ν νs = (μ ∷ [], (ν ∷ [], (κ₁, (νs .0 ∷ [], (νs .1 ∷ [], (νs .2 ∷ [], (νs .3 ∷ [], tt)))))))
 
   abbrev write-args : Searched → Last → Found → List ℕ → GName → GName → Four GName → Four ℕ → RefT (List Entry) × (RefT (List ℕ) × (Steps × (Searched × (RefT (List ℕ) × (RefT (List ℕ) × (RefT (List ℕ) × (RefT (List ℕ) × (RefT (List ℕ) × Unit {0}))))))))
-  write-args searched zs begun p₁ ε δ εs ls = (ref bt ot ε (filled searched zs), (ref bp op δ p₁, (begun .steps, (searched, (ref bo oo γo xo, (ref (ls .0) 0 (εs .0) (sizes-of zs), (ref (ls .1) 0 (εs .1) (costs-of zs), (ref (ls .2) 0 (εs .2) (conditions-of zs), (ref (ls .3) 0 (εs .3) (effects-of zs), tt)))))))))
+  write-args searched zs begun p₁ ε δ εs ls = (ref bt ot ε (filled searched zs), (ref bp op δ p₁, (begun .steps, (searched, (ref bo oo γo xo, (ref (ls .0) 0 (εs .0) (sizes-of zs), (ref (ls .1) 0 (εs .1) (costs-of zs), (ref (ls .2) 0 (εs .2) (rows-of zs), (ref (ls .3) 0 (εs .3) (moves-of zs), tt)))))))))
 
   abbrev to-write : Searched → Last → Found → List ℕ → ℕ → ℕ → Four ℕ → GName → GName → Four GName → Four ℕ → Write 𝓤 H A at-mem run .Ghost
   to-write searched zs begun p₁ μ ν νs ε δ εs ls = ((lfts-write μ ν νs, (fullShare, (fullShare, (q₁, (fullShare, (fullShare, (fullShare, (fullShare, tt))))))), tt, write-args searched zs begun p₁ ε δ εs ls, (tv ∷ [], (pv ∷ [], (steps-vals (begun .steps), (S′.lowered searched ∷ [], (ov ∷ [], (vptr (ls .0) 0 ∷ [], (vptr (ls .1) 0 ∷ [], (vptr (ls .2) 0 ∷ [], (vptr (ls .3) 0 ∷ [], tt)))))))))), tt)
@@ -320,17 +320,17 @@ module _ {M : Type 1} (𝓤 : URA M) (H : Heap 𝓤) (A : Atoms 𝓤) (W : Given
   Writing searched zs p₁ μ ν νs ε δ εs ls = ‵ (flft (μ ∷ []) fullShare) ∷ ‵ (flft (ν ∷ []) fullShare) ∷ ‵ (flft κ₁ q₁) ∷ ‵ (flft (νs .0 ∷ []) fullShare) ∷ ‵ (flft (νs .1 ∷ []) fullShare) ∷ ‵ (flft (νs .2 ∷ []) fullShare) ∷ ‵ (flft (νs .3 ∷ []) fullShare)
       ∷ ‵ (ShrSlice (named 0) (μ ∷ []) R .own (ref bt ot ε (filled searched zs)) (tv ∷ [])) ∷ ‵ (MutSlice (named 1) (ν ∷ []) u8 .own (ref bp op δ p₁) (pv ∷ [])) ∷ ‵ (ShrSlice (named 2) κ₁ u8 .own (ref bo oo γo xo) (ov ∷ []))
       ∷ ‵ (ShrRef (named 3) (νs .0 ∷ []) Sizes .own (ref (ls .0) 0 (εs .0) (sizes-of zs)) (vptr (ls .0) 0 ∷ [])) ∷ ‵ (ShrRef (named 4) (νs .1 ∷ []) Costs .own (ref (ls .1) 0 (εs .1) (costs-of zs)) (vptr (ls .1) 0 ∷ []))
-      ∷ ‵ (ShrRef (named 5) (νs .2 ∷ []) Rows .own (ref (ls .2) 0 (εs .2) (conditions-of zs)) (vptr (ls .2) 0 ∷ [])) ∷ ‵ (ShrRef (named 6) (νs .3 ∷ []) Rows .own (ref (ls .3) 0 (εs .3) (effects-of zs)) (vptr (ls .3) 0 ∷ [])) ∷ []
+      ∷ ‵ (ShrRef (named 5) (νs .2 ∷ []) Rows .own (ref (ls .2) 0 (εs .2) (rows-of zs)) (vptr (ls .2) 0 ∷ [])) ∷ ‵ (ShrRef (named 6) (νs .3 ∷ []) Moves .own (ref (ls .3) 0 (εs .3) (moves-of zs)) (vptr (ls .3) 0 ∷ [])) ∷ []
 
   goes-write : (searched : Searched) (zs : Last) (begun : Found) (p₁ : List ℕ) (μ ν : ℕ) (νs : Four ℕ) (ε δ : GName) (εs : Four GName) (ls : Four ℕ)
-      → StepsToWrite (tableEntry (filled searched zs)) p₁ (begun .steps .0) searched xo (sizes-of zs) (costs-of zs) (conditions-of zs) (effects-of zs) → Is N (begun .steps) (steps-vals (begun .steps)) → Is S searched (S′.lowered searched ∷ [])
+      → StepsToWrite (tableEntry (filled searched zs)) p₁ (begun .steps .0) searched xo (sizes-of zs) (costs-of zs) (rows-of zs) (moves-of zs) → Is N (begun .steps) (steps-vals (begun .steps)) → Is S searched (S′.lowered searched ∷ [])
       → ent 𝓤 (⋆ 𝓤 H A (Writing searched zs p₁ μ ν νs ε δ εs ls)) (Write 𝓤 H A at-mem run .pre (to-write searched zs begun p₁ μ ν νs ε δ εs ls))
   goes-write searched zs begun p₁ μ ν νs ε δ εs ls ready counted is =
       qed W (Writing searched zs p₁ μ ν νs ε δ εs ls) ∵ says ! ready $ nothing ! $ move ! (7 ∷ 0 ∷ []) $ join ! $ move ! (6 ∷ 0 ∷ []) $ join ! $ move ! (5 ∷ 0 ∷ []) $ join ! $ move ! (4 ∷ 0 ∷ []) $ join ! $ move ! (3 ∷ 0 ∷ []) $ join ! $ move ! (2 ∷ 0 ∷ []) $ join ! $ move ! (1 ∷ 0 ∷ []) $ join ! $ frame ! $
       nothing ! $ move ! (7 ∷ 0 ∷ []) $ fjoin ! $ move ! (6 ∷ 0 ∷ []) $ fjoin ! $ move ! (5 ∷ 0 ∷ []) $ fjoin ! $ move ! (4 ∷ 0 ∷ []) $ fjoin ! $ move ! (3 ∷ 0 ∷ []) $ fjoin ! $ owned ! S (Is S) (LL.makes S₀.the-type S′.the-plain 𝓤 H A) searched (S′.lowered searched ∷ []) is $ fjoin ! $ owned ! N (Is N) (LL.makes N₀.the-type N′.the-plain 𝓤 H A) (begun .steps) (steps-vals (begun .steps)) counted $ fjoin ! $ move ! (2 ∷ 0 ∷ []) $ fjoin ! $ move ! (1 ∷ 0 ∷ []) $ fjoin ! $ done !
 
   abbrev Written : Searched → Last → Found → List ℕ → List ℕ → Type 0
-  Written searched zs begun p₁ p₂ = StepsWritten (tableEntry (filled searched zs)) p₁ (begun .steps .0) searched xo (sizes-of zs) (costs-of zs) (conditions-of zs) (effects-of zs) p₂
+  Written searched zs begun p₁ p₂ = StepsWritten (tableEntry (filled searched zs)) p₁ (begun .steps .0) searched xo (sizes-of zs) (costs-of zs) (rows-of zs) (moves-of zs) p₂
 
   -- and for `finish`
   abbrev finish-args : Found → List ℕ → RefT (List ℕ) × (ℕ × (Found × Unit {0}))
@@ -361,8 +361,8 @@ module _ {M : Type 1} (𝓤 : URA M) (H : Heap 𝓤) (A : Atoms 𝓤) (W : Given
       owned ! u64 (Is u64) (uint-makes 𝓤 H A W w64) 0 (vint w64 0 ∷ []) (refl, lit< tt) $ use1 W (‵ (A64 .own (zeros w64 mostNumbers) (zeros-val w64 mostNumbers ∷ []))) (array-repeat 𝓤 H A W u64 (uint-copy 𝓤 H A W w64) mostNumbers 0 (vint w64 0)) $ peeks ! A64 (Is A64) (shows 𝓤 H A A64) (zeros w64 mostNumbers) (zeros-val w64 mostNumbers ∷ []) (λ is7. assigns ! (rep ! mostNumbers (lit ! tt)) (from ! (stop !)) (init ! 78 refl (array-typed u64 (uint-lawful 𝓤 H A W w64 .typed) mostNumbers (zeros w64 mostNumbers) (zeros-val w64 mostNumbers ∷ []) is7 .0)) $
       owned ! u8 (Is u8) (uint-makes 𝓤 H A W w8) 0 (vint w8 0 ∷ []) (refl, lit< tt) $ use1 W (‵ (Sizes .own (zeros w8 64) (zeros-val w8 64 ∷ []))) (array-repeat 𝓤 H A W u8 (uint-copy 𝓤 H A W w8) 64 0 (vint w8 0)) $ peeks ! Sizes (Is Sizes) (shows 𝓤 H A Sizes) (zeros w8 64) (zeros-val w8 64 ∷ []) (λ is8. assigns ! (rep ! 64 (lit ! tt)) (from ! (stop !)) (init ! 77 refl (array-typed u8 (uint-lawful 𝓤 H A W w8 .typed) 64 (zeros w8 64) (zeros-val w8 64 ∷ []) is8 .0)) $
       owned ! u32 (Is u32) (uint-makes 𝓤 H A W w32) 0 (vint w32 0 ∷ []) (refl, lit< tt) $ use1 W (‵ (Costs .own (zeros w32 512) (zeros-val w32 512 ∷ []))) (array-repeat 𝓤 H A W u32 (uint-copy 𝓤 H A W w32) 512 0 (vint w32 0)) $ peeks ! Costs (Is Costs) (shows 𝓤 H A Costs) (zeros w32 512) (zeros-val w32 512 ∷ []) (λ is9. assigns ! (rep ! 512 (lit ! tt)) (from ! (stop !)) (init ! 76 refl (array-typed u32 (uint-lawful 𝓤 H A W w32 .typed) 512 (zeros w32 512) (zeros-val w32 512 ∷ []) is9 .0)) $
-      owned ! u8 (Is u8) (uint-makes 𝓤 H A W w8) 0 (vint w8 0 ∷ []) (refl, lit< tt) $ use1 W (‵ (Rows .own (zeros w8 32768) (zeros-val w8 32768 ∷ []))) (array-repeat 𝓤 H A W u8 (uint-copy 𝓤 H A W w8) 32768 0 (vint w8 0)) $ peeks ! Rows (Is Rows) (shows 𝓤 H A Rows) (zeros w8 32768) (zeros-val w8 32768 ∷ []) (λ is10. assigns ! (rep ! 32768 (lit ! tt)) (from ! (stop !)) (init ! 75 refl (array-typed u8 (uint-lawful 𝓤 H A W w8 .typed) 32768 (zeros w8 32768) (zeros-val w8 32768 ∷ []) is10 .0)) $
-      owned ! u8 (Is u8) (uint-makes 𝓤 H A W w8) 0 (vint w8 0 ∷ []) (refl, lit< tt) $ use1 W (‵ (Rows .own (zeros w8 32768) (zeros-val w8 32768 ∷ []))) (array-repeat 𝓤 H A W u8 (uint-copy 𝓤 H A W w8) 32768 0 (vint w8 0)) $ peeks ! Rows (Is Rows) (shows 𝓤 H A Rows) (zeros w8 32768) (zeros-val w8 32768 ∷ []) (λ is11. assigns ! (rep ! 32768 (lit ! tt)) (from ! (stop !)) (init ! 74 refl (array-typed u8 (uint-lawful 𝓤 H A W w8 .typed) 32768 (zeros w8 32768) (zeros-val w8 32768 ∷ []) is11 .0)) $
+      owned ! u64 (Is u64) (uint-makes 𝓤 H A W w64) 0 (vint w64 0 ∷ []) (refl, lit< tt) $ use1 W (‵ (Rows .own (zeros w64 1184) (zeros-val w64 1184 ∷ []))) (array-repeat 𝓤 H A W u64 (uint-copy 𝓤 H A W w64) 1184 0 (vint w64 0)) $ peeks ! Rows (Is Rows) (shows 𝓤 H A Rows) (zeros w64 1184) (zeros-val w64 1184 ∷ []) (λ is10. assigns ! (rep ! 1184 (lit ! tt)) (from ! (stop !)) (init ! 75 refl (array-typed u64 (uint-lawful 𝓤 H A W w64 .typed) 1184 (zeros w64 1184) (zeros-val w64 1184 ∷ []) is10 .0)) $
+      owned ! u64 (Is u64) (uint-makes 𝓤 H A W w64) 0 (vint w64 0 ∷ []) (refl, lit< tt) $ use1 W (‵ (Moves .own (zeros w64 1536) (zeros-val w64 1536 ∷ []))) (array-repeat 𝓤 H A W u64 (uint-copy 𝓤 H A W w64) 1536 0 (vint w64 0)) $ peeks ! Moves (Is Moves) (shows 𝓤 H A Moves) (zeros w64 1536) (zeros-val w64 1536 ∷ []) (λ is11. assigns ! (rep ! 1536 (lit ! tt)) (from ! (stop !)) (init ! 74 refl (array-typed u64 (uint-lawful 𝓤 H A W w64 .typed) 1536 (zeros w64 1536) (zeros-val w64 1536 ∷ []) is11 .0)) $
       assigns ! (of-opd ! (load ! (from ! (fld ! refl (stop !))) (look-in ! 86 (sub ! 1 refl (whole !))))) (from ! (stop !)) (init ! 66 refl (tt, record { fits = gt .0 })) $
       assigns ! (addr ! (from ! (stop !))) (from ! (stop !)) (init ! 64 refl (tt, tt)) $ assigns ! (agg ! (and-then ! (load ! (from ! (stop !)) (look ! 64 refl)) (and-then ! (big-lit ! (record { fits = lit< tt })) (no-more !)))) (from ! (stop !)) (init ! 62 refl (tt, (tt, (record { fits = lit< tt }, tt)))) $
       assigns ! (addr ! (from ! (stop !))) (from ! (stop !)) (init ! 60 refl (tt, tt)) $ assigns ! (addr ! (from ! (stop !))) (from ! (stop !)) (init ! 58 refl (tt, tt)) $ assigns ! (addr ! (from ! (stop !))) (from ! (stop !)) (init ! 56 refl (tt, tt)) $ assigns ! (addr ! (from ! (stop !))) (from ! (stop !)) (init ! 54 refl (tt, tt)) $
@@ -370,8 +370,8 @@ module _ {M : Type 1} (𝓤 : URA M) (H : Heap 𝓤) (A : Atoms 𝓤) (W : Given
       move ! (82 ∷ 4 ∷ []) $ lend-array-mut ! tt u64 tt (named 2) mostNumbers (zeros w64 mostNumbers) (zeros-val w64 mostNumbers) l₇ room64 (λ ν₇ δ₇ full.
       move ! (82 ∷ 6 ∷ []) $ lend-mut ! tt Sizes tt (named 3) (zeros w8 64) (zeros-val w8 64) l₈ (λ ν₈ δ₈.
       move ! (82 ∷ 8 ∷ []) $ lend-mut ! tt Costs tt (named 4) (zeros w32 512) (zeros-val w32 512) l₉ (λ ν₉ δ₉.
-      move ! (82 ∷ 10 ∷ []) $ lend-mut ! tt Rows tt (named 5) (zeros w8 32768) (zeros-val w8 32768) l₁₀ (λ ν₁₀ δ₁₀.
-      move ! (82 ∷ 12 ∷ []) $ lend-mut ! tt Rows tt (named 6) (zeros w8 32768) (zeros-val w8 32768) l₁₁ (λ ν₁₁ δ₁₁.
+      move ! (82 ∷ 10 ∷ []) $ lend-mut ! tt Rows tt (named 5) (zeros w64 1184) (zeros-val w64 1184) l₁₀ (λ ν₁₀ δ₁₀.
+      move ! (82 ∷ 12 ∷ []) $ lend-mut ! tt Moves tt (named 6) (zeros w64 1536) (zeros-val w64 1536) l₁₁ (λ ν₁₁ δ₁₁.
       move ! (20 ∷ 19 ∷ 12 ∷ 9 ∷ 6 ∷ 3 ∷ 0 ∷ 23 ∷ 15 ∷ 13 ∷ 10 ∷ 7 ∷ 4 ∷ 1 ∷ []) $ cut (Filing (ν₇, ν₈, ν₉, ν₁₀, ν₁₁) (δ₇, δ₈, δ₉, δ₁₀, δ₁₁) (l₇, l₈, l₉, l₁₀, l₁₁)) (raw (Files 𝓤 H A at-mem run .pre (to-files (ν₇, ν₈, ν₉, ν₁₀, ν₁₁) (δ₇, δ₈, δ₉, δ₁₀, δ₁₁) (l₇, l₈, l₉, l₁₀, l₁₁))) ∷ []) _ (goes-files (ν₇, ν₈, ν₉, ν₁₀, ν₁₁) (δ₇, δ₈, δ₉, δ₁₀, δ₁₁) (l₇, l₈, l₉, l₁₀, l₁₁) full) $
       calls-at ! fm (Files 𝓤 H A at-mem run) k-files (to-files (ν₇, ν₈, ν₉, ν₁₀, ν₁₁) (δ₇, δ₈, δ₉, δ₁₀, δ₁₁) (l₇, l₈, l₉, l₁₀, l₁₁)) (and-then ! (load ! (from ! (stop !)) (look ! 86 refl)) (and-then ! (load ! (from ! (stop !)) (look ! 82 refl)) (and-then ! (load ! (from ! (stop !)) (look ! 80 refl)) (and-then ! (load ! (from ! (stop !)) (look ! 63 refl)) (and-then ! (load ! (from ! (stop !)) (look ! 59 refl)) (and-then ! (load ! (from ! (stop !)) (look ! 57 refl)) (and-then ! (load ! (from ! (stop !)) (look ! 55 refl)) (and-then ! (load ! (from ! (stop !)) (look ! 53 refl)) (and-then ! (load ! (from ! (stop !)) (look ! 51 refl)) (no-more !)))))))))) (λ w.
       use1 W (later (some (λ (searched : Searched). (Tokens (ν₇, ν₈, ν₉, ν₁₀, ν₁₁) ⊛ ‵ (S .own searched (w ∷ []))) ⊛ raw (ensured 𝓤 H A c.ended (c.clauses 𝓤 H A at-mem run) (lfts-files (ν₇, ν₈, ν₉, ν₁₀, ν₁₁)) (files-args (δ₇, δ₈, δ₉, δ₁₀, δ₁₁) (l₇, l₈, l₉, l₁₀, l₁₁)) tt searched)))) (id⊢ 𝓤 _) $ await ! tt $ pick ! (λ searched. split ! $ move ! (1 ∷ []) $
@@ -384,13 +384,13 @@ module _ {M : Type 1} (𝓤 : URA M) (H : Heap 𝓤) (A : Atoms 𝓤) (W : Given
       move ! (4 ∷ 16 ∷ 11 ∷ []) $ array-mut-home ! tt u64 (uint-vals w64) (uint-tells w64) mostNumbers (entries-of zs) l₇ (λ u₇ held.
       move ! (5 ∷ 15 ∷ 11 ∷ []) $ mut-home ! tt Sizes tt (array-val w8 64) (array-tells u8 (uint-vals w8) (uint-tells w8) 64) (sizes-of zs) l₈ (λ _.
       move ! (6 ∷ 14 ∷ 11 ∷ []) $ mut-home ! tt Costs tt (array-val w32 512) (array-tells u32 (uint-vals w32) (uint-tells w32) 512) (costs-of zs) l₉ (λ _.
-      move ! (7 ∷ 13 ∷ 11 ∷ []) $ mut-home ! tt Rows tt (array-val w8 32768) (array-tells u8 (uint-vals w8) (uint-tells w8) 32768) (conditions-of zs) l₁₀ (λ _.
-      move ! (8 ∷ 12 ∷ 11 ∷ []) $ mut-home ! tt Rows tt (array-val w8 32768) (array-tells u8 (uint-vals w8) (uint-tells w8) 32768) (effects-of zs) l₁₁ (λ _.
+      move ! (7 ∷ 13 ∷ 11 ∷ []) $ mut-home ! tt Rows tt (array-val w64 1184) (array-tells u64 (uint-vals w64) (uint-tells w64) 1184) (rows-of zs) l₁₀ (λ _.
+      move ! (8 ∷ 12 ∷ 11 ∷ []) $ mut-home ! tt Moves tt (array-val w64 1536) (array-tells u64 (uint-vals w64) (uint-tells w64) 1536) (moves-of zs) l₁₁ (λ _.
       -- the table is filled
       assigns ! (addr ! (from ! (fld ! refl (hop ! (look-in ! 84 (sub ! 0 refl (whole !))) (stop !))))) (from ! (stop !)) (init ! 53 refl (tt, tt)) $ assigns ! (agg ! (and-then ! (load ! (from ! (stop !)) (look ! 53 refl)) (and-then ! (load ! (from ! (fld ! refl (stop !))) (look-in ! 84 (sub ! 1 refl (whole !)))) (no-more !)))) (from ! (stop !)) (init ! 51 refl (tt, (tt, (record { fits = gt .0 }, tt)))) $
       assigns ! (addr ! (from ! (stop !))) (from ! (stop !)) (init ! 49 refl (tt, tt)) $ assigns ! (agg ! (and-then ! (load ! (from ! (stop !)) (look ! 49 refl)) (and-then ! (big-lit ! (record { fits = lit< tt })) (no-more !)))) (from ! (stop !)) (init ! 47 refl (tt, (tt, (record { fits = lit< tt }, tt)))) $
       move ! (16 ∷ 14 ∷ []) $ lend-on ! tt R (named 2) (named 0) ys (length ys) bt ot refl gt (λ ν δ. move ! (11 ∷ 12 ∷ []) $ lend-array ! tt u64 tt (named 1) mostNumbers (entries-of zs) u₇ l₇ room64 (λ μ ε _.
-      move ! (3 ∷ 0 ∷ 4 ∷ 1 ∷ []) $ cut (Filling zs ν μ δ ε l₇) (raw (Fill 𝓤 H A at-mem run .pre (to-fill searched zs ν μ δ ε l₇)) ∷ []) _ (goes-fill searched zs ν μ δ ε l₇ (can-fill first xr xo ys searched (entries-of zs) (sizes-of zs) (costs-of zs) (conditions-of zs) (effects-of zs) held filed) (states-fit searched (w ∷ []) k)) $
+      move ! (3 ∷ 0 ∷ 4 ∷ 1 ∷ []) $ cut (Filling zs ν μ δ ε l₇) (raw (Fill 𝓤 H A at-mem run .pre (to-fill searched zs ν μ δ ε l₇)) ∷ []) _ (goes-fill searched zs ν μ δ ε l₇ (can-fill first xr xo ys searched (entries-of zs) (sizes-of zs) (costs-of zs) (rows-of zs) (moves-of zs) held filed) (states-fit searched (w ∷ []) k)) $
       calls-at ! fm (Fill 𝓤 H A at-mem run) k-fill (to-fill searched zs ν μ δ ε l₇) (and-then ! (load ! (from ! (stop !)) (look ! 50 refl)) (and-then ! (load ! (from ! (stop !)) (look ! 46 refl)) (and-then ! (load ! (from ! (fld ! refl (stop !))) (look-in ! 74 (sub ! 1 refl (whole !)))) (no-more !)))) (λ w₁.
       use1 W (later (some (λ (r₁ : Unit {0}). ((‵ (flft (ν ∷ []) fullShare) ⊛ ‵ (flft (μ ∷ []) fullShare) ⊛ ‵ ftrue) ⊛ ‵ (Nothing .own r₁ (w₁ ∷ []))) ⊛ raw (ensured 𝓤 H A g.ended (g.clauses 𝓤 H A at-mem run) (ν ∷ [], (μ ∷ [], tt)) (fill-args searched zs δ ε l₇) tt r₁)))) (id⊢ 𝓤 _) $ await ! tt $ pick ! (λ r₁. split ! $ move ! (1 ∷ []) $
       use1 W (some (λ (ts : List Entry × (Unit {0} × (Unit {0} × Unit {0}))). ‵ (lasts g.ended (ν ∷ [], (μ ∷ [], tt)) (fill-args searched zs δ ε l₇) ts) ⊛ raw (fact 𝓤 (ts .0 ≡ filled searched zs)))) (id⊢ 𝓤 _) $ pick ! (λ ts. split ! $ move ! (1 ∷ []) $ heard ! (ts .0 ≡ filled searched zs) (λ is.
@@ -427,10 +427,10 @@ module _ {M : Type 1} (𝓤 : URA M) (H : Heap 𝓤) (A : Atoms 𝓤) (W : Given
       move ! (2 ∷ 3 ∷ []) $ share-on ! tt R (named 2) (named 0) (filled searched zs) (length ys) bt ot (subst (λ (table : List Entry). length table ≡ length ys) is len-table) gt (λ μ₄ ε₄. move ! (3 ∷ 4 ∷ []) $ lend-on ! tt u8 (named 3) (named 1) (ps .0) (length xp) bp op len₁ gp (λ ν₄ δ₄.
       move ! (13 ∷ 14 ∷ []) $ lend-shr ! tt Sizes tt (named 3) (sizes-of zs) (array-val w8 64 (sizes-of zs)) l₈ (λ μ₈ ε₈.
       move ! (14 ∷ 15 ∷ []) $ lend-shr ! tt Costs tt (named 4) (costs-of zs) (array-val w32 512 (costs-of zs)) l₉ (λ μ₉ ε₉.
-      move ! (15 ∷ 16 ∷ []) $ lend-shr ! tt Rows tt (named 5) (conditions-of zs) (array-val w8 32768 (conditions-of zs)) l₁₀ (λ μ₁₀ ε₁₀.
-      move ! (16 ∷ 17 ∷ []) $ lend-shr ! tt Rows tt (named 6) (effects-of zs) (array-val w8 32768 (effects-of zs)) l₁₁ (λ μ₁₁ ε₁₁.
+      move ! (15 ∷ 16 ∷ []) $ lend-shr ! tt Rows tt (named 5) (rows-of zs) (array-val w64 1184 (rows-of zs)) l₁₀ (λ μ₁₀ ε₁₀.
+      move ! (16 ∷ 17 ∷ []) $ lend-shr ! tt Moves tt (named 6) (moves-of zs) (array-val w64 1536 (moves-of zs)) l₁₁ (λ μ₁₁ ε₁₁.
       move ! (15 ∷ 12 ∷ 19 ∷ 9 ∷ 6 ∷ 3 ∷ 0 ∷ 16 ∷ 13 ∷ 21 ∷ 10 ∷ 7 ∷ 4 ∷ 1 ∷ []) $ cut (Writing searched zs (ps .0) μ₄ ν₄ (μ₈, μ₉, μ₁₀, μ₁₁) ε₄ δ₄ (ε₈, ε₉, ε₁₀, ε₁₁) (l₈, l₉, l₁₀, l₁₁)) (raw (Write 𝓤 H A at-mem run .pre (to-write searched zs begun (ps .0) μ₄ ν₄ (μ₈, μ₉, μ₁₀, μ₁₁) ε₄ δ₄ (ε₈, ε₉, ε₁₀, ε₁₁) (l₈, l₉, l₁₀, l₁₁))) ∷ []) _
-      (goes-write searched zs begun (ps .0) μ₄ ν₄ (μ₈, μ₉, μ₁₀, μ₁₁) ε₄ δ₄ (ε₈, ε₉, ε₁₀, ε₁₁) (l₈, l₉, l₁₀, l₁₁) (can-steps first xr xo ys searched (entries-of zs) (sizes-of zs) (costs-of zs) (conditions-of zs) (effects-of zs) held filed can xp (ps .0) begun begins len₁) (steps-are begun (w₃ ∷ []) k₃) (searched-is searched (w ∷ []) k)) $
+      (goes-write searched zs begun (ps .0) μ₄ ν₄ (μ₈, μ₉, μ₁₀, μ₁₁) ε₄ δ₄ (ε₈, ε₉, ε₁₀, ε₁₁) (l₈, l₉, l₁₀, l₁₁) (can-steps first xr xo ys searched (entries-of zs) (sizes-of zs) (costs-of zs) (rows-of zs) (moves-of zs) held filed can xp (ps .0) begun begins len₁) (steps-are begun (w₃ ∷ []) k₃) (searched-is searched (w ∷ []) k)) $
       calls-at ! fm (Write 𝓤 H A at-mem run) k-write (to-write searched zs begun (ps .0) μ₄ ν₄ (μ₈, μ₉, μ₁₀, μ₁₁) ε₄ δ₄ (ε₈, ε₉, ε₁₀, ε₁₁) (l₈, l₉, l₁₀, l₁₁)) (and-then ! (load ! (from ! (stop !)) (look ! 25 refl)) (and-then ! (load ! (from ! (stop !)) (look ! 21 refl)) (and-then ! (load ! (from ! (stop !)) (look ! 63 refl)) (and-then ! (load ! (from ! (stop !)) (look ! 67 refl)) (and-then ! (load ! (from ! (stop !)) (look ! 78 refl)) (and-then ! (load ! (from ! (stop !)) (look ! 19 refl)) (and-then ! (load ! (from ! (stop !)) (look ! 17 refl)) (and-then ! (load ! (from ! (stop !)) (look ! 15 refl)) (and-then ! (load ! (from ! (stop !)) (look ! 13 refl)) (no-more !)))))))))) (λ w₄.
       use1 W (later (some (λ (r₄ : Unit {0}). (Tokens₂ μ₄ ν₄ (μ₈, μ₉, μ₁₀, μ₁₁) ⊛ ‵ (Nothing .own r₄ (w₄ ∷ []))) ⊛ raw (ensured 𝓤 H A s.ended (s.clauses 𝓤 H A at-mem run) (lfts-write μ₄ ν₄ (μ₈, μ₉, μ₁₀, μ₁₁)) (write-args searched zs begun (ps .0) ε₄ δ₄ (ε₈, ε₉, ε₁₀, ε₁₁) (l₈, l₉, l₁₀, l₁₁)) tt r₄)))) (id⊢ 𝓤 _) $ await ! tt $ pick ! (λ r₄. split ! $ move ! (1 ∷ []) $
       use1 W (some (λ (vs : Unit {0} × (List ℕ × (Unit {0} × (Unit {0} × (Unit {0} × (Unit {0} × (Unit {0} × (Unit {0} × (Unit {0} × Unit {0}))))))))). ‵ (lasts s.ended (lfts-write μ₄ ν₄ (μ₈, μ₉, μ₁₀, μ₁₁)) (write-args searched zs begun (ps .0) ε₄ δ₄ (ε₈, ε₉, ε₁₀, ε₁₁) (l₈, l₉, l₁₀, l₁₁)) vs) ⊛ raw (fact 𝓤 (Written searched zs begun (ps .0) (vs .1 .0))))) (id⊢ 𝓤 _) $ pick ! (λ vs. split ! $ move ! (1 ∷ []) $ heard ! (Written searched zs begun (ps .0) (vs .1 .0)) (λ written.
@@ -440,8 +440,8 @@ module _ {M : Type 1} (𝓤 : URA M) (H : Heap 𝓤) (A : Atoms 𝓤) (W : Given
       move ! (6 ∷ 13 ∷ []) $ unshare ! tt R (named 2) (filled searched zs) (length ys) bt ot (subst (λ (table : List Entry). length table ≡ length ys) is len-table) gt $ move ! (7 ∷ 13 ∷ 8 ∷ []) $ get-back ! tt u8 (named 3) (ps .0) (vs .1 .0) (length xp) bp op len₁ len₂ gp $
       move ! (7 ∷ 12 ∷ []) $ shr-home ! tt Sizes tt (array-val w8 64) (array-tells u8 (uint-vals w8) (uint-tells w8) 64) (sizes-of zs) l₈ $ move ! (1 ∷ []) $ drop ! $
       move ! (7 ∷ 11 ∷ []) $ shr-home ! tt Costs tt (array-val w32 512) (array-tells u32 (uint-vals w32) (uint-tells w32) 512) (costs-of zs) l₉ $ move ! (1 ∷ []) $ drop ! $
-      move ! (7 ∷ 10 ∷ []) $ shr-home ! tt Rows tt (array-val w8 32768) (array-tells u8 (uint-vals w8) (uint-tells w8) 32768) (conditions-of zs) l₁₀ $ move ! (1 ∷ []) $ drop ! $
-      move ! (7 ∷ 9 ∷ []) $ shr-home ! tt Rows tt (array-val w8 32768) (array-tells u8 (uint-vals w8) (uint-tells w8) 32768) (effects-of zs) l₁₁ $ move ! (1 ∷ []) $ drop ! $
+      move ! (7 ∷ 10 ∷ []) $ shr-home ! tt Rows tt (array-val w64 1184) (array-tells u64 (uint-vals w64) (uint-tells w64) 1184) (rows-of zs) l₁₀ $ move ! (1 ∷ []) $ drop ! $
+      move ! (7 ∷ 9 ∷ []) $ shr-home ! tt Moves tt (array-val w64 1536) (array-tells u64 (uint-vals w64) (uint-tells w64) 1536) (moves-of zs) l₁₁ $ move ! (1 ∷ []) $ drop ! $
       -- and it is ended
       assigns ! (addr ! (from ! (fld ! refl (hop ! (look-in ! 76 (sub ! 0 refl (whole !))) (stop !))))) (from ! (stop !)) (init ! 13 refl (tt, tt)) $ assigns ! (agg ! (and-then ! (load ! (from ! (stop !)) (look ! 13 refl)) (and-then ! (load ! (from ! (fld ! refl (stop !))) (look-in ! 76 (sub ! 1 refl (whole !)))) (no-more !)))) (from ! (stop !)) (init ! 11 refl (tt, (tt, (record { fits = gp .0 }, tt)))) $
       move ! (5 ∷ 4 ∷ []) $ cut (Finishing (vs .1 .0)) (raw (Finish 𝓤 H A at-mem run .pre (to-finish begun (vs .1 .0))) ∷ []) _ (goes-finish begun (vs .1 .0) (can-finish searched (start-entry searched zs) xp (ps .0) (vs .1 .0) begun begins (len₂ ∙ len₁)) (found-is begun (w₃ ∷ []) k₃)) $
@@ -455,7 +455,7 @@ module _ {M : Type 1} (𝓤 : URA M) (H : Heap 𝓤) (A : Atoms 𝓤) (W : Given
       returns ! (look ! 88 refl) $ forget ! 88 refl $ forget ! 86 refl $ forget ! 84 refl $ forget ! 82 refl $ forget ! 80 refl $ forget ! 78 refl $ forget ! 76 refl $ forget ! 5 refl $ forget ! 4 refl $ forget ! 3 refl $ forget ! 2 refl $ forget ! 69 refl $ forget ! 67 refl $ forget ! 65 refl $ forget ! 63 refl $ forget ! 61 refl $ forget ! 59 refl $ forget ! 57 refl $ forget ! 55 refl $ forget ! 53 refl $ forget ! 51 refl $ forget ! 49 refl $ forget ! 47 refl $ forget ! 45 refl $ forget ! 43 refl $ forget ! 41 refl $ forget ! 39 refl $ forget ! 37 refl $ forget ! 35 refl $ forget ! 33 refl $ forget ! 31 refl $ forget ! 29 refl $ forget ! 27 refl $ forget ! 25 refl $ forget ! 23 refl $ forget ! 21 refl $ forget ! 19 refl $ forget ! 17 refl $ forget ! 15 refl $ forget ! 13 refl $ forget ! 11 refl $
       move ! (88 ∷ 89 ∷ []) $ free1 ! $ move ! (86 ∷ 87 ∷ []) $ free1 ! $ move ! (84 ∷ 85 ∷ []) $ free1 ! $ move ! (82 ∷ 83 ∷ []) $ free1 ! $ move ! (80 ∷ 81 ∷ []) $ free1 ! $ move ! (78 ∷ 79 ∷ []) $ free1 ! $ move ! (76 ∷ 77 ∷ []) $ free1 ! $ move ! (9 ∷ 75 ∷ []) $ free1 ! $ move ! (5 ∷ 73 ∷ []) $ free1 ! $ move ! (4 ∷ 71 ∷ []) $ free1 ! $ move ! (3 ∷ 69 ∷ []) $ free1 ! $ move ! (2 ∷ 67 ∷ []) $ free1 ! $ move ! (64 ∷ 65 ∷ []) $ free1 ! $ move ! (62 ∷ 63 ∷ []) $ free1 ! $ move ! (60 ∷ 61 ∷ []) $ free1 ! $ move ! (58 ∷ 59 ∷ []) $ free1 ! $ move ! (56 ∷ 57 ∷ []) $ free1 ! $ move ! (54 ∷ 55 ∷ []) $ free1 ! $ move ! (52 ∷ 53 ∷ []) $ free1 ! $ move ! (50 ∷ 51 ∷ []) $ free1 ! $ move ! (48 ∷ 49 ∷ []) $ free1 ! $ move ! (46 ∷ 47 ∷ []) $ free1 ! $ move ! (44 ∷ 45 ∷ []) $ free1 ! $ move ! (42 ∷ 43 ∷ []) $ free1 ! $ move ! (40 ∷ 41 ∷ []) $ free1 ! $ move ! (38 ∷ 39 ∷ []) $ free1 ! $ move ! (36 ∷ 37 ∷ []) $ free1 ! $ move ! (34 ∷ 35 ∷ []) $ free1 ! $ move ! (32 ∷ 33 ∷ []) $ free1 ! $ move ! (30 ∷ 31 ∷ []) $ free1 ! $ move ! (28 ∷ 29 ∷ []) $ free1 ! $ move ! (26 ∷ 27 ∷ []) $ free1 ! $ move ! (24 ∷ 25 ∷ []) $ free1 ! $ move ! (22 ∷ 23 ∷ []) $ free1 ! $ move ! (20 ∷ 21 ∷ []) $ free1 ! $ move ! (18 ∷ 19 ∷ []) $ free1 ! $ move ! (16 ∷ 17 ∷ []) $ free1 ! $ move ! (14 ∷ 15 ∷ []) $ free1 ! $ move ! (12 ∷ 13 ∷ []) $ free1 ! $ move ! (10 ∷ 11 ∷ []) $ free1 ! $ move ! (8 ∷ 9 ∷ []) $ free1 ! $ move ! (6 ∷ 7 ∷ []) $ free1 ! $ free0 ! $
       keep ! (5 ∷ 4 ∷ 3 ∷ 0 ∷ 2 ∷ 1 ∷ []) $ by ! (exits r (filled searched zs) (ls .0) (subst (λ (table : List Entry). length table ≡ length ys) is len-table) (len₃ ∙ len₂ ∙ len₁)
-      (searches-files first xr xo ys searched (entries-of zs) (sizes-of zs) (costs-of zs) (conditions-of zs) (effects-of zs) held filed can xp (ps .0) begun begins (vs .1 .0) written sg (ls .0) r finishes) (found-is r (w₅ ∷ []) k₅))))))))))))))))))))))))))))))))))))))))))))))))))))))))))))))))))))))))))))))))))))))))))))))))))))))))
+      (searches-files first xr xo ys searched (entries-of zs) (sizes-of zs) (costs-of zs) (rows-of zs) (moves-of zs) held filed can xp (ps .0) begun begins (vs .1 .0) written sg (ls .0) r finishes) (found-is r (w₅ ∷ []) k₅))))))))))))))))))))))))))))))))))))))))))))))))))))))))))))))))))))))))))))))))))))))))))))))))))))))))
 
 module _ {M : Type 1} (𝓤 : URA M) (H : Heap 𝓤) (A : Atoms 𝓤) (W : Given 𝓤 H A) (mem : Memory → SProp 𝓤) (run : Routine → Fun 𝓤) where
   walks : (𝓣 : Tables 𝓤 H) → Triple 𝓤 (𝓣 .C #search·stages·search-files) (Files 𝓤 H A mem run) → Triple 𝓤 (𝓣 .C #search·work-table·fill) (Fill 𝓤 H A mem run) → Triple 𝓤 (𝓣 .C #search·work-table·entry-at) (Read 𝓤 H A mem run) → Triple 𝓤 (𝓣 .C #search·stages·begin) (Begin 𝓤 H A mem run) → Triple 𝓤 (𝓣 .C #search·work-table·write-steps) (Write 𝓤 H A mem run) → Triple 𝓤 (𝓣 .C #search·stages·finish) (Finish 𝓤 H A mem run)
