@@ -1,56 +1,107 @@
--- The entries before any step, filled state by state.
-use Prim.Native.Nat.{ℕ, _+_, _≤_, _<_}
-use mathlib.Core.Path.{_≡_, refl, sym, ap, _∙_}
-use mathlib.Core.Bool.{Bool, cond}
-use mathlib.Core.List.{List}
+-- The states at which the goal holds are those that differ from one only in the variables of which it asks nothing; and the entries
+-- that they are offered.
+use Prim.Native.Nat.{ℕ, _+_, _*_, _≤_, _<_}
+use mathlib.Core.Path.{_≡_, refl, sym, ap, ap₂, _∙_}
+use mathlib.Core.Bool.{Bool, true, false, cond, _&&_}
+use mathlib.Core.List.{List, []}
+use native.Mathlib.Nat.{zero-add}
 use native.Mathlib.Omega.{arith}
-use lib.ListN.{length}
-use borrow.Author.Tests.{eq-eqb, ne-eqb}
+use lib.Dec.{eqb, leb, ltb}
+use lib.ListN.{getD}
+use borrow.Author.Tests.{eqb-true, eqb-false, eq-eqb, lt-ltb, le-ltb, le-leb}
 use Rattle.files.specs.Dense.{rowPairs}
-use Rattle.files.proofs.Logic.{split-le}
-use Rattle.plans.specs.State.{allHold}
-use Rattle.plans.specs.Tally.{listState}
-use Rattle.search.specs.declared.Entry.{Entry}
+use Rattle.files.proofs.Logic.{split}
+use Rattle.files.proofs.Truth.{same-truth}
+use Rattle.plans.specs.Plan.{noSteps, atMost}
+use Rattle.plans.specs.State.{State, allHold}
+use Rattle.plans.specs.Tally.{meetsCell}
+use Rattle.plans.proofs.RowStates.{meets-none, meets-some, meetsAt, hold-below}
 use Rattle.search.specs.States.{stateAt}
-use Rattle.search.specs.Entries.{firstEntry, entryIn, Put}
-use Rattle.search.specs.Rows.{rowVariables}
+use Rattle.search.specs.Table.{entryOf}
+use Rattle.search.specs.Entries.{noEntry, firstEntry, isNone, lessEntry, lowered, entryIn}
+use Rattle.search.specs.Rows.{rowVariables, rowStates, rowState}
+use Rattle.search.specs.Settling.{Offers}
+use Rattle.search.specs.Sets.{inWord}
+use Rattle.search.specs.Moves.{weighted}
+use Rattle.search.specs.declared.Entry.{Entry}
+use Rattle.search.specs.Offers.{differsIn, differsFrom, Numbered, goalValues, GoalFree, Cleared}
+use Rattle.search.proofs.RowNumbers.{RowInside, weight-most, state-alike}
+use Rattle.search.proofs.OneChange.{weighted-alike, weights-state, weights-below}
+use Rattle.search.proofs.FactRowLaws.{all-same}
 
--- whether the goal's row holds in a state
-abbrev pub atGoalRow : List ℕ → List ℕ → ℕ → List ℕ → ℕ → Bool
-atGoalRow sizes goal variables starts s = allHold (rowPairs goal 0 0 variables) (stateAt (rowVariables variables sizes starts) s)
+first-lower : (b : Bool) → cond b (lowered (firstEntry true) noEntry) noEntry ≡ firstEntry b
+unfolding lowered lessEntry atMost entryOf noSteps
+first-lower true = refl
+first-lower false = refl
 
--- the states below s are filled
-pub record Begun (sizes goal : List ℕ) (variables count : ℕ) (entries₀ entries : List ℕ) (s : ℕ) : Type 0 where
-  pub below : s ≤ count
-  pub same : length entries ≡ length entries₀
-  pub filled : (starts : List ℕ) (r : ℕ) → r < s → entryIn entries r ≡ firstEntry (atGoalRow sizes goal variables starts r)
+module _ (variables count : ℕ) (sizes weights goal : List ℕ) (w : Numbered variables count sizes weights)
+    (inside : (v : ℕ) → v < variables → (getD goal v 0 ≡ 255 → ⊥) → getD goal v 0 < getD sizes v 0) where
+  pub weights-few : (v : ℕ) → v < variables → getD weights v 0 ≤ 4096
+  weights-few v h = omega (arith, w .weights-are v h, weight-most sizes v variables (w .size-least) (omega (arith, h)), w .states, w .few)
 
-module _ (sizes goal : List ℕ) (variables count : ℕ) (entries₀ : List ℕ) where
-  pub begun-none : Begun sizes goal variables count entries₀ entries₀ 0
-  begun-none = record { below = omega arith; same = refl; filled = λ starts r l. absurd (omega arith) }
+  -- the state with the values that the goal asks
+  asked : State
+  asked v = cond (ltb v variables) (goalValues goal v) 0
 
-  pub begun-next : (entries entries′ values : List ℕ) (s : ℕ) (b : Bool) → Begun sizes goal variables count entries₀ entries s → s < count
-      → length entries′ ≡ length entries
-      → ((starts : List ℕ) → listState values ≡ stateAt (rowVariables variables sizes starts) s)
-      → b ≡ allHold (rowPairs goal 0 0 variables) (listState values)
-      → (x : Entry) → x ≡ firstEntry b → Put entries s x entries′
-      → Begun sizes goal variables count entries₀ entries′ (s + 1)
-  begun-next entries entries′ values s b w h m v e x is f =
-      record {
-        below = omega arith;
-        same = m ∙ w .same;
-        filled =
-            λ starts r l.
-            split-le s r
-            (λ q.
-            let here : r ≡ s = omega arith in
-            f r
-            ∙ ap (λ (t : Bool). cond t x (entryIn entries r)) (eq-eqb r s here)
-            ∙ is
-            ∙ ap firstEntry (e ∙ ap (allHold (rowPairs goal 0 0 variables)) (v starts ∙ ap (stateAt (rowVariables variables sizes starts)) (sym here))))
-            (λ q. f r ∙ ap (λ (t : Bool). cond t x (entryIn entries r)) (ne-eqb r s (λ z. omega arith)) ∙ w .filled starts r q);
-      }
+  asked-inside : RowInside variables sizes asked
+  unfolding asked goalValues
+  asked-inside v h =
+      split (eqb (getD goal v 0) 255)
+      (λ e. rw (lt-ltb v variables h, e) (w .size-least v h))
+      (λ e. rw (lt-ltb v variables h, e) (inside v h (eqb-false (getD goal v 0) 255 e)))
 
-  pub begun-all : (entries : List ℕ) (s : ℕ) → Begun sizes goal variables count entries₀ entries s → count ≤ s
-      → (starts : List ℕ) (r : ℕ) → r < count → entryIn entries r ≡ firstEntry (atGoalRow sizes goal variables starts r)
-  begun-all entries s w h starts r l = w .filled starts r (omega arith)
+  asked-behind : (v : ℕ) → variables ≤ v → asked v ≡ 0
+  unfolding asked
+  asked-behind v h = rw (le-ltb v variables h) refl
+
+  module _ (number free : ℕ) (number-is : number ≡ weighted sizes (goalValues goal) variables) (free-is : GoalFree variables goal free) where
+    number-asked : number ≡ weighted sizes asked variables
+    unfolding asked
+    number-asked = number-is ∙ weighted-alike sizes (goalValues goal) asked variables (λ v h. sym (ap (λ (b : Bool). cond b (goalValues goal v) 0) (lt-ltb v variables h)))
+
+    pub goal-below : number < count
+    goal-below = omega (arith, number-asked, w .states, weights-below sizes variables (w .size-least) asked asked-inside)
+
+    goal-state : rowState variables sizes number ≡ asked
+    goal-state = ap (rowState variables sizes) number-asked ∙ weights-state sizes variables (w .size-least) asked asked-inside asked-behind
+
+    pub goal-zero : (v : ℕ) → v < variables → inWord free v ≡ true → rowState variables sizes number v ≡ 0
+    unfolding asked goalValues
+    goal-zero v h e = ap (λ (s : State). s v) goal-state ∙ rw (lt-ltb v variables h, sym (free-is v h) ∙ e) refl
+
+    one-test : (r : State) (v : ℕ) → v < variables → cond (leb 0 v && inWord free v) true (eqb (r v) (asked v)) ≡ meetsAt goal 0 r v
+    unfolding asked goalValues
+    one-test r v h =
+        let at : getD goal (0 + v) 0 ≡ getD goal v 0 = ap (λ (u : ℕ). getD goal u 0) (zero-add v) in
+        split (eqb (getD goal v 0) 255)
+        (λ e. rw (free-is v h, e, le-leb 0 v (omega arith)) (meets-none (getD goal (0 + v) 0) (r v) (at ∙ eqb-true (getD goal v 0) 255 e)))
+        (λ e.
+        rw (free-is v h, lt-ltb v variables h, e, le-leb 0 v (omega arith))
+        (same-truth (eqb (r v) (getD goal v 0)) (eqb (getD goal v 0) (r v))
+        (λ k. eq-eqb (getD goal v 0) (r v) (sym (eqb-true (r v) (getD goal v 0) k)))
+        (λ k. eq-eqb (r v) (getD goal v 0) (sym (eqb-true (getD goal v 0) (r v) k)))
+        ∙ meets-some (getD goal v 0) (r v) (eqb-false (getD goal v 0) 255 e)
+        ∙ ap (λ (c : ℕ). meetsCell c (r v)) (sym at)))
+
+    goal-test : (starts : List ℕ) (s : ℕ) → differsFrom sizes variables free 0 number s ≡ allHold (rowPairs goal 0 0 variables) (stateAt (rowVariables variables sizes starts) s)
+    unfolding differsIn rowState
+    goal-test starts s =
+        let r : State = rowState variables sizes s in
+        ap (λ (g : State). differsIn (inWord free) variables 0 g r) goal-state
+        ∙ all-same variables (λ v. cond (leb 0 v && inWord free v) true (eqb (r v) (asked v))) (meetsAt goal 0 r) (one-test r)
+        ∙ sym (hold-below goal 0 r variables)
+        ∙ ap (allHold (rowPairs goal 0 0 variables)) (state-alike sizes [] starts variables s)
+
+    pub goal-entries : (first : Entry) (entries₀ entries settled least : List ℕ) → first ≡ firstEntry true → Cleared count entries₀ → Offers (differsFrom sizes variables free 0 number) count first settled entries₀ entries least
+        → (starts : List ℕ) (s : ℕ) → s < count → entryIn entries s ≡ firstEntry (allHold (rowPairs goal 0 0 variables) (stateAt (rowVariables variables sizes starts) s))
+    goal-entries first entries₀ entries settled least is none o starts s l =
+        let b : Bool = allHold (rowPairs goal 0 0 variables) (stateAt (rowVariables variables sizes starts) s) in
+        o .offered s l
+        ∙ ap (λ (t : Bool). cond t (lowered first (entryIn entries₀ s)) (entryIn entries₀ s)) (goal-test starts s)
+        ∙ ap₂ (λ (x y : Entry). cond b (lowered x y) y) is (none s l)
+        ∙ first-lower b
+
+-- the entry of no steps is one
+pub first-near : isNone (firstEntry true) ≡ false
+unfolding isNone entryOf noSteps
+first-near = refl

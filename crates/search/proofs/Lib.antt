@@ -24,7 +24,6 @@ pub mod Offering
 pub mod HeldStates
 pub mod Picking
 pub mod Blocks
-pub mod Begun
 pub mod BitLaws
 pub mod SetLoops
 pub mod WordLoops
@@ -38,6 +37,7 @@ pub mod Spelled
 pub mod TableFilling
 pub mod MoveLoops
 pub mod Goals
+pub mod Begun
 pub mod Going
 pub mod HereLoops
 pub mod Leading

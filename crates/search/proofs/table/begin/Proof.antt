@@ -1,65 +1,72 @@
--- State by state.
-use Prim.Native.Nat.{_-_}
+-- The states at which the goal holds are offered the entry of no steps, all others have none.
+use mathlib.Core.Path.{_≡_, refl, sym, subst}
 use native.Mathlib.Omega.{arith}
-use Rattle.search.proofs.Begun.{Begun, begun-none, begun-next, begun-all}
+use denote.Ref.{now}
+use Rattle.search.specs.Entries.{isNone}
+use Rattle.search.specs.declared.Entry.{Entry}
+use Rattle.search.proofs.Blocks.{blocks-same, known-cleared}
+use Rattle.search.proofs.Begun.{weights-few, goal-below, goal-zero, goal-entries, first-near}
 use borrow.Author.Needs.{needs}
 use Rattle.search.proofs.table.begin.Statement.{statement}
 use Rattle.search.proofs.table.begin.Tie as tie
 
-abbrev Inv-loop : tie.InvT-loop
-Inv-loop entries₀ sizes goal variables count s₀ entries s = Begun sizes goal variables count entries₀ entries s
+clear-requires : tie.Need-clear-requires
+clear-requires c κs = search needs
 
-abbrev μ-loop : tie.MeasureT-loop
-μ-loop entries₀ sizes goal variables count s₀ entries s = count - s
+free-requires : tie.Need-free-requires
+free-requires c κs = search needs
 
-loop-holds : tie.Need-loop-holds Inv-loop μ-loop
-loop-holds c = begun-none _ _ _ _ _
+number-requires : tie.Need-number-requires
+number-requires c κs = let start = c .before .before .before .before .before .before .before .before in let pre = start .pre in record { variables-few = pre .numbered .variables-few; weights-few = weights-few _ _ (now (start .args .sizes)) (now (start .args .weights)) (now (start .args .goal)) (pre .numbered) (pre .goal-inside) }
 
-values-of-requires : tie.Need-values-of-requires Inv-loop μ-loop
-values-of-requires c κs = search needs
-
-all-hold-requires : tie.Need-all-hold-requires Inv-loop μ-loop
-all-hold-requires c κs = search needs
-
-first-requires : tie.Need-first-requires Inv-loop μ-loop
+first-requires : tie.Need-first-requires
 first-requires c κs = search needs
 
-put-entry-requires : tie.Need-put-entry-requires Inv-loop μ-loop
-put-entry-requires c κs =
-    let s = c .before .before .before .before .before .before .before .before .before in
-    omega (arith, c .before .before .before .before .before .before .before .loop .inv .same, s .pre .room, c .before .before .before .before .before .before .loop-test .taken)
+offer-requires : tie.Need-offer-requires
+offer-requires c κs =
+    let start = c .before .before .before .before .before .before .before .before .before .before .before .before in
+    let pre = start .pre in
+    let same = c .before .before .before .before .before .before .before .clear .kept .0 in
+    let number = c .before .before .before .number .ensures _ (pre .numbered .weights-are) in
+    let free = c .before .before .before .before .free .ensures in
+    record {
+      numbered = pre .numbered;
+      blocks = blocks-same (now (start .args .entries)) _ _ (now (start .args .least)) _ _ (pre .blocks) same refl;
+      known = known-cleared _ _ _ (now (start .args .least)) (c .before .before .before .before .before .before .before .clear .ensures) (pre .no-state);
+      near = subst (λ (e : Entry). isNone e ≡ _) (sym (c .before .before .first .ensures)) first-near;
+      start = omega arith;
+      below = goal-below _ _ _ _ _ (pre .numbered) (pre .goal-inside) _ _ number free;
+      zero = λ v k. goal-zero _ _ _ _ _ (pre .numbered) (pre .goal-inside) _ _ number free v;
+    }
 
-add-s : tie.Need-add-s Inv-loop μ-loop
-add-s c = omega (arith, c .before .before .before .before .before .before .before .before .before .loop-test .taken)
+same-length : tie.Need-same-length
+same-length c = search needs
 
-loop-less : tie.Need-loop-less Inv-loop μ-loop
-loop-less c = omega (arith, c .before .before .before .before .before .before .before .before .before .loop-test .taken)
+same-length-2 : tie.Need-same-length-2
+same-length-2 c = search needs
 
-loop-again : tie.Need-loop-again Inv-loop μ-loop
-loop-again c =
-    let put = c .before .before .put-entry in
-    begun-next _ _ _ _ _ _ _ _ _ _ (c .before .before .before .before .before .before .before .before .before .before .loop .inv) (c .before .before .before .before .before .before .before .before .before .loop-test .taken) (put .kept .0) (c .before .before .before .before .before .before .before .before .values-of .ensures) (c .before .before .before .before .before .all-hold .ensures)
-    _ (c .before .before .before .first .ensures) (put .ensures)
-
-same-length : tie.Need-same-length Inv-loop μ-loop
-same-length c = c .before .loop .inv .same
-
-returns : tie.Need-returns Inv-loop μ-loop
-returns c = begun-all _ _ _ _ _ _ _ (c .before .loop .inv) (c .loop-test .left)
+returns : tie.Need-returns
+returns c =
+    let start = c .before .before .before .before .before .before .before .before .before .before .before .before .before .before .before .before .before in
+    let pre = start .pre in
+    let number = c .before .before .before .before .before .before .before .before .number .ensures _ (pre .numbered .weights-are) in
+    let free = c .before .before .before .before .before .before .before .before .before .free .ensures in
+    let offer = c .before .before .before .before .offer .ensures in
+    record {
+      first =
+          goal-entries _ _ _ _ _ (pre .numbered) (pre .goal-inside) _ _ number free _ _ _ (now (start .args .settled)) _ (c .before .before .before .before .before .before .before .first .ensures) (c .before .before .before .before .before .before .before .before .before .before .before .before .clear .ensures) offer;
+      known = offer .known;
+    }
 
 pub begin-spec : {M : Type 1} → statement M
 begin-spec =
     tie.close
     (tie.spec
-    Inv-loop
-    μ-loop
-    loop-holds
-    values-of-requires
-    all-hold-requires
+    clear-requires
+    free-requires
+    number-requires
     first-requires
-    put-entry-requires
-    add-s
-    loop-less
-    loop-again
+    offer-requires
     same-length
+    same-length-2
     returns)

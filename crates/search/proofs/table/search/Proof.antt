@@ -1,27 +1,31 @@
 -- Each round settles the open state with the least entry; the states that are open grow fewer.
-use Prim.Native.Nat.{ℕ, _/_, _≤_}
+use Prim.Native.Nat.{ℕ, _*_, _/_, _≤_}
 use mathlib.Core.Path.{_≡_, refl, sym, _∙_}
+use mathlib.Core.List.{List}
 use native.Mathlib.Omega.{arith}
 use denote.Ref.{now}
-use lib.ListN.{length, replicate, length-replicate, length-set}
+use lib.ListN.{length, replicate, length-replicate, length-set, getD-replicate}
 use Rattle.files.specs.Dense.{Arrays, arrays}
-use Rattle.search.specs.Rows.{rowStates, Sized, Searchable}
+use Rattle.search.specs.Rows.{rowStates, Searchable}
 use Rattle.search.specs.Settling.{Known}
-use Rattle.search.proofs.HeldStates.{held-states, held-start, held-sizes, held-starts, held-few, searchable}
+use Rattle.search.specs.FactRows.{FewFacts}
+use Rattle.search.specs.Offers.{Numbered}
+use Rattle.search.proofs.HeldStates.{held-states, held-start, held-sizes, held-starts, held-few, held-goal, searchable}
+use Rattle.search.proofs.FactBound.{facts-few}
 use Rattle.search.proofs.Searching.{openCount, Searching, begin, falls, low, next, end}
-use Rattle.search.proofs.Blocks.{block-few, known-none, known-settled}
+use Rattle.search.proofs.Blocks.{block-few, begins, known-settled}
 use Rattle.search.proofs.table.search.Statement.{statement}
 use Rattle.search.proofs.table.search.Tie as tie
 
 abbrev Inv-loop : tie.InvT-loop
-Inv-loop entries₀ count variables actions sizes starts goal costs conditions effects weights settled₀ changed₀ least₀ s₀ entries settled changed least s =
+Inv-loop entries₀ rows moves weights count variables actions sizes starts goal costs conditions effects settled₀ least₀ s₀ entries settled least s =
     Searching (arrays variables actions sizes starts goal costs conditions effects) count entries settled s
     × (length entries ≡ length entries₀)
-    × Known entries settled count changed least
-    × (length changed ≡ 64) × (length least ≡ 64)
+    × Known entries settled count least
+    × (length least ≡ 64)
 
 abbrev μ-loop : tie.MeasureT-loop
-μ-loop entries₀ count variables actions sizes starts goal costs conditions effects weights settled₀ changed₀ least₀ s₀ entries settled changed least s = openCount settled
+μ-loop entries₀ rows moves weights count variables actions sizes starts goal costs conditions effects settled₀ least₀ s₀ entries settled least s = openCount settled
 
 abbrev Started : Type 0
 Started = tie.Start Inv-loop μ-loop
@@ -47,160 +51,180 @@ few-states s = omega (arith, states-are s, s .pre .few)
 searched : (s : Started) → Searchable (s .args .variables) (s .args .actions) (now (s .args .sizes)) (now (s .args .costs)) (now (s .args .conditions)) (now (s .args .effects))
 searched s = searchable (task s) (s .pre .accepted) (omega (arith, s .pre .states, s .pre .few))
 
-abbrev to-start : tie.After-begin Inv-loop μ-loop → Started
-to-start c = c .before .before .before
+numbered : (s : Started) → Numbered (s .args .variables) (s .args .count) (now (s .args .sizes)) (now (s .args .weights))
+numbered s =
+    record {
+      variables-few = held-few (task s) (s .pre .accepted);
+      size-least = held-sizes (task s) (s .pre .accepted);
+      states = states-are s;
+      few = s .pre .few;
+      weights-are = s .pre .weights-are;
+    }
 
-abbrev to-begin : tie.After-weights Inv-loop μ-loop → tie.After-begin Inv-loop μ-loop
-to-begin c = c .before .before .before
+few-facts : (s : Started) (rows : List ℕ) → 8 * 148 ≤ length rows → FewFacts (s .args .variables) (now (s .args .sizes)) rows
+few-facts s rows long =
+    record {
+      variables-few = held-few (task s) (s .pre .accepted);
+      facts-few = facts-few (now (s .args .sizes)) (s .args .variables) (held-few (task s) (s .pre .accepted)) (held-sizes (task s) (s .pre .accepted)) (searched s .size-most) (few-states s);
+      room = long;
+    }
 
-abbrev to-weights : tie.After-select Inv-loop μ-loop → tie.After-weights Inv-loop μ-loop
-to-weights c = c .before .before .before .before .before
+fill-requires : tie.Need-fill-requires Inv-loop μ-loop
+fill-requires c κs = let s = c .before .before .before .before in record { few = few-facts s _ (s .pre .rows-long); actions-few = searched s .actions-few }
 
-abbrev to-round : tie.After-settle Inv-loop μ-loop → tie.In-loop Inv-loop μ-loop
-to-round c = c .before .before .before .before
+slice-aggregate-begin : tie.Need-slice-aggregate-begin Inv-loop μ-loop
+slice-aggregate-begin c = refl
 
-abbrev round-weights : tie.In-loop Inv-loop μ-loop → tie.After-weights Inv-loop μ-loop
-round-weights c = to-weights (c .before .before .before .before)
-
-abbrev round-start : tie.In-loop Inv-loop μ-loop → Started
-round-start c = to-start (to-begin (round-weights c))
-
-sized : (s : Started) → Sized (s .args .variables) (now (s .args .sizes))
-sized s = record { few = held-few (task s) (s .pre .accepted); least = held-sizes (task s) (s .pre .accepted) }
+slice-aggregate-begin-2 : tie.Need-slice-aggregate-begin-2 Inv-loop μ-loop
+slice-aggregate-begin-2 c = refl
 
 begin-requires : tie.Need-begin-requires Inv-loop μ-loop
 begin-requires c κs =
-    let s = c .before .before in
-    record { sized = sized s; room = s .pre .room }
-
-weights-requires : tie.Need-weights-requires Inv-loop μ-loop
-weights-requires c κs =
-    let s = c .before .before .before .before .before in
-    record { sized = sized s; states = few-states s }
+    let s = c .before .before .before .before .before .before .before .before .before .before in
+    record {
+      numbered = numbered s;
+      blocks =
+          record {
+            few = s .pre .few;
+            room = s .pre .room;
+            marks = omega (arith, length-replicate {A = ℕ} 4096 0, s .pre .few);
+            least-long = omega (arith, length-replicate {A = ℕ} 64 (s .args .count));
+          };
+      goal-inside = held-goal (task s) (s .pre .accepted);
+      no-state = λ k h. getD-replicate 64 k (s .args .count) 0 (omega (arith, h, s .pre .few));
+    }
 
 slice-aggregate-select : tie.Need-slice-aggregate-select Inv-loop μ-loop
 slice-aggregate-select c = refl
 
 slice-aggregate-select-2 : tie.Need-slice-aggregate-select-2 Inv-loop μ-loop
-slice-aggregate-select-2 c = refl
-
-slice-aggregate-select-3 : tie.Need-slice-aggregate-select-3 Inv-loop μ-loop
-slice-aggregate-select-3 c = refl
+slice-aggregate-select-2 c = sym (c .before .before .before .before .before .before .begin .kept .1 .1 .0 ∙ length-replicate {A = ℕ} 64 (c .before .before .before .before .before .before .before .before .before .before .before .before .before .before .before .before .before .args .count))
 
 select-requires : tie.Need-select-requires Inv-loop μ-loop
 select-requires c κs =
-    let b = to-begin (c .before .before .before .before) in
-    let s = to-start b in
+    let s = c .before .before .before .before .before .before .before .before .before .before .before .before .before .before .before .before .before in
+    let first = c .before .before .before .before .before .before .begin in
     record {
-      few = s .pre .few;
-      room = omega (arith, b .begin .kept .0, s .pre .room);
-      marks = omega (arith, length-replicate {A = ℕ} 4096 0, s .pre .few);
-      changed-long = omega (arith, length-replicate {A = ℕ} 64 1);
-      least-long = omega (arith, length-replicate {A = ℕ} 64 0);
-      known = known-none _ (replicate 4096 0) _ (replicate 64 0) (s .pre .few);
+      blocks =
+          record {
+            few = s .pre .few;
+            room = omega (arith, first .kept .0, s .pre .room);
+            marks = omega (arith, length-replicate {A = ℕ} 4096 0, s .pre .few);
+            least-long = omega (arith, first .kept .1 .1 .0, length-replicate {A = ℕ} 64 (s .args .count));
+          };
+      known = first .ensures .known;
     }
 
 loop-holds : tie.Need-loop-holds Inv-loop μ-loop
 loop-holds c =
-    let a = c .before .before in
-    let b = to-begin (to-weights a) in
-    let s = to-start b in
-    let first = a .select in (
-      begin (task s) _ _ (s .pre .accepted) (s .pre .states) (s .pre .few) (b .begin .ensures (now (s .args .starts))) (omega (arith, b .begin .kept .0, s .pre .room)) _ (first .ensures .picked),
+    let s = c .before .before .before .before .before .before .before .before .before .before .before .before .before .before .before .before .before .before in
+    let first = c .before .before .before .before .before .before .before .begin in (
+      begin (task s) _ _ (s .pre .accepted) (s .pre .states) (s .pre .few) (first .ensures .first (now (s .args .starts))) (omega (arith, first .kept .0, s .pre .room)) _ (c .select .ensures),
       refl,
       first .ensures .known,
-      first .kept .1 .1 .0 ∙ length-replicate {A = ℕ} 64 1,
-      first .kept .1 .1 .1 .0 ∙ length-replicate {A = ℕ} 64 0,
+      first .kept .1 .1 .0 ∙ length-replicate {A = ℕ} 64 (s .args .count),
     )
 
 array-write-settled : tie.Need-array-write-settled Inv-loop μ-loop
 array-write-settled c = omega (arith, c .loop-test .taken, c .before .loop .inv .0 .few)
 
-array-write-changed : tie.Need-array-write-changed Inv-loop μ-loop
-array-write-changed c = block-few _ (omega (arith, c .loop-test .taken, c .before .loop .inv .0 .few))
+slice-aggregate-refresh : tie.Need-slice-aggregate-refresh Inv-loop μ-loop
+slice-aggregate-refresh c = let l = c .before .before .before .loop in sym (length-set (l .settled) (l .s) 1 ∙ l .inv .0 .size)
+
+slice-aggregate-refresh-2 : tie.Need-slice-aggregate-refresh-2 Inv-loop μ-loop
+slice-aggregate-refresh-2 c = sym (c .before .before .before .before .loop .inv .3)
+
+refresh-requires : tie.Need-refresh-requires Inv-loop μ-loop
+refresh-requires c κs =
+    let l = c .before .before .before .before .loop in
+    let w = l .inv .0 in
+    record {
+      blocks = record { few = w .few; room = w .room; marks = omega (arith, length-set (l .settled) (l .s) 1, w .size, w .few); least-long = omega (arith, l .inv .3) };
+      begins = begins (l .s) _ (c .before .before .before .loop-test .taken);
+    }
 
 slice-aggregate-settle : tie.Need-slice-aggregate-settle Inv-loop μ-loop
-slice-aggregate-settle c = let l = c .before .before .before .loop in sym (length-set (l .changed) (l .s / 64) 1 ∙ l .inv .3)
+slice-aggregate-settle c = let l = c .before .before .before .before .before .before .before .before .loop in sym (length-set (l .settled) (l .s) 1 ∙ l .inv .0 .size)
+
+slice-aggregate-settle-2 : tie.Need-slice-aggregate-settle-2 Inv-loop μ-loop
+slice-aggregate-settle-2 c = sym (c .before .before .before .before .refresh .kept .1 .1 .0 ∙ c .before .before .before .before .before .before .before .before .before .loop .inv .3)
 
 settle-requires : tie.Need-settle-requires Inv-loop μ-loop
 settle-requires c κs =
-    let r = c .before .before .before in
-    let s = round-start r in
-    let l = r .before .loop in
+    let s = c .before .before .before .before .before .before .before .before .before .before .before .before .before .before .before .before .before .before .before .before .before .before .before .before .before .before .before .before .before in
+    let l = c .before .before .before .before .before .before .before .before .before .before .loop in
     let w = l .inv .0 in
-    let h = r .loop-test .taken in
-    let is = states-are s in
+    let h = c .before .before .before .before .before .before .before .before .before .loop-test .taken in
+    let fill = c .before .before .before .before .before .before .before .before .before .before .before .before .before .before .before .before .before .before .before .before .before .before .before .before .fill in
+    let fresh = c .before .before .before .before .before .refresh in
     record {
-      asked = searched s;
-      room = omega (arith, w .room);
-      weights-are = round-weights r .weights .ensures;
-      below = omega arith;
+      conditions = now (s .args .conditions);
+      effects = now (s .args .effects);
+      tables = record { asked = searched s; rows-are = fill .ensures; moves-are = s .pre .moves-are };
+      facts = few-facts s _ (omega (arith, fill .kept .0, s .pre .rows-long));
+      moves-long = s .pre .moves-long;
+      numbered = numbered s;
+      blocks =
+          record {
+            few = w .few;
+            room = w .room;
+            marks = omega (arith, length-set (l .settled) (l .s) 1, w .size, w .few);
+            least-long = omega (arith, fresh .kept .1 .1 .0, l .inv .3);
+          };
+      known = known-settled _ (l .settled) _ (l .least) _ (l .s) (l .inv .2) (fresh .ensures);
+      below = h;
       low = low (task s) _ _ _ _ w h;
-      marks = omega (arith, length-set (l .changed) (l .s / 64) 1, l .inv .3);
     }
 
+slice-aggregate-select-3 : tie.Need-slice-aggregate-select-3 Inv-loop μ-loop
+slice-aggregate-select-3 c = let l = c .before .before .before .before .before .before .before .before .before .before .before .before .before .before .before .before .loop in sym (length-set (l .settled) (l .s) 1 ∙ l .inv .0 .size)
+
 slice-aggregate-select-4 : tie.Need-slice-aggregate-select-4 Inv-loop μ-loop
-slice-aggregate-select-4 c = let l = to-round (c .before .before .before .before .before) .before .loop in sym (length-set (l .settled) (l .s) 1 ∙ l .inv .0 .size)
-
-slice-aggregate-select-5 : tie.Need-slice-aggregate-select-5 Inv-loop μ-loop
-slice-aggregate-select-5 c =
-    let a = c .before .before .before .before .before .before in
-    let l = to-round a .before .loop in
-    sym (a .settle .kept .1 .0 ∙ length-set (l .changed) (l .s / 64) 1 ∙ l .inv .3)
-
-slice-aggregate-select-6 : tie.Need-slice-aggregate-select-6 Inv-loop μ-loop
-slice-aggregate-select-6 c = sym (to-round (c .before .before .before .before .before .before .before) .before .loop .inv .4)
+slice-aggregate-select-4 c = sym (c .before .before .before .before .before .before .settle .kept .1 .1 .0 ∙ c .before .before .before .before .before .before .before .before .before .before .before .before .refresh .kept .1 .1 .0 ∙ c .before .before .before .before .before .before .before .before .before .before .before .before .before .before .before .before .before .loop .inv .3)
 
 select-requires-2 : tie.Need-select-requires-2 Inv-loop μ-loop
 select-requires-2 c κs =
-    let a = c .before .before .before .before .before .before .before in
-    let r = to-round a in
-    let l = r .before .loop in
+    let l = c .before .before .before .before .before .before .before .before .before .before .before .before .before .before .before .before .before .loop in
     let w = l .inv .0 in
-    let k = a .settle .kept in
-    let block = block-few (l .s) (omega (arith, r .loop-test .taken, w .few)) in
+    let k = c .before .before .before .before .before .before .settle in
     record {
-      few = w .few;
-      room = omega (arith, k .0, w .room);
-      marks = omega (arith, length-set (l .settled) (l .s) 1, w .size, w .few);
-      changed-long = omega (arith, k .1 .0, length-set (l .changed) (l .s / 64) 1, l .inv .3);
-      least-long = omega (arith, l .inv .4);
-      known = known-settled _ _ _ (l .changed) (l .least) (l .s) _ _ (omega (arith, block, l .inv .3)) (l .inv .2) (a .settle .ensures .unchanged);
+      blocks =
+          record {
+            few = w .few;
+            room = omega (arith, k .kept .0, w .room);
+            marks = omega (arith, length-set (l .settled) (l .s) 1, w .size, w .few);
+            least-long = omega (arith, k .kept .1 .1 .0, c .before .before .before .before .before .before .before .before .before .before .before .before .refresh .kept .1 .1 .0, l .inv .3);
+          };
+      known = k .ensures .known;
     }
 
 loop-less : tie.Need-loop-less Inv-loop μ-loop
-loop-less c =
-    let r = to-round (c .before .before .before .before .before .before .before .before .before .before) in
-    omega (arith, falls (task (round-start r)) _ _ _ _ (r .before .loop .inv .0) (r .loop-test .taken))
+loop-less c = let l = c .before .before .before .before .before .before .before .before .before .before .before .before .before .before .before .before .before .before .loop in omega (arith, falls (task (c .before .before .before .before .before .before .before .before .before .before .before .before .before .before .before .before .before .before .before .before .before .before .before .before .before .before .before .before .before .before .before .before .before .before .before .before .before)) _ _ _ _ (l .inv .0) (c .before .before .before .before .before .before .before .before .before .before .before .before .before .before .before .before .before .loop-test .taken))
 
 loop-again : tie.Need-loop-again Inv-loop μ-loop
 loop-again c =
-    let a = c .before .before .before .before .before .before .before .before .before .before in
-    let r = to-round a in
-    let s = round-start r in
-    let l = r .before .loop in
+    let s = c .before .before .before .before .before .before .before .before .before .before .before .before .before .before .before .before .before .before .before .before .before .before .before .before .before .before .before .before .before .before .before .before .before .before .before .before .before in
+    let l = c .before .before .before .before .before .before .before .before .before .before .before .before .before .before .before .before .before .before .loop in
     let i = l .inv in
-    let k = a .settle .kept in
-    let next-one = c .before .before .select2 in (
-      next (task s) _ _ _ _ (i .0) (r .loop-test .taken) _ (a .settle .ensures .offers (now (s .args .starts))) (omega (arith, k .0, i .0 .room)) _ (next-one .ensures .picked),
-      k .0 ∙ i .1,
-      next-one .ensures .known,
-      next-one .kept .1 .1 .0 ∙ k .1 .0 ∙ length-set (l .changed) (l .s / 64) 1 ∙ i .3,
-      next-one .kept .1 .1 .1 .0 ∙ i .4,
+    let k = c .before .before .before .before .before .before .before .settle in
+    let tables = record { asked = searched s; rows-are = c .before .before .before .before .before .before .before .before .before .before .before .before .before .before .before .before .before .before .before .before .before .before .before .before .before .before .before .before .before .before .before .before .fill .ensures; moves-are = s .pre .moves-are } in (
+      next (task s) _ _ _ _ (i .0) (c .before .before .before .before .before .before .before .before .before .before .before .before .before .before .before .before .before .loop-test .taken) _ (λ r h. k .ensures .offers (now (s .args .starts)) (now (s .args .conditions)) (now (s .args .effects)) tables r (omega (arith, h, states-are s))) (omega (arith, k .kept .0, i .0 .room)) _ (c .select2 .ensures),
+      k .kept .0 ∙ i .1,
+      k .ensures .known,
+      k .kept .1 .1 .0 ∙ c .before .before .before .before .before .before .before .before .before .before .before .before .before .refresh .kept .1 .1 .0 ∙ i .3,
     )
 
 start-number-requires : tie.Need-start-number-requires Inv-loop μ-loop
-start-number-requires c κs =
-    let s = to-start (to-begin (to-weights (c .before .before .before .before))) in
-    record { few = held-few (task s) (s .pre .accepted); states = few-states s; inside = held-starts (task s) (s .pre .accepted) }
+start-number-requires c κs = let s = c .before .before .before .before .before .before .before .before .before .before .before .before .before .before .before .before .before .before .before .before in record { few = held-few (task s) (s .pre .accepted); states = few-states s; inside = held-starts (task s) (s .pre .accepted) }
 
 same-length : tie.Need-same-length Inv-loop μ-loop
-same-length c = c .before .before .loop .inv .1 ∙ to-begin (to-weights (c .before .before .before .before .before)) .begin .kept .0
+same-length c = c .before .before .loop .inv .1 ∙ c .before .before .before .before .before .before .before .before .before .before .begin .kept .0
+
+same-length-2 : tie.Need-same-length-2 Inv-loop μ-loop
+same-length-2 c = c .before .before .before .before .before .before .before .before .before .before .before .before .before .before .before .before .fill .kept .0
 
 returns : tie.Need-returns Inv-loop μ-loop
-returns c =
-    let s = to-start (to-begin (to-weights (c .before .before .before .before .before))) in
-    record { start = held-start (task s) _ (c .start-number .ensures); table = end (task s) _ _ _ _ (c .before .before .loop .inv .0) (c .before .loop-test .left) }
+returns c = let s = c .before .before .before .before .before .before .before .before .before .before .before .before .before .before .before .before .before .before .before .before .before in record { start = held-start (task s) _ (c .start-number .ensures); table = end (task s) _ _ _ _ (c .before .before .loop .inv .0) (c .before .loop-test .left) }
 
 pub search-spec : {M : Type 1} → statement M
 search-spec =
@@ -208,23 +232,27 @@ search-spec =
     (tie.spec
     Inv-loop
     μ-loop
+    fill-requires
+    slice-aggregate-begin
+    slice-aggregate-begin-2
     begin-requires
-    weights-requires
     slice-aggregate-select
     slice-aggregate-select-2
-    slice-aggregate-select-3
     select-requires
     loop-holds
     array-write-settled
-    array-write-changed
+    slice-aggregate-refresh
+    slice-aggregate-refresh-2
+    refresh-requires
     slice-aggregate-settle
+    slice-aggregate-settle-2
     settle-requires
+    slice-aggregate-select-3
     slice-aggregate-select-4
-    slice-aggregate-select-5
-    slice-aggregate-select-6
     select-requires-2
     loop-less
     loop-again
     start-number-requires
     same-length
+    same-length-2
     returns)
