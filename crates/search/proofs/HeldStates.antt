@@ -3,6 +3,7 @@ use Prim.Native.Nat.{ℕ, suc, _+_, _*_, _≤_, _<_}
 use mathlib.Core.Path.{_≡_, refl, sym, ap, _∙_}
 use mathlib.Core.Bool.{true}
 use mathlib.Core.List.{List, [], _∷_}
+use native.Mathlib.Nat.{zero-add}
 use native.Mathlib.Omega.{arith}
 use lib.ListN.{length, getD}
 use borrow.Author.Tests.{ne-eqb}
@@ -12,7 +13,7 @@ use Rattle.files.specs.Dense.{Arrays, rowAction, held}
 use Rattle.files.proofs.Valid.{Valid, task-valid}
 use Rattle.plans.specs.State.{State, startState}
 use Rattle.plans.specs.Tally.{listState}
-use Rattle.files.proofs.HeldTask.{held-action, variables-held, actions-held, size-held, start-held, cost-held, condition-valid, effect-valid}
+use Rattle.files.proofs.HeldTask.{held-action, variables-held, actions-held, size-held, start-held, cost-held, condition-valid, effect-valid, goal-valid}
 use Rattle.search.specs.States.{stateCount, stateNumber}
 use Rattle.search.specs.FirstPlan.{startNumber}
 use Rattle.search.specs.Rows.{rowVariables, rowStates, Searchable}
@@ -55,6 +56,11 @@ module _ (d : Arrays) where
     pub held-starts : (v : ℕ) → v < d .variables → getD (d .starts) v 0 < getD (d .sizes) v 0
     held-starts v h = omega (arith, held-valid .start v (omega (arith, variables-held d)), size-held d v h, start-held d v h)
 
+    pub held-goal : (v : ℕ) → v < d .variables → (getD (d .goal) v 0 ≡ 255 → ⊥) → getD (d .goal) v 0 < getD (d .sizes) v 0
+    held-goal v h n =
+        let at : getD (d .goal) (0 + v) 0 ≡ getD (d .goal) v 0 = ap (λ (u : ℕ). getD (d .goal) u 0) (zero-add v) in
+        omega (arith, at, goal-valid d held-valid v h (ne-eqb (getD (d .goal) (0 + v) 0) 255 (λ e. n (sym at ∙ e))), size-held d v h)
+
     pub held-few : d .variables ≤ 64
     held-few = omega (arith, held-valid .variables-few, variables-held d)
 
@@ -67,7 +73,6 @@ module _ (d : Arrays) where
           variables-few = held-few;
           actions-few = held-actions-few;
           size-least = held-sizes;
-          size-most = λ v h. omega (arith, held-valid .size-most v, size-held d v h);
           condition-inside = λ a v h l n. omega (arith, condition-valid d held-valid a v h l (ne-eqb (getD (d .conditions) (64 * a + v) 0) 255 n), size-held d v l);
           effect-inside = λ a v h l n. omega (arith, effect-valid d held-valid a v h l (ne-eqb (getD (d .effects) (64 * a + v) 0) 255 n), size-held d v l);
           cost-most = λ a h. omega (arith, held-valid .action a .cost, cost-held d a h);

@@ -21,6 +21,7 @@ pub mod OfferLoops
 pub mod OfferActions
 pub mod Settling
 pub mod Offering
+pub mod SettleLoops
 pub mod HeldStates
 pub mod Picking
 pub mod Blocks

@@ -91,8 +91,14 @@ module _ (variables actions count : ℕ) (sizes weights costs conditions effects
   number-is : number ≡ weighted sizes earlier variables
   unfolding number
   number-is =
-      omega (arith, taken-most, t .moves-are .set a inside, t .moves-are .asked a inside, x-is,
-      weighted-balance sizes earlier own (setBy effects (64 * a)) (askedOf conditions effects (64 * a)) variables balance)
+      omega (
+        arith,
+        taken-most,
+        t .moves-are .set a inside,
+        t .moves-are .asked a inside,
+        x-is,
+        weighted-balance sizes earlier own (setBy effects (64 * a)) (askedOf conditions effects (64 * a)) variables balance,
+      )
 
   earlier-inside : RowInside variables sizes earlier
   unfolding earlier effectAt conditionAt own

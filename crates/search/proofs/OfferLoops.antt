@@ -198,7 +198,7 @@ module _ (sizes weights : List ℕ) (n count free : ℕ) (w : Numbered n count s
         (λ a t.
         split-le (v + 1) u
         (λ b. clash (free-true test (v + 1) u b t) f)
-        (λ b. clash t (first .skipped u a (omega (arith, d)))))) 
+        (λ b. clash t (first .skipped u a (omega (arith, d))))))
         ∙ sym (changed-other g v (r v) u d)))))
 
     pub weight-few : getD weights v 0 ≤ 4096

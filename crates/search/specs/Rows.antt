@@ -102,7 +102,6 @@ pub record Searchable (variables actions : ℕ) (sizes costs conditions effects 
   pub variables-few : variables ≤ 64
   pub actions-few : actions ≤ 512
   pub size-least : (v : ℕ) → v < variables → 1 ≤ getD sizes v 0
-  pub size-most : (v : ℕ) → v < variables → getD sizes v 0 ≤ 32
   pub condition-inside : (a v : ℕ) → a < actions → v < variables → (getD conditions (64 * a + v) 0 ≡ 255 → ⊥) → getD conditions (64 * a + v) 0 < getD sizes v 0
   pub effect-inside : (a v : ℕ) → a < actions → v < variables → (getD effects (64 * a + v) 0 ≡ 255 → ⊥) → getD effects (64 * a + v) 0 < getD sizes v 0
   pub cost-most : (a : ℕ) → a < actions → getD costs a 0 ≤ 1000000

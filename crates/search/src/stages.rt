@@ -85,8 +85,13 @@ fn search_arrays(
     if room < count {
         return unsearched(outcomes::refuse(outcomes::SHORT_BUFFER, count));
     }
+    let weights = states::weights(sizes, variables);
+    moves::fill(moves, &weights, conditions, effects, variables, actions);
     let start = table::search(
         entries,
+        rows,
+        moves,
+        &weights,
         count,
         variables,
         actions,
@@ -97,8 +102,6 @@ fn search_arrays(
         conditions,
         effects,
     );
-    let weights = states::weights(sizes, variables);
-    moves::fill(moves, &weights, conditions, effects, variables, actions);
     fact_rows::fill(rows, sizes, conditions, conditions, variables, actions);
     Searched {
         outcome: outcomes::done(),

@@ -62,44 +62,6 @@ pub fn values_of(sizes: &[u8; 64], variables: usize, state: usize) -> [u8; 64]
     values
 }
 
-// Whether the conditions of the row at `base` hold for values.
-pub fn all_hold(row: &[u8], base: usize, variables: usize, values: &[u8; 64]) -> bool
-    requires { ⌜ RowIn variables base (now row) ⌝ }
-    ensures { λ r. ⌜ r ≡ allHold (rowPairs (now (row .entry)) base 0 variables) (listState (now (values .entry))) ⌝ }
-{
-    let mut v: usize = 0;
-    let mut left = variables;
-    while 0 < left {
-        if !rows::meets(row[base + v], values[v]) {
-            return false;
-        }
-        v += 1;
-        left -= 1;
-    }
-    true
-}
-
-// The number of the state after the effects of the row at `base`.
-pub fn number_after(
-    sizes: &[u8; 64],
-    effects: &[u8],
-    base: usize,
-    variables: usize,
-    values: &[u8; 64],
-) -> usize
-    requires { ⌜ EffectsOn variables base (now sizes) (now effects) (now values) ⌝ }
-    ensures { λ r. ⌜ NumberAfter variables base (now (sizes .entry)) (now (effects .entry)) (now (values .entry)) r ⌝ }
-{
-    let mut number: usize = 0;
-    let mut v = variables;
-    while 0 < v {
-        v -= 1;
-        let value = rows::cell_after(effects[base + v], values[v]);
-        number = value as usize + bytes::byte_at(sizes, v) * number;
-    }
-    number
-}
-
 // What a change of one in the value of each variable adds to the number of a state.
 pub fn weights(sizes: &[u8; 64], variables: usize) -> [usize; 64]
     requires { ⌜ FewStates variables (now sizes) ⌝ }

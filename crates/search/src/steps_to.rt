@@ -60,7 +60,19 @@ pub fn offer(
             let mut value: usize = 0;
             while value < size {
                 let at = number + weight * value;
-                offer(entries, settled, least, count, sizes, weights, variables, free, next, at, entry);
+                offer(
+                    entries,
+                    settled,
+                    least,
+                    count,
+                    sizes,
+                    weights,
+                    variables,
+                    free,
+                    next,
+                    at,
+                    entry,
+                );
                 value += 1;
             }
         } else {
@@ -97,7 +109,19 @@ pub fn settle(
         let entry = entries::after_step(own, Minutes(costs[a] as u64));
         let free = moves[3 * a + 2];
         let at = x - moves[3 * a] as usize + moves[3 * a + 1] as usize;
-        offer(entries, settled, least, count, sizes, weights, variables, free, 0, at, entry);
+        offer(
+            entries,
+            settled,
+            least,
+            count,
+            sizes,
+            weights,
+            variables,
+            free,
+            0,
+            at,
+            entry,
+        );
         a = sets::next_in(&leading, a + 1, actions);
     }
 }

@@ -43,7 +43,19 @@ fn begin(
     let free = goal::free(goal, variables);
     let at = goal::number(goal, weights, variables);
     let first = entries::first(true);
-    steps_to::offer(entries, settled, least, count, sizes, weights, variables, free, 0, at, first);
+    steps_to::offer(
+        entries,
+        settled,
+        least,
+        count,
+        sizes,
+        weights,
+        variables,
+        free,
+        0,
+        at,
+        first,
+    );
 }
 
 // Fills the entries with the table of the task that arrays hold, and gives the number of its
@@ -69,14 +81,33 @@ pub fn search(
     fact_rows::fill(rows, sizes, conditions, effects, variables, actions);
     let mut settled = [0u8; 4096];
     let mut least = [count; 64];
-    begin(entries, &settled, &mut least, count, sizes, weights, goal, variables);
+    begin(
+        entries,
+        &settled,
+        &mut least,
+        count,
+        sizes,
+        weights,
+        goal,
+        variables,
+    );
     let mut s = selection::select(entries, &settled, &least, count);
     while s < count {
         settled[s] = 1;
         selection::refresh(entries, &settled, &mut least, count, s / 64);
         steps_to::settle(
-            entries, &settled, &mut least, count, sizes, weights, costs, rows, moves, variables,
-            actions, s,
+            entries,
+            &settled,
+            &mut least,
+            count,
+            sizes,
+            weights,
+            costs,
+            rows,
+            moves,
+            variables,
+            actions,
+            s,
         );
         s = selection::select(entries, &settled, &least, count);
     }

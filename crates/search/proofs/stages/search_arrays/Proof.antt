@@ -57,13 +57,6 @@ returns-2 c =
     let short : to-start k .args .room < stateCount (t .variables) = omega (arith, c .before .before .if2 .taken) in
     searched-refused t _ _ _ _ (table-short t _ _ few short (c .before .refuse2 .ensures ∙ ap (refusal 21) s)) (refusal-number _ 21 _ (omega arith) (c .before .refuse2 .ensures)) _ (c .unsearched2 .ensures) _ _ _ _ _
 
-search-requires : tie.Need-search-requires
-search-requires c κs =
-    let k = c .before .before .before in
-    let l = c .before .before .if1 .left in
-    let s = to-start k in
-    record { accepted = s .pre .accepted; states = states-of k l; few = l; room = omega (arith, s .pre .entries-room) }
-
 -- the sizes and states of the task, after the count
 few-of : (k : tie.After-count) → k .count .result ≤ 4096 → FewStates (to-start k .args .variables) (now (to-start k .args .sizes))
 few-of k h =
@@ -72,24 +65,42 @@ few-of k h =
     record { sized = record { few = held-few d accepted; least = held-sizes d accepted }; states = omega (arith, states-of k h, held-states d) }
 
 weights-requires : tie.Need-weights-requires
-weights-requires c κs = few-of (c .before .before .before .before .before .before) (c .before .before .before .before .before .if1 .left)
+weights-requires c κs = few-of (c .before .before) (c .before .if1 .left)
 
 fill-requires : tie.Need-fill-requires
 fill-requires c κs =
-    let k = c .before .before .before .before .before .before .before .before .before in
-    let few = few-of k (c .before .before .before .before .before .before .before .before .if1 .left) in
+    let k = c .before .before .before .before .before in
+    let few = few-of k (c .before .before .before .before .if1 .left) in
     let sizes = now (to-start k .args .sizes) in
     let light : (v : ℕ) → v < to-start k .args .variables → getD (c .before .before .weights .result) v 0 ≤ 4096 =
     λ v h. omega (arith, c .before .before .weights .ensures v h, weight-most sizes v (to-start k .args .variables) (few .sized .least) (omega arith), few .states) in
     record { variables-few = few .sized .few; actions-few = held-actions-few (task-of (to-start k)) (to-start k .pre .accepted); weights-few = light; room = to-start k .pre .moves-room }
 
+search-requires : tie.Need-search-requires
+search-requires c κs =
+    let k = c .before .before .before .before .before .before .before .before .before .before .before .before in
+    let l = c .before .before .before .before .before .before .before .before .before .before .before .if1 .left in
+    let s = to-start k in
+    let weights = c .before .before .before .before .before .before .before .before .before .weights .ensures in
+    record {
+      accepted = s .pre .accepted;
+      states = states-of k l;
+      few = l;
+      room = omega (arith, s .pre .entries-room);
+      rows-long = s .pre .rows-room;
+      moves-long = omega (arith, s .pre .moves-room, c .before .before .before .before .before .before .fill .kept .0);
+      weights-are = weights;
+      moves-are = c .before .before .before .before .before .before .fill .ensures (now (s .args .sizes)) weights;
+    }
+
 fill-requires-2 : tie.Need-fill-requires-2
 fill-requires-2 c κs =
-    let k = c .before .before .before .before .before .before .before .before .before .before .before .before .before in
+    let k = c .before .before .before .before .before .before .before .before .before .before .before .before .before .before .before .before .before .before in
+    let l = c .before .before .before .before .before .before .before .before .before .before .before .before .before .before .before .before .before .if1 .left in
     let d = task-of (to-start k) in
     let accepted = to-start k .pre .accepted in
-    let few : stateCount (held d .variables) ≤ 4096 = omega (arith, states-of k (c .before .before .before .before .before .before .before .before .before .before .before .before .if1 .left), c .before .before .before .before .before .before .before .before .before .before .before .before .if1 .left) in
-    record { few = held-facts d accepted few _ (to-start k .pre .rows-room); actions-few = held-actions-few d accepted }
+    let few : stateCount (held d .variables) ≤ 4096 = omega (arith, states-of k l, l) in
+    record { few = held-facts d accepted few _ (omega (arith, to-start k .pre .rows-room, c .before .before .before .before .before .search .kept .1 .0)); actions-few = held-actions-few d accepted }
 
 done-requires : tie.Need-done-requires
 done-requires c κs = search needs
@@ -105,23 +116,24 @@ same-length-3 c = search needs
 
 returns-3 : tie.Need-returns-3
 returns-3 c =
-    let h = c .before .before .before .before .before .before .before .before .before .before .before .before .before in
-    let k = h .before .before .before .before in
+    let k = c .before .before .before .before .before .before .before .before .before .before .before .before .before .before .before .before .before .before .before .before .before .before in
+    let l = c .before .before .before .before .before .before .before .before .before .before .before .before .before .before .before .before .before .before .before .before .before .if1 .left in
     let s = to-start k in
     let d = task-of s in
     let t = held d in
-    let states = states-of k (h .before .before .before .if1 .left) in
-    let few : stateCount (t .variables) ≤ 4096 = omega (arith, h .before .before .before .if1 .left) in
-    let fit = states-fit t (s .args .room) few (omega (arith, h .before .before .if2 .left)) in
-    let tables : StepTables (d .variables) (d .actions) (d .sizes) (d .costs) (d .conditions) (d .effects) (c .before .before .before .fill2 .last .0) (c .before .before .before .before .before .before .before .fill .last .0) =
+    let states = states-of k l in
+    let few : stateCount (t .variables) ≤ 4096 = omega (arith, l) in
+    let fit = states-fit t (s .args .room) few (omega (arith, c .before .before .before .before .before .before .before .before .before .before .before .before .before .before .before .before .before .before .before .before .if2 .left)) in
+    let searched = c .before .before .before .before .before .before .before .before .before .search in
+    let tables : StepTables (d .variables) (d .actions) (d .sizes) (d .costs) (d .conditions) (d .effects) (c .before .before .before .fill2 .last .0) (c .before .before .before .before .before .before .before .before .before .before .before .before .before .before .before .before .fill .last .0) =
     record {
       asked = searchable d (s .pre .accepted) few;
-      few = held-facts d (s .pre .accepted) few _ (omega (arith, s .pre .rows-room, c .before .before .rows .given));
+      few = held-facts d (s .pre .accepted) few _ (omega (arith, s .pre .rows-room, searched .kept .1 .0, c .before .before .before .fill2 .kept .0));
       rows-are = c .before .before .before .fill2 .ensures;
-      moves-are = c .before .before .before .before .before .before .before .fill .ensures (d .sizes) (c .before .before .before .before .before .before .before .before .before .before .weights .ensures);
+      moves-are = c .before .before .before .before .before .before .before .before .before .before .before .before .before .before .before .before .fill .ensures (d .sizes) (c .before .before .before .before .before .before .before .before .before .before .before .before .before .before .before .before .before .before .before .weights .ensures);
     }
     in
-    searched-done d _ _ _ (s .pre .accepted) few fit _ (c .done .ensures) _ _ states (h .search .ensures .start) _ (h .search .ensures .table) _ _ tables
+    searched-done d _ _ _ (s .pre .accepted) few fit _ (c .done .ensures) _ _ states (searched .ensures .start) _ (searched .ensures .table) _ _ tables
 
 pub search-arrays-spec : {M : Type 1} → statement M
 search-arrays-spec =
@@ -134,9 +146,9 @@ search-arrays-spec =
     refuse-requires-2
     unsearched-requires-2
     returns-2
-    search-requires
     weights-requires
     fill-requires
+    search-requires
     fill-requires-2
     done-requires
     same-length

@@ -8,10 +8,9 @@ use lib.ListN.{length, replicate, length-replicate, length-set, getD-replicate}
 use Rattle.files.specs.Dense.{Arrays, arrays}
 use Rattle.search.specs.Rows.{rowStates, Searchable}
 use Rattle.search.specs.Settling.{Known}
-use Rattle.search.specs.FactRows.{FewFacts}
-use Rattle.search.specs.Offers.{Numbered}
-use Rattle.search.proofs.HeldStates.{held-states, held-start, held-sizes, held-starts, held-few, held-goal, searchable}
-use Rattle.search.proofs.FactBound.{facts-few}
+use Rattle.search.specs.FactRows.{mostFacts, FewFacts}
+use Rattle.search.specs.Offers.{Numbered, SearchTables}
+use Rattle.search.proofs.HeldStates.{held-states, held-start, held-sizes, held-starts, held-few, held-goal, held-facts, searchable}
 use Rattle.search.proofs.Searching.{openCount, Searching, begin, falls, low, next, end}
 use Rattle.search.proofs.Blocks.{block-few, begins, known-settled}
 use Rattle.search.proofs.table.search.Statement.{statement}
@@ -61,16 +60,11 @@ numbered s =
       weights-are = s .pre .weights-are;
     }
 
-few-facts : (s : Started) (rows : List ℕ) → 8 * 148 ≤ length rows → FewFacts (s .args .variables) (now (s .args .sizes)) rows
-few-facts s rows long =
-    record {
-      variables-few = held-few (task s) (s .pre .accepted);
-      facts-few = facts-few (now (s .args .sizes)) (s .args .variables) (held-few (task s) (s .pre .accepted)) (held-sizes (task s) (s .pre .accepted)) (searched s .size-most) (few-states s);
-      room = long;
-    }
+facts-few : (s : Started) (rows : List ℕ) → 8 * mostFacts ≤ length rows → FewFacts (s .args .variables) (now (s .args .sizes)) rows
+facts-few s = held-facts (task s) (s .pre .accepted) (omega (arith, s .pre .states, s .pre .few))
 
 fill-requires : tie.Need-fill-requires Inv-loop μ-loop
-fill-requires c κs = let s = c .before .before .before .before in record { few = few-facts s _ (s .pre .rows-long); actions-few = searched s .actions-few }
+fill-requires c κs = let s = c .before .before .before .before in record { few = facts-few s _ (s .pre .rows-long); actions-few = searched s .actions-few }
 
 slice-aggregate-begin : tie.Need-slice-aggregate-begin Inv-loop μ-loop
 slice-aggregate-begin c = refl
@@ -161,7 +155,7 @@ settle-requires c κs =
       conditions = now (s .args .conditions);
       effects = now (s .args .effects);
       tables = record { asked = searched s; rows-are = fill .ensures; moves-are = s .pre .moves-are };
-      facts = few-facts s _ (omega (arith, fill .kept .0, s .pre .rows-long));
+      facts = facts-few s _ (omega (arith, fill .kept .0, s .pre .rows-long));
       moves-long = s .pre .moves-long;
       numbered = numbered s;
       blocks =
@@ -207,7 +201,7 @@ loop-again c =
     let l = c .before .before .before .before .before .before .before .before .before .before .before .before .before .before .before .before .before .before .loop in
     let i = l .inv in
     let k = c .before .before .before .before .before .before .before .settle in
-    let tables = record { asked = searched s; rows-are = c .before .before .before .before .before .before .before .before .before .before .before .before .before .before .before .before .before .before .before .before .before .before .before .before .before .before .before .before .before .before .before .before .fill .ensures; moves-are = s .pre .moves-are } in (
+    let tables : SearchTables (s .args .variables) (s .args .actions) (now (s .args .sizes)) (now (s .args .costs)) (now (s .args .conditions)) (now (s .args .effects)) _ (now (s .args .moves)) = record { asked = searched s; rows-are = c .before .before .before .before .before .before .before .before .before .before .before .before .before .before .before .before .before .before .before .before .before .before .before .before .before .before .before .before .before .before .before .before .fill .ensures; moves-are = s .pre .moves-are } in (
       next (task s) _ _ _ _ (i .0) (c .before .before .before .before .before .before .before .before .before .before .before .before .before .before .before .before .before .loop-test .taken) _ (λ r h. k .ensures .offers (now (s .args .starts)) (now (s .args .conditions)) (now (s .args .effects)) tables r (omega (arith, h, states-are s))) (omega (arith, k .kept .0, i .0 .room)) _ (c .select2 .ensures),
       k .kept .0 ∙ i .1,
       k .ensures .known,
