@@ -3,5 +3,6 @@
 
 pub mod buffers;
 pub mod differential;
+pub mod optimised;
 pub mod program;
 pub mod reference;
