@@ -1,5 +1,7 @@
 //! Tasks that take long to search or to mark.
 
+use std::ops::RangeInclusive;
+
 use super::super::files::{Action, Fact, Task, Variable, MOST_ACTIONS, MOST_VARIABLES};
 use super::random::{add, numbers, Random};
 use super::shaped::counter_of;
@@ -7,52 +9,83 @@ use super::shaped::counter_of;
 /// The longest counter that is searched.
 const BITS: [u16; 12] = [2; 12];
 
-/// Variables of these sizes, each from 0 to its highest value, and as many
-/// actions as a task may have, of so many conditions and effects.
-pub fn crowded(
-    random: &mut Random,
-    sizes: &[u16],
-    conditions: usize,
-    effects: usize,
-    cost: impl Fn(&mut Random) -> u32,
-) -> Task {
-    let variables: Vec<Variable> = sizes
-        .iter()
-        .map(|&size| Variable { size, start: 0 })
-        .collect();
-    let actions = (0..MOST_ACTIONS)
-        .map(|_| Action {
-            conditions: facts_of(random, &variables, conditions),
-            effects: facts_of(random, &variables, effects),
-            cost: cost(random),
-        })
-        .collect();
+/// Variables of these sizes, each to go from 0 to its highest value.
+fn to_highest(sizes: &[u16]) -> Task {
     let highest = |variable: u16| Fact {
         variable,
         value: sizes[variable as usize] - 1,
     };
+    let variable = |&size: &u16| Variable { size, start: 0 };
     Task {
+        variables: sizes.iter().map(variable).collect(),
         goal: numbers(sizes.len()).into_iter().map(highest).collect(),
-        variables,
-        actions,
+        actions: Vec::new(),
         signer: 1,
     }
 }
 
-/// Facts of so many of the variables.
-fn facts_of(random: &mut Random, variables: &[Variable], count: usize) -> Vec<Fact> {
+/// So many of the variables, in order.
+fn chosen(random: &mut Random, variables: &[Variable], count: usize) -> Vec<u16> {
     let mut chosen = numbers(variables.len());
     random.shuffle(&mut chosen);
     chosen.truncate(count);
     chosen.sort_unstable();
-    let fact = |variable| random.fact(variables, variable);
-    chosen.into_iter().map(fact).collect()
+    chosen
+}
+
+/// A fact of each of these variables.
+fn facts_on(random: &mut Random, variables: &[Variable], on: &[u16]) -> Vec<Fact> {
+    let fact = |&variable: &u16| random.fact(variables, variable);
+    on.iter().map(fact).collect()
+}
+
+/// Facts of so many of the variables.
+fn facts_of(random: &mut Random, variables: &[Variable], count: usize) -> Vec<Fact> {
+    let on = chosen(random, variables, count);
+    facts_on(random, variables, &on)
+}
+
+/// Twelve bits and as many actions as a task may have, each with conditions
+/// and effects on the same three bits.
+pub fn crowded(random: &mut Random) -> Task {
+    let mut task = to_highest(&BITS);
+    for _ in 0..MOST_ACTIONS {
+        let on = chosen(random, &task.variables, 3);
+        task.actions.push(Action {
+            conditions: facts_on(random, &task.variables, &on),
+            effects: facts_on(random, &task.variables, &on),
+            cost: 0,
+        });
+    }
+    for action in &mut task.actions {
+        action.cost = random.below(100) as u32;
+    }
+    task
+}
+
+/// Variables of these sizes and as many actions as a task may have, each with
+/// so many conditions and effects, on any of them, and a cost of the range.
+pub fn crowded_with(
+    random: &mut Random,
+    sizes: &[u16],
+    [conditions, effects]: [usize; 2],
+    costs: RangeInclusive<u32>,
+) -> Task {
+    let mut task = to_highest(sizes);
+    for _ in 0..MOST_ACTIONS {
+        task.actions.push(Action {
+            conditions: facts_of(random, &task.variables, conditions),
+            effects: facts_of(random, &task.variables, effects),
+            cost: random.between(*costs.start() as usize, *costs.end() as usize) as u32,
+        });
+    }
+    task
 }
 
 /// Crowded, and no plan: the first variable, once it is not at its highest
 /// value, stays so.
 pub fn crowded_without_plan(random: &mut Random) -> Task {
-    let mut task = crowded(random, &BITS, 3, 3, |random| random.below(100) as u32);
+    let mut task = crowded_with(random, &BITS, [3, 3], 0..=99);
     let highest = task.goal[0];
     for action in &mut task.actions {
         if action.effects.contains(&highest) {

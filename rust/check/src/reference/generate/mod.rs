@@ -17,7 +17,8 @@ pub use super::files::{
 };
 pub use files::{byte_changed, cut, damaged, fields_exchanged, lengthened, origin, plan};
 pub use hard::{
-    counter_behind_dear_actions, coverers_lost, crowded, crowded_counter, crowded_without_plan,
+    counter_behind_dear_actions, coverers_lost, crowded, crowded_counter, crowded_with,
+    crowded_without_plan,
 };
 pub use large::{few_kept, largest, largest_searched};
 pub use random::Random;
