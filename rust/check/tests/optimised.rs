@@ -1,6 +1,8 @@
 //! The optimised search against the library and the reference: tables and
 //! plans of generated tasks.
 
+use std::collections::BTreeMap;
+
 use shortest::lent::{self as library, Entry};
 use shortest_check::buffers::Buffers;
 use shortest_check::optimised::search;
@@ -69,9 +71,10 @@ fn compare_planned(lent: &mut Buffers, task: &Task) -> u32 {
 #[test]
 fn as_both_planners() {
     let lent = &mut Buffers::long();
-    let mut outcomes = std::collections::BTreeMap::<u32, u32>::new();
+    let mut outcomes = BTreeMap::<u32, u64>::new();
     for_all(|task| *outcomes.entry(compare_planned(lent, task)).or_default() += 1);
-    println!("{outcomes:?}");
+    let expected = [(0, 3_228), (NO_PLAN, 479), (TOO_MANY_STATES, 113)];
+    assert_eq!(outcomes, BTreeMap::from(expected));
 }
 
 /// Tasks as they are, with variables of one value and ones never named.
@@ -91,5 +94,57 @@ fn without_reduction() {
         assert_eq!(found.plan, plan);
         searched += 1;
     });
-    println!("{searched}");
+    assert_eq!(searched, 3_483);
+}
+
+/// The tasks of the benchmark: 4,096 states and every action kept.
+#[test]
+fn hard_tasks() {
+    let lent = &mut Buffers::long();
+    let random = &mut Random::new(1);
+    let bits = &[2; 12][..];
+    let mut tasks = vec![
+        (generate::crowded(random), 0),
+        (generate::crowded_counter(random), 0),
+        (generate::counter_behind_dear_actions(random), 0),
+        (generate::crowded_without_plan(random), NO_PLAN),
+    ];
+    for (sizes, facts, costs) in [
+        (bits, [1, 1], 0..=99),
+        (bits, [3, 3], 0..=0),
+        (bits, [3, 3], 0..=1_000_000),
+        (&[8; 4], [2, 2], 7..=7),
+        (&[16; 3], [1, 1], 0..=99),
+    ] {
+        let task = generate::crowded_with(random, sizes, facts, costs);
+        tasks.push((task, 0));
+    }
+    for (task, outcome) in tasks {
+        assert_eq!(compare_planned(lent, &task), outcome);
+        let kept = lent.reduce(library::reduce, &task_file(&task), 4, 1);
+        let reduced = read_task(&lent.reduced[..kept.reduced]).unwrap();
+        assert_eq!(reduced.actions, task.actions);
+        assert_eq!(state_count(&reduced), Some(4_096));
+    }
+}
+
+/// The counters' only cheapest plan passes through every state.
+#[test]
+fn counters_have_the_longest_plan() {
+    let random = &mut Random::new(1);
+    for task in [
+        generate::crowded_counter(random),
+        generate::counter_behind_dear_actions(random),
+    ] {
+        let plan = search(&task).unwrap().plan.unwrap();
+        assert_eq!(plan.len(), 4_095);
+    }
+}
+
+#[test]
+fn coverers_are_lost_round_by_round() {
+    let task = generate::coverers_lost();
+    assert_eq!((task.variables.len(), task.actions.len()), (64, 512));
+    let marked = Buffers::long().mark(library::mark, &task_file(&task), 4);
+    assert_eq!(marked.rounds, 64);
 }

@@ -129,37 +129,32 @@ pub fn counter_behind_dear_actions(random: &mut Random) -> Task {
 /// How many rounds of marking take a coverer away.
 const LOST: u16 = MOST_VARIABLES as u16 - 2;
 
-fn on(variable: u16) -> Fact {
-    Fact { variable, value: 1 }
-}
-
 /// A chain of two-valued variables, of which each round of marking tracks one
-/// more; actions that set its end; and for each of its variables one that
-/// covers all of them until that variable, which it sets too, is tracked.
+/// more, and 200 actions that set its end. For each other variable of the
+/// chain one action covers them all, until that variable, which it sets too,
+/// is tracked; the first is there 188 times more.
 pub fn coverers_lost() -> Task {
-    let off = |variable: u16| Fact { variable, value: 0 };
-    let last = LOST + 1;
+    let fact = |variable: u16, value: u16| Fact { variable, value };
+    let always = fact(LOST + 1, 0);
     let action = |conditions: Vec<Fact>, effects: Vec<Fact>| Action {
         conditions,
         effects,
         cost: 1,
     };
-    let links = (1..=LOST).map(|place| action(vec![on(place)], vec![on(place - 1)]));
-    let coverers = (1..=LOST).map(|place| action(vec![off(last)], vec![on(0), on(place)]));
-    let covered = (0..76).map(|number: u16| {
-        let conditions = vec![
-            Fact {
-                variable: 1 + number % LOST,
-                value: number / LOST,
-            },
-            off(last),
-        ];
-        action(conditions, vec![on(0)])
+    let covered = (0..200).map(|number| {
+        let other = fact(1 + number % LOST, number / LOST % 2);
+        action(vec![other, always], vec![fact(0, 1)])
     });
+    let covering = |also: u16| action(vec![always], vec![fact(0, 1), fact(also, 1)]);
+    let link = |place: u16| action(vec![fact(place, 1)], vec![fact(place - 1, 1)]);
+    let actions = covered
+        .chain(std::iter::repeat_n(covering(1), 188))
+        .chain((1..=LOST).map(covering))
+        .chain((1..=LOST).map(link));
     Task {
+        actions: actions.collect(),
         variables: vec![Variable { size: 2, start: 0 }; MOST_VARIABLES],
-        goal: vec![on(0)],
-        actions: covered.chain(coverers).chain(links).collect(),
+        goal: vec![fact(0, 1)],
         signer: 1,
     }
 }
