@@ -227,10 +227,9 @@ fn measure_translation(name: &str, random: &mut Random, task: &Task) {
     print("translate", &translate);
 }
 
-/// How often a call is measured, and after how long at the latest its last
-/// time begins.
+/// How often a call is measured: not again once it has taken long.
 const TIMES: usize = 20;
-const LONG: Duration = Duration::from_millis(500);
+const LONG: Duration = Duration::from_millis(1_200);
 
 /// The best time of either side.
 fn pair(mut run: impl FnMut(&Calls)) -> [Duration; 2] {
