@@ -1,6 +1,9 @@
 // Reads a task file from its standard input, plans the task under the file's own signer, and prints
 // what it found.
 mod listing;
+mod printer;
+
+use printer::Printer;
 
 fn main() {
     // one byte more than a file may have, so that a file over the limit is told from one at it
@@ -26,14 +29,15 @@ fn print_plan(file: &[u8]) {
         &mut plan,
     );
     let outcome = planned.outcome;
+    let out = Printer::new();
     if outcome.number != 0 {
-        listing::print_refusal(outcome);
+        listing::put_refusal(out, outcome).flush();
         return;
     }
-    listing::print_counts(b"task ", file);
-    listing::print_counts(b"kept ", &reduced);
-    listing::print_steps(&plan);
-    listing::print_total(planned.cost, planned.steps);
+    let out = listing::put_counts(out, b"task ", file);
+    let out = listing::put_counts(out, b"kept ", &reduced);
+    let out = listing::put_steps(out, &plan);
+    listing::put_total(out, planned.cost, planned.steps).flush();
 }
 
 // The signer of the file; of a file over the limit, which is refused under any signer, 0.

@@ -1,30 +1,37 @@
-//! Times of the library and of the reference on the same tasks, and their
-//! ratio.
+//! Times of the library and of the reference on the same tasks, for search
+//! also of the optimised one, and the library's ratio to either.
 
 use std::hint::black_box;
 use std::time::{Duration, Instant};
 
 use shortest::lent::{self as library, Answer};
 use shortest_check::buffers::{Buffers, Mark, Plan, Reduce, Sheet, Translate};
+use shortest_check::optimised;
 use shortest_check::reference;
-use shortest_check::reference::files::{self, Action, Fact, Task, Variable};
+use shortest_check::reference::files::{self, Action, Task};
 use shortest_check::reference::generate::{self, plan_file, task_file, Random};
+use shortest_check::reference::search::state_count;
 
 fn main() {
-    println!("library and reference in microseconds, library : reference");
-    for (name, task) in tasks() {
+    println!("library, reference and optimised search in microseconds,");
+    println!("library : reference, library : optimised search");
+    let random = &mut Random::new(4);
+    for (name, task) in tasks(random) {
         measure(name, &task_file(&task));
     }
+    for (name, task) in hard_tasks(random) {
+        measure(name, &task_file(&task));
+    }
+    measure_level_4("coverers lost", &task_file(&generate::coverers_lost()));
     measure_sheet();
     let random = &mut Random::new(4);
-    let task = crowded(random);
+    let task = generate::crowded(random);
     measure_translation("512 actions", random, &task);
     let task = generate::largest(random);
     measure_translation("largest", random, &task);
 }
 
-fn tasks() -> [(&'static str, Task); 7] {
-    let random = &mut Random::new(4);
+fn tasks(random: &mut Random) -> [(&'static str, Task); 7] {
     [
         ("small", with_plan(random, generate::small_with_plan)),
         ("typical", with_plan(random, generate::few_kept)),
@@ -33,14 +40,41 @@ fn tasks() -> [(&'static str, Task); 7] {
             "largest, searched",
             with_plan(random, generate::largest_searched),
         ),
-        ("4,096 states, 512 actions", crowded(random)),
+        ("4,096 states, 512 actions", generate::crowded(random)),
         ("plan of 4,095 steps", generate::counter_of(&[2; 12], 1)),
-        ("plan of 4,095 steps, 512 actions", crowded_counter(random)),
+        (
+            "plan of 4,095 steps, 512 actions",
+            generate::crowded_counter(random),
+        ),
     ]
 }
 
+/// All of 4,096 states and 512 actions.
+fn hard_tasks(random: &mut Random) -> Vec<(&'static str, Task)> {
+    let mut tasks = Vec::new();
+    let bits = &[2; 12][..];
+    for (name, sizes, facts, costs) in [
+        ("1 condition, 1 effect", bits, [1, 1], 0..=99),
+        ("3 conditions, 3 effects", bits, [3, 3], 0..=99),
+        ("6 conditions, 6 effects", bits, [6, 6], 0..=99),
+        ("8 x 8 x 8 x 8", &[8; 4], [2, 2], 0..=99),
+        ("16 x 16 x 16", &[16; 3], [1, 1], 0..=99),
+        ("all costs 0", bits, [3, 3], 0..=0),
+        ("all costs equal", bits, [3, 3], 7..=7),
+        ("costs up to 1,000,000", bits, [3, 3], 0..=files::MOST_COST),
+    ] {
+        let family =
+            |random: &mut Random| generate::crowded_with(random, sizes, facts, costs.clone());
+        tasks.push((name, with_plan(random, family)));
+    }
+    tasks.push(("no plan", generate::crowded_without_plan(random)));
+    let counter = generate::counter_behind_dear_actions(random);
+    tasks.push(("counter behind dear actions", counter));
+    tasks
+}
+
 /// The first task of a family that has a plan of some steps.
-fn with_plan(random: &mut Random, family: fn(&mut Random) -> Task) -> Task {
+fn with_plan(random: &mut Random, family: impl Fn(&mut Random) -> Task) -> Task {
     loop {
         let task = family(random);
         let planned = Buffers::long().plan(library::plan, &task_file(&task), 1);
@@ -48,54 +82,6 @@ fn with_plan(random: &mut Random, family: fn(&mut Random) -> Task) -> Task {
             return task;
         }
     }
-}
-
-fn any_fact(random: &mut Random, variable: usize) -> Fact {
-    Fact {
-        variable: variable as u16,
-        value: random.below(2) as u16,
-    }
-}
-
-/// Twelve two-valued variables to be set, by actions on any three.
-fn crowded(random: &mut Random) -> Task {
-    let on = |variable| Fact { variable, value: 1 };
-    let mut actions = Vec::new();
-    for _ in 0..512 {
-        let mut chosen: Vec<usize> = (0..12).collect();
-        random.shuffle(&mut chosen);
-        chosen.truncate(3);
-        chosen.sort_unstable();
-        let mut facts = || chosen.iter().map(|&v| any_fact(random, v)).collect();
-        actions.push(Action {
-            conditions: facts(),
-            effects: facts(),
-            cost: 0,
-        });
-    }
-    for action in &mut actions {
-        action.cost = random.below(100) as u32;
-    }
-    Task {
-        variables: vec![Variable { size: 2, start: 0 }; 12],
-        goal: (0..12).map(on).collect(),
-        actions,
-        signer: 1,
-    }
-}
-
-/// The longest counter, with each step also at 41 or 42 higher costs.
-fn crowded_counter(random: &mut Random) -> Task {
-    let mut task = generate::counter_of(&[2; 12], 1);
-    let steps = task.actions.clone();
-    for number in 12..512 {
-        task.actions.push(Action {
-            cost: 1 + (number / 12) as u32,
-            ..steps[number % 12].clone()
-        });
-    }
-    random.shuffle(&mut task.actions);
-    task
 }
 
 struct Calls {
@@ -132,38 +118,58 @@ impl Calls {
 fn measure(name: &str, file: &[u8]) {
     let lent = &mut Buffers::long();
     let planned = lent.plan(library::plan, file, 1);
-    let reduced = lent.reduce(library::reduce, file, 4, 1);
+    let reduction = lent.reduce(library::reduce, file, 4, 1);
+    let reduced = files::read_task(&lent.reduced[..reduction.reduced]).unwrap();
     println!(
-        "\n{name}: {} bytes, {} rounds, outcome {}, {} states, {} steps",
+        "\n{name}: {} bytes, {} rounds, {} actions kept, outcome {}, {} states, {} steps",
         file.len(),
-        reduced.rounds,
+        reduction.rounds,
+        reduced.actions.len(),
         planned.outcome.number,
-        planned.table,
+        state_count(&reduced).unwrap_or(0),
         planned.steps
     );
     let check = pair(|calls| {
         black_box((calls.check)(black_box(file)));
     });
-    print("check", check);
+    print("check", &check);
     for level in 1..=4 {
-        let mark = pair(|calls| {
-            let (actions, facts) = (&mut lent.action_marks, &mut lent.fact_marks);
-            black_box((calls.mark)(black_box(file), level, actions, facts));
-        });
-        print(&format!("mark, level {level}"), mark);
+        measure_mark(file, level);
     }
     let reduce = pair(|calls| {
         black_box(lent.reduce(calls.reduce, black_box(file), 4, 1));
     });
-    print("reduce", reduce);
+    print("reduce", &reduce);
     let plan = pair(|calls| {
         black_box(lent.plan(calls.plan, black_box(file), 1));
     });
-    if planned.outcome.is_done() {
-        let search = [0, 1].map(|side| plan[side].saturating_sub(reduce[side]));
-        print("search", search);
+    if state_count(&reduced).is_some() {
+        let [library, reference] = [0, 1].map(|side| plan[side].saturating_sub(reduce[side]));
+        let optimised = best(|| {
+            black_box(optimised::search(black_box(&reduced)));
+        });
+        print("search", &[library, reference, optimised]);
     }
-    print("whole row", plan);
+    print("whole row", &plan);
+}
+
+fn measure_mark(file: &[u8], level: u32) {
+    let lent = &mut Buffers::long();
+    let mark = pair(|calls| {
+        black_box(lent.mark(calls.mark, black_box(file), level));
+    });
+    print(&format!("mark, level {level}"), &mark);
+}
+
+fn measure_level_4(name: &str, file: &[u8]) {
+    let marked = Buffers::long().mark(library::mark, file, 4);
+    println!(
+        "\n{name}: {} bytes, {} actions, {} rounds",
+        file.len(),
+        marked.action_marks,
+        marked.rounds
+    );
+    measure_mark(file, 4);
 }
 
 /// The longest page: one action of the highest cost, as often as a plan has
@@ -191,11 +197,11 @@ fn measure_sheet() {
     let check = pair(|calls| {
         black_box((calls.check_plan)(black_box(&task), black_box(&plan)));
     });
-    print("check plan", check);
+    print("check plan", &check);
     let sheet = pair(|calls| {
         black_box((calls.sheet)(black_box(&task), black_box(&plan), page));
     });
-    print("sheet", sheet);
+    print("sheet", &sheet);
 }
 
 /// A text of the task, filled up to the most bytes by its first name.
@@ -218,18 +224,39 @@ fn measure_translation(name: &str, random: &mut Random, task: &Task) {
     let translate = pair(|calls| {
         black_box((calls.translate)(black_box(&text), 1, file));
     });
-    print("translate", translate);
+    print("translate", &translate);
 }
+
+/// How often a call is measured: not again once it has taken long.
+const TIMES: usize = 20;
+const LONG: Duration = Duration::from_millis(1_200);
 
 /// The best time of either side.
 fn pair(mut run: impl FnMut(&Calls)) -> [Duration; 2] {
     let mut best = [Duration::MAX; 2];
-    for _ in 0..20 {
+    repeat(|| {
         for (calls, best) in [Calls::LIBRARY, Calls::REFERENCE].iter().zip(&mut best) {
             *best = (*best).min(time(|| run(calls)));
         }
-    }
+    });
     best
+}
+
+/// The best time of one side.
+fn best(mut run: impl FnMut()) -> Duration {
+    let mut best = Duration::MAX;
+    repeat(|| best = best.min(time(&mut run)));
+    best
+}
+
+fn repeat(mut measure: impl FnMut()) {
+    let start = Instant::now();
+    for _ in 0..TIMES {
+        measure();
+        if start.elapsed() > LONG {
+            break;
+        }
+    }
 }
 
 /// The mean time of as many calls as take some milliseconds.
@@ -243,11 +270,15 @@ fn time(mut run: impl FnMut()) -> Duration {
     start.elapsed() / count
 }
 
-fn print(call: &str, [library, reference]: [Duration; 2]) {
-    let microseconds = |time: Duration| time.as_secs_f64() * 1e6;
-    let (library, reference) = (microseconds(library), microseconds(reference));
-    println!(
-        "{call:14} {library:10.1} {reference:10.1} {:8.3}",
-        library / reference
-    );
+/// The times of the library and of others, and the ratios.
+fn print(call: &str, times: &[Duration]) {
+    let microseconds: Vec<f64> = times.iter().map(|time| time.as_secs_f64() * 1e6).collect();
+    print!("{call:14}");
+    for time in &microseconds {
+        print!(" {time:10.1}");
+    }
+    for other in &microseconds[1..] {
+        print!(" {:8.3}", microseconds[0] / other);
+    }
+    println!();
 }

@@ -1,7 +1,8 @@
 //! Checks of the planner: an independent implementation, a comparison of the
-//! two, and the program `changeover` run by tests.
+//! two, an optimised search, and the program `changeover` run by tests.
 
 pub mod buffers;
 pub mod differential;
+pub mod optimised;
 pub mod program;
 pub mod reference;

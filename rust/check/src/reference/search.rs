@@ -138,7 +138,7 @@ pub fn least_costs(task: &Task, states: usize) -> Vec<Entry> {
 }
 
 /// The first, by action numbers, of the cheapest plans of fewest steps.
-fn first_plan(task: &Task, entries: &[Entry]) -> Vec<u16> {
+pub fn first_plan(task: &Task, entries: &[Entry]) -> Vec<u16> {
     let mut plan = Vec::new();
     let mut state = start(task);
     loop {

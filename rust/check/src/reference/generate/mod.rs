@@ -2,6 +2,7 @@
 //! files and texts. The same seed gives the same.
 
 mod files;
+mod hard;
 mod large;
 mod random;
 mod shaped;
@@ -15,6 +16,10 @@ pub use super::files::{
     write_origin as origin_file, write_plan as plan_file, write_task as task_file,
 };
 pub use files::{byte_changed, cut, damaged, fields_exchanged, lengthened, origin, plan};
+pub use hard::{
+    counter_behind_dear_actions, coverers_lost, crowded, crowded_counter, crowded_with,
+    crowded_without_plan,
+};
 pub use large::{few_kept, largest, largest_searched};
 pub use random::Random;
 pub use shaped::{chain, counter, counter_of, switches};

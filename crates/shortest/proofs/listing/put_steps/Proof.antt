@@ -1,14 +1,14 @@
--- The loop's invariant: the number of steps printed is at most that of the file.
+-- The steps are printed up to one of them.
 use Prim.Native.Nat.{_-_, _≤_}
 use borrow.Author.Needs.{needs}
-use Rattle.shortest.proofs.listing.print_steps.Statement.{statement}
-use Rattle.shortest.proofs.listing.print_steps.Tie as tie
+use Rattle.shortest.proofs.listing.put_steps.Statement.{statement}
+use Rattle.shortest.proofs.listing.put_steps.Tie as tie
 
 abbrev Inv-loop : tie.InvT-loop
-Inv-loop plan count i₀ i = i ≤ count
+Inv-loop file count next₀ i₀ t8 next i = i ≤ count
 
 abbrev μ-loop : tie.MeasureT-loop
-μ-loop plan count i₀ i = count - i
+μ-loop file count next₀ i₀ t8 next i = count - i
 
 steps-requires : tie.Need-steps-requires Inv-loop μ-loop
 steps-requires c κs = search needs
@@ -22,8 +22,17 @@ loop-holds c = search needs
 step-requires : tie.Need-step-requires Inv-loop μ-loop
 step-requires c κs = search needs
 
-print-step-requires : tie.Need-print-step-requires Inv-loop μ-loop
-print-step-requires c κs = search needs
+slice-aggregate-labelled : tie.Need-slice-aggregate-labelled Inv-loop μ-loop
+slice-aggregate-labelled c = search needs
+
+cast-labelled : tie.Need-cast-labelled Inv-loop μ-loop
+cast-labelled c = search needs
+
+labelled-requires : tie.Need-labelled-requires Inv-loop μ-loop
+labelled-requires c κs = search needs
+
+end-requires : tie.Need-end-requires Inv-loop μ-loop
+end-requires c κs = search needs
 
 add-i : tie.Need-add-i Inv-loop μ-loop
 add-i c = search needs
@@ -37,8 +46,8 @@ loop-again c = search needs
 returns : tie.Need-returns Inv-loop μ-loop
 returns c = search needs
 
-pub print-steps-spec : {M : Type 1} → statement M
-print-steps-spec =
+pub put-steps-spec : {M : Type 1} → statement M
+put-steps-spec =
     tie.close
     (tie.spec
     Inv-loop
@@ -47,7 +56,10 @@ print-steps-spec =
     cast-count
     loop-holds
     step-requires
-    print-step-requires
+    slice-aggregate-labelled
+    cast-labelled
+    labelled-requires
+    end-requires
     add-i
     loop-less
     loop-again
