@@ -1,6 +1,6 @@
 -- The states at which the goal holds are those that differ from one only in the variables of which it asks nothing; and the entries
 -- that they are offered.
-use Prim.Native.Nat.{ℕ, _+_, _*_, _≤_, _<_}
+use Prim.Native.Nat.{ℕ, _+_, _≤_, _<_}
 use mathlib.Core.Path.{_≡_, refl, sym, ap, ap₂, _∙_}
 use mathlib.Core.Bool.{Bool, true, false, cond, _&&_}
 use mathlib.Core.List.{List, []}
@@ -19,7 +19,7 @@ use Rattle.plans.proofs.RowStates.{meets-none, meets-some, meetsAt, hold-below}
 use Rattle.search.specs.States.{stateAt}
 use Rattle.search.specs.Table.{entryOf}
 use Rattle.search.specs.Entries.{noEntry, firstEntry, isNone, lessEntry, lowered, entryIn}
-use Rattle.search.specs.Rows.{rowVariables, rowStates, rowState}
+use Rattle.search.specs.Rows.{rowVariables, rowState}
 use Rattle.search.specs.Settling.{Offers}
 use Rattle.search.specs.Sets.{inWord}
 use Rattle.search.specs.Moves.{weighted}

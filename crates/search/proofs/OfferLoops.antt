@@ -1,24 +1,24 @@
 -- Offers to the states that differ from one in free variables only: value by value, and that these are all.
 use Prim.Native.Nat.{ℕ, zero, suc, _+_, _-_, _*_, _≤_, _<_}
-use mathlib.Core.Path.{_≡_, refl, sym, ap, ap₂, subst, _∙_}
+use mathlib.Core.Path.{_≡_, refl, sym, ap, _∙_}
 use mathlib.Core.Bool.{Bool, true, false, cond, _&&_, _||_}
 use mathlib.Core.List.{List}
-use native.Mathlib.Nat.{add-zero, mul-zero}
+use native.Mathlib.Nat.{mul-zero}
 use native.Mathlib.Numerals.{add-one}
 use native.Mathlib.Omega.{arith}
 use lib.Dec.{eqb, leb}
 use lib.ListN.{length, getD}
-use borrow.Author.Tests.{eqb-true, eqb-false, eq-eqb, leb-true, le-leb, lt-leb}
-use Rattle.files.specs.Below.{anyBelow, allBelow}
+use borrow.Author.Tests.{eqb-true, eqb-false, eq-eqb, leb-true, le-leb}
+use Rattle.files.specs.Below.{anyBelow}
 use Rattle.files.proofs.BelowLaws.{allBelow-intro, allBelow-elim, anyBelow-intro, anyBelow-elim}
 use Rattle.files.proofs.Logic.{clash, split, split-le, and-split, and-join}
 use Rattle.files.proofs.Truth.{same-truth}
 use Rattle.plans.specs.State.{State}
 use Rattle.search.specs.Entries.{lessEntry, lowered, entryIn}
-use Rattle.search.specs.Rows.{rowStates, rowWeight, rowState}
+use Rattle.search.specs.Rows.{rowWeight, rowState}
 use Rattle.search.specs.Settling.{Known, Offered, Offers}
 use Rattle.search.specs.Sets.{inWord, FirstFrom}
-use Rattle.search.specs.Offers.{differsIn, differsFrom, Numbered, OfferFrom}
+use Rattle.search.specs.Offers.{differsIn, differsFrom, Numbered}
 use Rattle.search.specs.declared.Entry.{Entry}
 use Rattle.search.proofs.RowNumbers.{weight-most}
 use Rattle.search.proofs.OneChange.{changed, changed-here, changed-other, state-inside, same-number, change-below, change-state}

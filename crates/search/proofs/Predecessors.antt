@@ -2,18 +2,16 @@
 -- where the step can reach this one and the states differ only as its effects allow.
 use Prim.Native.Nat.{ℕ, _+_, _≤_, _<_}
 use mathlib.Core.Path.{_≡_, refl, sym, ap, ap₂, _∙_}
-use mathlib.Core.Bool.{Bool, true, false, not, cond, _&&_}
+use mathlib.Core.Bool.{Bool, true, not, cond, _&&_}
 use mathlib.Core.List.{List, []}
 use native.Mathlib.Omega.{arith}
-use native.Mathlib.Numerals.{add-one}
-use lib.Dec.{eqb, leb, ltb}
+use lib.Dec.{eqb, leb}
 use lib.ListN.{getD}
-use borrow.Author.Tests.{eqb-true, eqb-false, leb-true, ltb-true, eq-eqb, ne-eqb, le-leb, lt-leb, lt-ltb}
-use Rattle.files.specs.Below.{allBelow}
+use borrow.Author.Tests.{eqb-true, eqb-false, eq-eqb, ne-eqb, le-leb, lt-leb}
 use Rattle.files.specs.Dense.{rowPairs}
 use Rattle.files.specs.Task.{Pair, Action}
 use Rattle.files.proofs.BelowLaws.{allBelow-intro, allBelow-elim}
-use Rattle.files.proofs.Logic.{clash, split, split-le, and-split, and-join}
+use Rattle.files.proofs.Logic.{split, split-le, and-split, and-join}
 use Rattle.plans.specs.State.{State, allHold, applicable, apply}
 use Rattle.plans.specs.Tally.{meetsCell}
 use Rattle.plans.proofs.RowStates.{meets-none, meets-some, after-none, after-some, meetsAt, hold-below, apply-row, apply-behind}
@@ -94,9 +92,6 @@ module _ (conditions effects : List ℕ) (base : ℕ) where
       at-variable : differsAt v ≡ true
       unfolding differsOnly differsAt
       at-variable = allBelow-elim n differsAt e v h
-
-      pub only-early : v < from → r v ≡ s v
-      only-early l = eqb-true (r v) (s v) (differs-early v l ∙ at-variable)
 
       pub only-left : effectAt v ≡ 255 → r v ≡ s v
       only-left d = eqb-true (r v) (s v) (differs-left v d ∙ at-variable)

@@ -68,9 +68,6 @@ module _ (sizes : List ℕ) (s : State) (n : ℕ) where
     pub number-few : (v number : ℕ) → v ≤ n → number ≡ numberFrom sizes s v (n - v) → rowStates n sizes ≤ 4096 → number ≤ 4096
     number-few v number l e few = omega (arith, number-below-states v number l e)
 
-    pub number-last-below : (v number : ℕ) → v ≤ 0 → number ≡ numberFrom sizes s v (n - v) → number < rowStates n sizes
-    number-last-below v number l e = number-below-states v number (omega arith) e
-
   pub number-end : (starts : List ℕ) (v number : ℕ) → v ≤ 0 → number ≡ numberFrom sizes s v (n - v) → number ≡ stateNumber (rowVariables n sizes starts) s
   number-end starts v number l e =
       let first : v ≡ 0 = omega arith in

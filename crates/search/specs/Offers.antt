@@ -15,7 +15,7 @@ use Rattle.search.specs.Table.{tableOf}
 use Rattle.search.specs.FirstPlan.{startNumber}
 use Rattle.search.specs.Entries.{noEntry, isNone, firstEntry, Low, Holds, entryIn, entriesIn}
 use Rattle.search.specs.Rows.{offered, rowVariables, rowStates, rowState, Searchable}
-use Rattle.search.specs.Settling.{Known, Blocks, Offers}
+use Rattle.search.specs.Settling.{Known, Blocks}
 use Rattle.search.specs.Sets.{inWord}
 use Rattle.search.specs.FactRows.{mostFacts, FewFacts, RowsByFact}
 use Rattle.search.specs.Moves.{mostMoves, WeightsOf, MovesOf}

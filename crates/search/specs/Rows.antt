@@ -1,15 +1,15 @@
 -- Tasks as rows of arrays: the numbers of states, and the steps to a settled state.
 use Prim.Native.Nat.{ℕ, zero, suc, _+_, _*_, _≤_, _<_}
 use mathlib.Core.Path.{_≡_}
-use mathlib.Core.Bool.{Bool, true, not, cond, _&&_}
+use mathlib.Core.Bool.{Bool, not, cond, _&&_}
 use mathlib.Core.List.{List, []}
 use lib.Dec.{eqb, leb}
-use lib.ListN.{length, getD}
+use lib.ListN.{getD}
 use Rattle.files.specs.Below.{tabulate, allBelow}
-use Rattle.files.specs.Dense.{rowVariable, rowPairs}
+use Rattle.files.specs.Dense.{rowVariable}
 use Rattle.files.specs.Task.{Variable, Action}
 use Rattle.plans.specs.State.{State, applicable, apply}
-use Rattle.plans.specs.Tally.{listState, meetsCell}
+use Rattle.plans.specs.Tally.{meetsCell}
 use Rattle.search.specs.States.{stateCount, stateNumber, stateAt}
 use Rattle.search.specs.Entries.{lowered, afterStep}
 use Rattle.search.specs.declared.Entry.{Entry}
@@ -80,22 +80,6 @@ pub record ValuesInside (variables : ℕ) (sizes values : List ℕ) : Type 0 whe
   pub few : variables ≤ 64
   pub states : rowStates variables sizes ≤ 4096
   pub inside : (v : ℕ) → v < variables → getD values v 0 < getD sizes v 0
-
--- a row at `base`, inside a list
-pub record RowIn (variables base : ℕ) (row : List ℕ) : Type 0 where
-  pub few : variables ≤ 64
-  pub room : base + variables ≤ length row
-
--- values, and a row of effects on them
-pub record EffectsOn (variables base : ℕ) (sizes effects values : List ℕ) : Type 0 where
-  pub row : RowIn variables base effects
-  pub inside : ValuesInside variables sizes values
-  pub effect-inside : (v : ℕ) → v < variables → (getD effects (base + v) 0 ≡ 255 → ⊥) → getD effects (base + v) 0 < getD sizes v 0
-
--- the number of the state after them
-pub record NumberAfter (variables base : ℕ) (sizes effects values : List ℕ) (r : ℕ) : Type 0 where
-  pub is : (starts : List ℕ) (a : Action) → a .effects ≡ rowPairs effects base 0 variables → r ≡ stateNumber (rowVariables variables sizes starts) (apply a (listState values))
-  pub below : r < rowStates variables sizes
 
 -- what the search asks of arrays
 pub record Searchable (variables actions : ℕ) (sizes costs conditions effects : List ℕ) : Type 0 where

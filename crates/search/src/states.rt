@@ -3,13 +3,10 @@ ghost use mathlib.Core.Path.{_≡_};
 ghost use mathlib.Core.List.{List};
 ghost use Prim.Native.Nat.{ℕ, _<_};
 ghost use lib.ListN.{getD};
-ghost use Rattle.files.specs.Dense.{rowPairs};
-ghost use Rattle.plans.specs.State.{allHold};
 ghost use Rattle.plans.specs.Tally.{listState};
 ghost use Rattle.search.specs.States.{stateNumber, stateAt};
-ghost use Rattle.search.specs.Rows.{rowVariables, rowWeight, Sized, FewStates, Counted, ValuesInside, RowIn, EffectsOn, NumberAfter};
+ghost use Rattle.search.specs.Rows.{rowVariables, rowWeight, Sized, FewStates, Counted, ValuesInside};
 use files::bytes;
-use plans::rows;
 
 // The most states that are searched.
 pub const MOST_STATES: usize = 4096;

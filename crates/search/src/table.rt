@@ -1,11 +1,7 @@
 // The table of the task that arrays hold: backwards from the goal, the least entry settled first.
-ghost use mathlib.Core.Path.{_≡_};
-ghost use Prim.Native.Nat.{_≤_};
-ghost use lib.ListN.{getD};
 ghost use Rattle.files.specs.Dense.{held, arrays};
 ghost use Rattle.search.specs.Entries.{Holds};
-ghost use Rattle.search.specs.Moves.{weighted};
-ghost use Rattle.search.specs.Offers.{Cleared, goalValues, GoalFree, CanBegin, Begun, CanSearch, TableIn};
+ghost use Rattle.search.specs.Offers.{Cleared, CanBegin, Begun, CanSearch, TableIn};
 use crate::entries;
 use crate::fact_rows;
 use crate::goal;

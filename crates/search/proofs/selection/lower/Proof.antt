@@ -1,8 +1,7 @@
-use mathlib.Core.Path.{_≡_, sym, ap, _∙_}
-use mathlib.Core.Bool.{true}
+use mathlib.Core.Path.{sym, ap, _∙_}
 use native.Mathlib.Omega.{arith}
 use denote.Ref.{now}
-use Rattle.search.specs.Entries.{lessEntry, entryIn}
+use Rattle.search.specs.Entries.{lessEntry}
 use Rattle.search.proofs.Blocks.{begins, known-lowered}
 use Rattle.search.proofs.EntryLaws.{lower-yes, lower-no}
 use borrow.Author.Needs.{needs}

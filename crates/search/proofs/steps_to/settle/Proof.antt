@@ -1,14 +1,12 @@
 -- The loop's invariant: the entries are those that the actions before `a` offer, and `a` is the next that can lead to the state.
-use Prim.Native.Nat.{ℕ, _+_, _-_, _*_, _<_}
+use Prim.Native.Nat.{_-_}
 use mathlib.Core.Path.{refl, sym}
 use mathlib.Core.List.{[]}
 use native.Mathlib.Omega.{arith}
 use denote.Ref.{now}
-use lib.ListN.{length, getD}
 use Rattle.search.proofs.Blocks.{blocks-same}
 use Rattle.search.proofs.OfferActions.{taken-most, number-below, free-zero}
 use Rattle.search.proofs.SettleLoops.{Actions, values-inside, leads, actions-begin, reaches, action-few, cost-few, step-on, step-near, actions-next, actions-end}
-use borrow.Author.Needs.{needs}
 use Rattle.search.proofs.steps_to.settle.Statement.{statement}
 use Rattle.search.proofs.steps_to.settle.Tie as tie
 

@@ -1,10 +1,10 @@
 -- Each round settles the open state with the least entry; the states that are open grow fewer.
-use Prim.Native.Nat.{ℕ, _*_, _/_, _≤_}
+use Prim.Native.Nat.{ℕ, _*_, _≤_}
 use mathlib.Core.Path.{_≡_, refl, sym, _∙_}
 use mathlib.Core.List.{List}
 use native.Mathlib.Omega.{arith}
 use denote.Ref.{now}
-use lib.ListN.{length, replicate, length-replicate, length-set, getD-replicate}
+use lib.ListN.{length, length-replicate, length-set, getD-replicate}
 use Rattle.files.specs.Dense.{Arrays, arrays}
 use Rattle.search.specs.Rows.{rowStates, Searchable}
 use Rattle.search.specs.Settling.{Known}
@@ -12,7 +12,7 @@ use Rattle.search.specs.FactRows.{mostFacts, FewFacts}
 use Rattle.search.specs.Offers.{Numbered, SearchTables}
 use Rattle.search.proofs.HeldStates.{held-states, held-start, held-sizes, held-starts, held-few, held-goal, held-facts, searchable}
 use Rattle.search.proofs.Searching.{openCount, Searching, begin, falls, low, next, end}
-use Rattle.search.proofs.Blocks.{block-few, begins, known-settled}
+use Rattle.search.proofs.Blocks.{begins, known-settled}
 use Rattle.search.proofs.table.search.Statement.{statement}
 use Rattle.search.proofs.table.search.Tie as tie
 
