@@ -21,8 +21,8 @@ use Rattle.search.specs.Table.{entryOf}
 use Rattle.search.specs.Entries.{noEntry, firstEntry, isNone, lessEntry, lowered, entryIn}
 use Rattle.search.specs.Rows.{rowVariables, rowState}
 use Rattle.search.specs.Settling.{Offers}
-use Rattle.search.specs.Sets.{inWord}
-use Rattle.search.specs.Moves.{weighted}
+use Rattle.bits.specs.Sets.{inWord}
+use Rattle.lookup.specs.Moves.{weighted}
 use Rattle.search.specs.declared.Entry.{Entry}
 use Rattle.search.specs.Offers.{differsIn, differsFrom, Numbered, goalValues, GoalFree, Cleared}
 use Rattle.search.proofs.RowNumbers.{RowInside, weight-most, state-alike}

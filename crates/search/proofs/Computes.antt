@@ -4,11 +4,13 @@ use Rattle.search.specs.Table.{less, least, same, stepTo, atGoal, nextSt
 use Rattle.search.specs.FirstPlan.{firstAction, stepsFrom, startNumber, firstPlan, foundPlan}
 use Rattle.search.specs.Least.{startedAt}
 use Rattle.search.specs.Entries.{isNone, entryIn, entriesIn, lessEntry, lowered, afterStep, sameEntry, tableEntry}
-use Rattle.search.specs.Rows.{leadsTo, offered, rowStates, rowWeight, rowState, canHave, canReach, differsOnly}
-use Rattle.search.specs.ReadOff.{stateAfter, hasBy}
+use Rattle.search.specs.Rows.{leadsTo, offered, rowStates, rowState, canReach, differsOnly}
+use Rattle.lookup.specs.Moves.{rowWeight}
+use Rattle.lookup.specs.FactRows.{canHave}
+use Rattle.search.specs.ReadOff.{hasBy}
 use Rattle.search.specs.Planner.{searched, searchedStates, planFound, statesFit, planFits, searchStages, planMade, planStages}
 use Rattle.search.specs.Found.{foundStates, planBy, foundBy, headed, signedOff, bothTogether}
 
 unfoldable pub computes : Unit {0}
-unfolding stateCount stateNumber stateAt less least same stepTo atGoal nextState through leastBelow distancesIn distances entryOf tableOf firstAction stepsFrom startNumber firstPlan startedAt isNone entryIn entriesIn lessEntry lowered afterStep leadsTo offered rowStates rowWeight rowState canHave canReach differsOnly sameEntry searched searchedStates planFound statesFit planFits searchStages planMade planStages foundPlan foundStates tableEntry stateAfter hasBy planBy foundBy headed signedOff bothTogether
+unfolding stateCount stateNumber stateAt less least same stepTo atGoal nextState through leastBelow distancesIn distances entryOf tableOf firstAction stepsFrom startNumber firstPlan startedAt isNone entryIn entriesIn lessEntry lowered afterStep leadsTo offered rowStates rowWeight rowState canHave canReach differsOnly sameEntry searched searchedStates planFound statesFit planFits searchStages planMade planStages foundPlan foundStates tableEntry hasBy planBy foundBy headed signedOff bothTogether
 computes = tt

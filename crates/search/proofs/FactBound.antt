@@ -12,7 +12,8 @@ use borrow.Author.Tests.{leb-true}
 use Rattle.files.specs.Below.{allBelow, sumOf}
 use Rattle.files.proofs.BelowLaws.{allBelow-elim}
 use Rattle.files.proofs.Logic.{split-le}
-use Rattle.search.specs.Rows.{rowStates, rowWeight}
+use Rattle.search.specs.Rows.{rowStates}
+use Rattle.lookup.specs.Moves.{rowWeight}
 use Rattle.search.proofs.RowNumbers.{states-weight}
 
 -- two to a number of values is at most twice the seventh power of that number

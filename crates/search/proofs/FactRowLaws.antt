@@ -14,9 +14,9 @@ use Rattle.files.proofs.Logic.{split}
 use Rattle.plans.specs.State.{State, allHold}
 use Rattle.plans.specs.Tally.{listState, meetsCell}
 use Rattle.plans.proofs.RowStates.{meets-some, meetsAt, hold-below}
-use Rattle.search.specs.Rows.{canHave, canReach}
-use Rattle.search.specs.Sets.{inWords}
-use Rattle.search.specs.FactRows.{leadsToFact, factNumber, RowsByFact, InAllRows}
+use Rattle.lookup.specs.FactRows.{canHave, leadsToFact, factNumber, RowsByFact, InAllRows}
+use Rattle.search.specs.Rows.{canReach}
+use Rattle.bits.specs.Sets.{inWords}
 use Rattle.search.proofs.Predecessors.{reachAt}
 
 -- tests that agree below the bound

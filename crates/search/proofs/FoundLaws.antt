@@ -29,8 +29,10 @@ use Rattle.search.specs.declared.Entry.{Entry}
 use Rattle.search.specs.declared.stages.Found.{Found}
 use Rattle.search.specs.declared.stages.Searched.{Searched}
 use Rattle.search.specs.States.{stateCount}
-use Rattle.search.specs.Table.{distances, tableOf}
+use Rattle.search.specs.Table.{minutesOf, distances, tableOf}
 use Rattle.search.specs.FirstPlan.{startNumber, firstPlan, foundPlan}
+use Rattle.search.specs.Entries.{tableEntry}
+use Rattle.lookup.specs.FactRows.{CheapRow}
 use Rattle.search.specs.ReadOff.{StepTables}
 use Rattle.search.specs.Planner.{statesFit, planFits, searchBuffers, searchStages}
 use Rattle.search.specs.Found.{foundStates, notFound, foundWhole, Searches, unsearched, SearchedIn, SearchedFiles}
@@ -145,9 +147,10 @@ searched-refused t room named place o e d r q entries sizes costs rows moves =
 pub searched-done : (d : Arrays) (room named place : ℕ) → acceptedTask (held d) ≡ true → stateCount (held d .variables) ≤ 4096 → done ≡ statesFit (held d) room
     → (o : Outcome) → o ≡ done → (states start : ℕ) → states ≡ stateCount (held d .variables) → start ≡ startNumber (held d) → (entries : List Entry) → entries ≡ tableOf (held d)
     → (rows moves : List ℕ) → StepTables (d .variables) (d .actions) (d .sizes) (d .costs) (d .conditions) (d .effects) rows moves
+    → CheapRow (d .actions) (d .costs) (minutesOf (tableEntry entries start)) rows
     → SearchedIn (held d) room named place (record { outcome = o; states = states; start = start; variables = d .variables; actions = d .actions; named = named; place = place })
     entries (d .sizes) (d .costs) rows moves
-searched-done d room named place accepted few fit o q states start n s entries table rows moves tables =
+searched-done d room named place accepted few fit o q states start n s entries table rows moves tables cheap =
     record {
       outcome = q ∙ fit;
       refused = λ k. absurd (k (ap (λ (x : Outcome). x .number) q));
@@ -167,6 +170,7 @@ searched-done d room named place accepted few fit o q states start n s entries t
                   count = sym (actions-held d);
                   actions-are = λ a h. held-actions d a (omega (arith, actions-held d));
                 };
+            cheap = cheap;
             table = table;
           };
       named-is = λ z. refl;

@@ -8,11 +8,11 @@ use lib.Dec.{eqb}
 use lib.ListN.{length, getD}
 use borrow.Author.Tests.{eq-eqb, ne-eqb}
 use Rattle.files.proofs.Logic.{split-le}
-use Rattle.search.specs.Moves.{weighted, WeightsOf}
+use Rattle.lookup.specs.Moves.{weighted, WeightsOf}
 use Rattle.search.specs.Offers.{Cleared, goalValues}
 use Rattle.search.specs.Entries.{noEntry, Put}
 use Rattle.search.specs.declared.Entry.{Entry}
-use Rattle.search.proofs.MoveLoops.{cell-product, weighted-next}
+use Rattle.lookup.proofs.MoveLoops.{cell-product, weighted-next}
 
 module _ (variables : ℕ) (goal weights : List ℕ) where
   -- what the values of the variables before v add to the number of the state

@@ -1,4 +1,4 @@
--- Where an action leads from a state, by the tables: it is applicable where the words say so, its numbers fit, and the number is that of the state after it.
+-- Where an action leads from a state, by the tables: it is applicable and cheap enough where the words say so, its numbers fit, and the number is that of the state after it.
 use Prim.Native.Nat.{ℕ, zero, suc, _+_, _*_, _≤_, _<_}
 use mathlib.Core.Path.{_≡_, refl, sym, ap, ap₂, _∙_}
 use mathlib.Core.Bool.{Bool, true, false, cond, _&&_}
@@ -13,18 +13,18 @@ use Rattle.files.specs.Below.{sumBelow}
 use Rattle.files.specs.Dense.{rowPairs, rowAction}
 use Rattle.files.specs.Task.{Variable, Action, Task, actionOf}
 use Rattle.files.proofs.BelowLaws.{allBelow-elim}
-use Rattle.files.proofs.Logic.{split, split-le}
+use Rattle.files.proofs.Logic.{split, split-le, and-split}
 use Rattle.marking.proofs.RoundCount.{sum-alike}
 use Rattle.plans.specs.State.{State, allHold, applicable, apply}
 use Rattle.plans.specs.Tally.{afterCell}
 use Rattle.plans.proofs.RowStates.{meets-some, after-none, after-some, meetsAt, hold-below, afterRow}
 use Rattle.search.specs.States.{stateNumber, stateAt}
 use Rattle.search.specs.Table.{nextState}
-use Rattle.search.specs.Rows.{rowVariables, rowStates, rowWeight, rowState, canReach}
-use Rattle.search.specs.Sets.{inWord, inWords}
-use Rattle.search.specs.FactRows.{factNumber, leadsToFact}
-use Rattle.search.specs.Moves.{weighted, setBy, askedOf, setFreely}
-use Rattle.search.specs.ReadOff.{StepTables, Stepped, stateAfter, HereOf, freedBy, takenBy, goesBy, CanGo}
+use Rattle.search.specs.Rows.{rowVariables, rowStates, rowState, canReach}
+use Rattle.lookup.specs.Moves.{rowWeight, weighted, setBy, askedOf, setFreely}
+use Rattle.bits.specs.Sets.{inWord, inWords}
+use Rattle.lookup.specs.FactRows.{mostFacts, factNumber, leadsToFact}
+use Rattle.search.specs.ReadOff.{StepTables, Stepped, HereOf, freedBy, takenBy, goesBy, CanGo}
 use Rattle.search.proofs.RowNumbers.{RowInside, number-sum, state-alike}
 use Rattle.search.proofs.StateLoops.{after-inside, after-number}
 use Rattle.search.proofs.OneChange.{state-inside, number-weights, weights-below}
@@ -94,13 +94,14 @@ module _ (n actions : ℕ) (sizes costs conditions effects rows moves : List ℕ
   abbrev after : State
   after = afterRow effects (64 * a) state
 
-  applies : inWords here 0 a ≡ allHold (rowPairs conditions (64 * a) 0 n) state
+  applies : inWords here 0 a ≡ inWords rows (8 * mostFacts) a && allHold (rowPairs conditions (64 * a) 0 n) state
   unfolding canReach leadsToFact
   applies =
-      known .applicable-are a (omega (arith, tables .asked .actions-few))
-      ∙ all-same n (λ v. inWords rows (8 * factNumber sizes v (state v)) a) (reachAt conditions conditions (64 * a) state)
+      known .actions-are a (omega (arith, tables .asked .actions-few))
+      ∙ ap (λ (b : Bool). inWords rows (8 * mostFacts) a && b)
+      (all-same n (λ v. inWords rows (8 * factNumber sizes v (state v)) a) (reachAt conditions conditions (64 * a) state)
       (λ v h. tables .rows-are v (state v) a h (state-inside sizes n (tables .asked .size-least) s v h) inside)
-      ∙ reach-holds conditions (64 * a) n state
+      ∙ reach-holds conditions (64 * a) n state)
 
   -- the variables that it sets freely
   abbrev free-word : ℕ
@@ -123,7 +124,7 @@ module _ (n actions : ℕ) (sizes costs conditions effects rows moves : List ℕ
   -- the number after it
   module _ (yes : inWords here 0 a ≡ true) where
     met : (v : ℕ) → v < n → meetsAt conditions (64 * a) state v ≡ true
-    met = allBelow-elim n (meetsAt conditions (64 * a) state) (sym (hold-below conditions (64 * a) state n) ∙ sym applies ∙ yes)
+    met = allBelow-elim n (meetsAt conditions (64 * a) state) (sym (hold-below conditions (64 * a) state n) ∙ and-split (inWords rows (8 * mostFacts) a) _ (sym applies ∙ yes) .1)
 
     after-balance : weighted sizes after n + takenBy here moves a ≡ s + getD moves (3 * a) 0
     unfolding takenBy
@@ -134,7 +135,7 @@ module _ (n actions : ℕ) (sizes costs conditions effects rows moves : List ℕ
     unfolding goesBy
     goes-number = rw yes (omega (arith, after-balance))
 
-  goes-nowhere : inWords here 0 a ≡ false → goesBy here moves s a ≡ s
+  pub goes-nowhere : inWords here 0 a ≡ false → goesBy here moves s a ≡ s
   unfolding goesBy
   goes-nowhere e = rw e refl
 
@@ -169,12 +170,16 @@ module _ (t : Task) (n actions : ℕ) (sizes costs rows moves : List ℕ) (k : S
   unfolding rowState
   here-state = ap (λ (vs : List Variable). stateAt vs s) (k .variables-are) ∙ state-alike sizes (k .starts) [] n s
 
-  pub applies-is : applicable (actionOf t a) (stateAt (t .variables) s) ≡ inWords here 0 a
+  holds-is : applicable (actionOf t a) (stateAt (t .variables) s) ≡ allHold (rowPairs (k .conditions) (64 * a) 0 n) (rowState n sizes s)
   unfolding applicable rowAction
-  applies-is =
+  holds-is =
       ap (λ (x : Action). applicable x (stateAt (t .variables) s)) (k .actions-are a inside)
       ∙ ap (applicable (rowAction n costs (k .conditions) (k .effects) a)) here-state
-      ∙ sym (applies n actions sizes costs (k .conditions) (k .effects) rows moves (k .tables) s here known below a inside)
+
+  pub applies-is : inWords here 0 a ≡ inWords rows (8 * mostFacts) a && applicable (actionOf t a) (stateAt (t .variables) s)
+  applies-is =
+      applies n actions sizes costs (k .conditions) (k .effects) rows moves (k .tables) s here known below a inside
+      ∙ ap (λ (b : Bool). inWords rows (8 * mostFacts) a && b) (sym holds-is)
 
   next-is : stateNumber (rowVariables n sizes (k .starts)) (afterRow (k .effects) (64 * a) (rowState n sizes s)) ≡ nextState t a s
   unfolding nextState rowAction
@@ -183,15 +188,8 @@ module _ (t : Task) (n actions : ℕ) (sizes costs rows moves : List ℕ) (k : S
       ∙ ap (λ (vs : List Variable). stateNumber vs (apply (actionOf t a) (rowState n sizes s))) (sym (k .variables-are))
       ∙ ap (λ (f : State). stateNumber (t .variables) (apply (actionOf t a) f)) (sym here-state)
 
-  pub goes-is : goesBy here moves s a ≡ stateAfter t s a
-  unfolding stateAfter
-  goes-is =
-      split (inWords here 0 a)
-      (λ yes.
-      goes-number n actions sizes costs (k .conditions) (k .effects) rows moves (k .tables) s here known below a inside yes
+  pub goes-is : inWords here 0 a ≡ true → goesBy here moves s a ≡ nextState t a s
+  goes-is there =
+      goes-number n actions sizes costs (k .conditions) (k .effects) rows moves (k .tables) s here known below a inside there
       ∙ sym (number-sum sizes (k .starts) (afterRow (k .effects) (64 * a) (rowState n sizes s)) n)
       ∙ next-is
-      ∙ sym (rw (applies-is ∙ yes) refl))
-      (λ no.
-      goes-nowhere n actions sizes costs (k .conditions) (k .effects) rows moves (k .tables) s here known below a inside no
-      ∙ sym (rw (applies-is ∙ no) refl))

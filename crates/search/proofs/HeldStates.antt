@@ -17,7 +17,7 @@ use Rattle.files.proofs.HeldTask.{held-action, variables-held, actions-held, si
 use Rattle.search.specs.States.{stateCount, stateNumber}
 use Rattle.search.specs.FirstPlan.{startNumber}
 use Rattle.search.specs.Rows.{rowVariables, rowStates, Searchable}
-use Rattle.search.specs.FactRows.{mostFacts, FewFacts}
+use Rattle.lookup.specs.FactRows.{mostFacts, FewFacts}
 use Rattle.search.proofs.RowNumbers.{states-count}
 use Rattle.search.proofs.FactBound.{facts-few}
 

@@ -1,7 +1,7 @@
 -- What reading off needs of a state, variable by variable; and the number of the state that an action leads to, from its parts.
 use Prim.Native.Nat.{ℕ, _+_, _-_, _*_, _≤_, _<_}
 use mathlib.Core.Path.{_≡_, refl, sym, ap, subst, _∙_}
-use mathlib.Core.Bool.{true}
+use mathlib.Core.Bool.{true, _&&_}
 use mathlib.Core.List.{List, []}
 use native.Mathlib.Omega.{arith}
 use lib.ListN.{length, length-set, getD, set}
@@ -11,13 +11,14 @@ use Rattle.files.proofs.Logic.{split-le}
 use Rattle.plans.specs.State.{State}
 use Rattle.plans.specs.Tally.{listState}
 use Rattle.search.specs.States.{stateAt}
-use Rattle.search.specs.Rows.{rowVariables, rowWeight, rowState}
-use Rattle.search.specs.Sets.{inWord, inWords, FirstFrom}
-use Rattle.search.specs.FactRows.{factNumber, RowsFor, InAllRows}
+use Rattle.search.specs.Rows.{rowVariables, rowState}
+use Rattle.lookup.specs.Moves.{rowWeight}
+use Rattle.bits.specs.Sets.{inWord, inWords, FirstFrom}
+use Rattle.lookup.specs.FactRows.{mostFacts, factNumber, RowsFor, CheapRowsFor, InCheapRows}
 use Rattle.search.specs.ReadOff.{HereOf, CanKnow, Begun, freedBy, takenBy, goesBy, CanGo}
 use Rattle.search.proofs.StateLoops.{weight-first, weight-next}
 use Rattle.search.proofs.OneChange.{state-inside}
-use Rattle.search.proofs.BitLaws.{in-row-before}
+use Rattle.bits.proofs.BitLaws.{in-row-before}
 use Rattle.search.proofs.Going.{freed-next, freed-skip, freed-most}
 
 module _ (n : ℕ) (sizes : List ℕ) (s : ℕ) where
@@ -39,9 +40,11 @@ module _ (n : ℕ) (sizes rows : List ℕ) (s : ℕ) (values : List ℕ) (state 
   unfolding listState rowState
   value-is v = ap (λ (f : State). f v) (state [])
 
-  pub can-find : CanKnow n sizes rows → RowsFor n sizes values rows
+  pub can-find : CanKnow n sizes rows → CheapRowsFor n sizes values rows
   can-find can =
-      record { few = can .facts; inside = λ v h. omega (arith, value-is v, state-inside sizes n (can .states .sized .least) s v h) }
+      let rows-for : RowsFor n sizes values rows =
+      record { few = can .facts; inside = λ v h. omega (arith, value-is v, state-inside sizes n (can .states .sized .least) s v h) } in
+      record { rows-for = rows-for; room = can .room }
 
   pub know-next : (here₀ here : List ℕ) (weight v value size : ℕ) → Knowing n sizes s here₀ here weight v → v < n → n ≤ 64 → value ≡ getD values v 0 → size ≡ getD sizes v 0
       → Knowing n sizes s here₀ (set here (8 + v) (weight * value)) (weight * size) (v + 1)
@@ -60,14 +63,14 @@ module _ (n : ℕ) (sizes rows : List ℕ) (s : ℕ) (values : List ℕ) (state 
         full = length-set here (8 + v) (weight * value) ∙ c .full;
       }
 
-  pub know-end : (words here₀ here : List ℕ) (weight v : ℕ) → Knowing n sizes s here₀ here weight v → n ≤ v → Begun words here₀ → InAllRows n sizes values rows words → HereOf n sizes rows s here
+  pub know-end : (words here₀ here : List ℕ) (weight v : ℕ) → Knowing n sizes s here₀ here weight v → n ≤ v → Begun words here₀ → InCheapRows n sizes values rows words → HereOf n sizes rows s here
   unfolding listState rowState
   know-end words here₀ here weight v c l first all =
       record {
-        applicable-are = λ a h.
+        actions-are = λ a h.
             in-row-before here words 0 8 (λ i k. c .begun i k ∙ first i k) (omega arith) a h
             ∙ all a h
-            ∙ ap (λ (f : State). allBelow n (λ u. inWords rows (8 * factNumber sizes u (f u)) a)) (state []);
+            ∙ ap (λ (f : State). inWords rows (8 * mostFacts) a && allBelow n (λ u. inWords rows (8 * factNumber sizes u (f u)) a)) (state []);
         added = λ w h. c .added w (omega arith);
       }
 

@@ -1,32 +1,46 @@
 -- The first action by which a state has its entry, as the code finds it.
-use Prim.Native.Nat.{ℕ, _+_, _-_, _≤_, _<_}
+use Prim.Native.Nat.{ℕ, _+_, _-_, _*_, _≤_, _<_}
 use mathlib.Core.Path.{_≡_, refl, sym, ap, subst, _∙_}
 use mathlib.Core.Bool.{Bool, true, false, not, _&&_}
 use mathlib.Core.List.{List, []}
 use mathlib.Core.Option.{none, some}
 use native.Mathlib.Omega.{arith}
-use lib.Dec.{ltb}
+use lib.Dec.{leb, ltb}
 use lib.ListN.{getD}
-use borrow.Author.Tests.{ltb-true, ltb-false, lt-ltb, le-ltb, not-true}
+use borrow.Author.Tests.{leb-false, ltb-true, ltb-false, lt-ltb, le-ltb, not-true}
 use Rattle.files.specs.Dense.{rowAction}
 use Rattle.files.specs.Task.{Action, Task, actionOf, actionCount}
-use Rattle.files.proofs.Logic.{clash, split, split-le, and-split, and-join}
+use Rattle.files.proofs.Logic.{clash, split, split-le, split-option, and-split, and-join}
+use Rattle.plans.specs.Plan.{Total, addStep}
 use Rattle.plans.specs.State.{applicable}
 use Rattle.search.specs.States.{stateAt}
-use Rattle.search.specs.Table.{Distance, same, nextState, through, distances, entryOf}
+use Rattle.search.specs.Table.{Distance, minutesOf, same, stepTo, nextState, through, distances, entryOf}
 use Rattle.search.specs.FirstPlan.{firstAction}
 use Rattle.search.specs.declared.Entry.{Entry}
 use Rattle.search.specs.Entries.{isNone, entryTotal, sameEntry, afterStep, Low}
 use Rattle.search.specs.Rows.{rowStates}
-use Rattle.search.specs.Sets.{inWords}
+use Rattle.bits.specs.Sets.{inWords}
+use Rattle.lookup.specs.FactRows.{mostFacts, costsWithin}
 use Rattle.search.specs.declared.first_plan.Step.{Step}
 use Rattle.search.specs.declared.stages.Searched.{Searched}
-use Rattle.search.specs.ReadOff.{stateAfter, goesBy, CanStepFrom, StepFrom, hasBy, CanCompare, HasBy, LooksOn, CanLead, Leads, FirstLed}
-use Rattle.search.proofs.Going.{goes-below, applies-is, goes-is}
-use Rattle.search.proofs.DistanceLaws.{some-none}
+use Rattle.search.specs.ReadOff.{goesBy, CanStepFrom, StepFrom, hasBy, CanCompare, HasBy, LooksOn, CanLead, Leads, FirstLed}
+use Rattle.search.proofs.Going.{goes-below, goes-nowhere, applies-is, goes-is}
+use Rattle.search.proofs.DistanceLaws.{some-none, stepTo-none, stepTo-some, addStep-minutes}
 use Rattle.search.proofs.Distances.{through-applicable, through-not}
 use Rattle.search.proofs.EntryLaws.{low-near, some-distance, not-same, same-step, step-other, far-not-same}
 use Rattle.search.proofs.ReadOff.{tight, first-tight}
+
+-- by way of an action that costs more than an entry has minutes there is none
+dear-not-same : (a : Action) (y : Entry) (d e : Distance) → e ≡ some (entryTotal y) → minutesOf y < a .cost → false ≡ same (stepTo a d) e
+dear-not-same a y d e q dear =
+    not-same (stepTo a d) e
+    (λ z.
+    split-option d
+    (λ w. some-none (entryTotal y) (sym q ∙ sym z ∙ ap (stepTo a) w ∙ stepTo-none a))
+    (λ total w.
+    let here : some (addStep a total) ≡ some (entryTotal y) = sym (stepTo-some a total) ∙ sym (ap (stepTo a) w) ∙ z ∙ q in
+    let totals : addStep a total ≡ entryTotal y = cc in
+    omega (arith, dear, ap (λ (t : Total). t .minutes) totals, addStep-minutes a total)))
 
 -- whether a state has its entry by way of an action, as the code finds it
 module _ (t : Task) (look : ℕ → Entry) (searched : Searched) (s : ℕ) (here costs moves : List ℕ) (k : Leads t look searched s here costs moves) where
@@ -40,33 +54,53 @@ module _ (t : Task) (look : ℕ → Entry) (searched : Searched) (s : ℕ) (here
       (not-same (through t (distances t) s a) (getD (distances t) s none)
       (λ z. some-none (entryTotal (look s)) (sym own-distance ∙ sym z ∙ through-not t (distances t) s a e)))
 
-  -- one that the words pass over
+  cost-is : (a : ℕ) → a < searched .actions → actionOf t a .cost ≡ getD costs a 0
+  unfolding rowAction
+  cost-is a h = ap (λ (x : Action). x .cost) (k .stepped .actions-are a h)
+
+  -- one that costs more than the state's own entry has minutes
+  dear-not-tight : (a : ℕ) → applicable (actionOf t a) (stateAt (t .variables) s) ≡ true → minutesOf (look s) < actionOf t a .cost → tight t (distances t) s a ≡ false
+  dear-not-tight a e dear =
+      ap (λ (d : Distance). same d (getD (distances t) s none)) (through-applicable t (distances t) s a e)
+      ∙ sym (dear-not-same (actionOf t a) (look s) (getD (distances t) (nextState t a s) none) (getD (distances t) s none) own-distance dear)
+
+  words-are : (a : ℕ) → a < searched .actions → inWords here 0 a ≡ inWords (k .rows) (8 * mostFacts) a && applicable (actionOf t a) (stateAt (t .variables) s)
+  words-are a h = applies-is t (searched .variables) (searched .actions) (k .sizes) costs (k .rows) moves (k .stepped) s here (k .here-of) (k .below) a h
+
+  -- one that the words pass over: not applicable, or too dear
   passed-over : (a : ℕ) → a < searched .actions → inWords here 0 a ≡ false → tight t (distances t) s a ≡ false
-  passed-over a h e = not-tight a (applies-is t (searched .variables) (searched .actions) (k .sizes) costs (k .rows) moves (k .stepped) s here (k .here-of) (k .below) a h ∙ e)
+  unfolding costsWithin
+  passed-over a h e =
+      split (applicable (actionOf t a) (stateAt (t .variables) s))
+      (λ yes.
+      let over : leb (getD costs a 0) (k .most) ≡ false =
+      split (leb (getD costs a 0) (k .most)) (λ w. clash (words-are a h ∙ and-join (k .cheap a h ∙ w) yes) e) (λ w. w) in
+      dear-not-tight a yes (omega (arith, leb-false (getD costs a 0) (k .most) over, cost-is a h, k .own-within)))
+      (not-tight a)
 
   module _ (a : ℕ) (h : a < searched .actions) (n : ℕ) (goes : n ≡ goesBy here moves s a) where
     abbrev next : Entry
     next = look n
 
-    after-is : n ≡ stateAfter t s a
-    after-is = goes ∙ goes-is t (searched .variables) (searched .actions) (k .sizes) costs (k .rows) moves (k .stepped) s here (k .here-of) (k .below) a h
-
     below-is : n < rowStates (searched .variables) (k .sizes)
     below-is =
         omega (arith, goes, goes-below (searched .variables) (searched .actions) (k .sizes) costs (k .stepped .conditions) (k .stepped .effects) (k .rows) moves (k .stepped .tables) s here (k .here-of) (k .below) a h)
 
-    has-not : applicable (actionOf t a) (stateAt (t .variables) s) ≡ false → hasBy (actionOf t a) next (look s) ≡ tight t (distances t) s a
-    unfolding hasBy stateAfter
+    has-not : inWords here 0 a ≡ false → hasBy (actionOf t a) next (look s) ≡ tight t (distances t) s a
+    unfolding hasBy
     has-not e =
-        let same-state : n ≡ s = after-is ∙ rw e refl in
+        let same-state : n ≡ s =
+        goes ∙ goes-nowhere (searched .variables) (searched .actions) (k .sizes) costs (k .stepped .conditions) (k .stepped .effects) (k .rows) moves (k .stepped .tables) s here (k .here-of) (k .below) a h e in
         ap (λ (m : ℕ). hasBy (actionOf t a) (look m) (look s)) same-state
         ∙ rw (k .own-near) (step-other (actionOf t a) (look s))
-        ∙ sym (not-tight a e)
+        ∙ sym (passed-over a h e)
 
-    module _ (e : applicable (actionOf t a) (stateAt (t .variables) s) ≡ true) where
+    module _ (yes : inWords here 0 a ≡ true) where
+      e : applicable (actionOf t a) (stateAt (t .variables) s) ≡ true
+      e = and-split (inWords (k .rows) (8 * mostFacts) a) _ (sym (words-are a h) ∙ yes) .1
+
       there-state : n ≡ nextState t a s
-      unfolding stateAfter
-      there-state = after-is ∙ rw e refl
+      there-state = goes ∙ goes-is t (searched .variables) (searched .actions) (k .sizes) costs (k .rows) moves (k .stepped) s here (k .here-of) (k .below) a h yes
 
       there : next ≡ entryOf (getD (distances t) (nextState t a s) none)
       there = k .entries-are n below-is ∙ ap (λ (m : ℕ). entryOf (getD (distances t) m none)) there-state
@@ -88,13 +122,11 @@ module _ (t : Task) (look : ℕ → Entry) (searched : Searched) (s : ℕ) (here
 
     has-is : hasBy (actionOf t a) next (look s) ≡ tight t (distances t) s a
     has-is =
-        split (applicable (actionOf t a) (stateAt (t .variables) s))
-        (λ e. split (isNone next) (has-far e) (has-near e))
-        has-not
+        split (inWords here 0 a) (λ yes. split (isNone next) (has-far yes) (has-near yes)) has-not
 
-  cost-is : (a : ℕ) → a < searched .actions → actionOf t a .cost ≡ getD costs a 0
-  unfolding rowAction
-  cost-is a h = ap (λ (x : Action). x .cost) (k .stepped .actions-are a h)
+  -- an action by which the state has its entry is not passed over
+  pub not-passed : (a : ℕ) → a < searched .actions → tight t (distances t) s a ≡ true → inWords here 0 a ≡ true
+  not-passed a h e = split (inWords here 0 a) (λ yes. yes) (λ no. clash e (passed-over a h no))
 
   -- the first of all, where none before it is
   first-is : (a : ℕ) → a < searched .actions → tight t (distances t) s a ≡ true → ((b : ℕ) → b < a → tight t (distances t) s b ≡ false) → a ≡ firstAction t (distances t) s 0 (actionCount t)

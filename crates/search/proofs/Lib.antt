@@ -25,10 +25,6 @@ pub mod SettleLoops
 pub mod HeldStates
 pub mod Picking
 pub mod Blocks
-pub mod BitLaws
-pub mod SetLoops
-pub mod WordLoops
-pub mod FactRowLoops
 pub mod FactRowLaws
 pub mod FactBound
 pub mod Searching
@@ -36,7 +32,6 @@ pub mod Hand
 pub mod EntrySlices
 pub mod Spelled
 pub mod TableFilling
-pub mod MoveLoops
 pub mod Goals
 pub mod Begun
 pub mod Going

@@ -15,9 +15,9 @@ use Rattle.files.proofs.Truth.{same-truth}
 use Rattle.plans.specs.State.{State}
 use Rattle.plans.specs.Tally.{meetsCell}
 use Rattle.plans.proofs.RowStates.{meets-none, meets-some}
-use Rattle.search.specs.Rows.{leadsTo, rowVariables, rowStates, rowWeight, rowState, canReach, differsOnly}
-use Rattle.search.specs.Sets.{inWord}
-use Rattle.search.specs.Moves.{weighted, setBy, askedOf, setFreely}
+use Rattle.search.specs.Rows.{leadsTo, rowVariables, rowStates, rowState, canReach, differsOnly}
+use Rattle.lookup.specs.Moves.{rowWeight, weighted, setBy, askedOf, setFreely}
+use Rattle.bits.specs.Sets.{inWord}
 use Rattle.search.specs.Offers.{differsIn, differsFrom, Numbered, SearchTables}
 use Rattle.search.proofs.RowNumbers.{RowInside}
 use Rattle.search.proofs.OneChange.{state-inside, number-weights, weights-state, weights-below}

@@ -15,9 +15,10 @@ use Rattle.files.proofs.Logic.{clash, split, split-le, and-split, and-join}
 use Rattle.files.proofs.Truth.{same-truth}
 use Rattle.plans.specs.State.{State}
 use Rattle.search.specs.Entries.{lessEntry, lowered, entryIn}
-use Rattle.search.specs.Rows.{rowWeight, rowState}
+use Rattle.lookup.specs.Moves.{rowWeight}
+use Rattle.search.specs.Rows.{rowState}
 use Rattle.search.specs.Settling.{Known, Offered, Offers}
-use Rattle.search.specs.Sets.{inWord, FirstFrom}
+use Rattle.bits.specs.Sets.{inWord, FirstFrom}
 use Rattle.search.specs.Offers.{differsIn, differsFrom, Numbered}
 use Rattle.search.specs.declared.Entry.{Entry}
 use Rattle.search.proofs.RowNumbers.{weight-most}

@@ -10,8 +10,8 @@ use borrow.Author.Tests.{eq-eqb, ne-eqb}
 use Rattle.files.proofs.Logic.{split-le}
 use Rattle.plans.specs.State.{State}
 use Rattle.search.specs.States.{stateAt}
-use Rattle.search.specs.Rows.{rowVariables, rowStates, rowWeight, rowState}
-use Rattle.search.specs.Moves.{weighted}
+use Rattle.search.specs.Rows.{rowVariables, rowStates, rowState}
+use Rattle.lookup.specs.Moves.{rowWeight, weighted}
 use Rattle.search.proofs.Radix.{number-below, state-in, state-past, number-of-state, state-of-number}
 use Rattle.search.proofs.RowNumbers.{RowSizes, RowInside, number-sum, states-count, row-length, row-sizes, row-inside, inside-row}
 

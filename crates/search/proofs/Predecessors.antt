@@ -14,30 +14,16 @@ use Rattle.files.proofs.BelowLaws.{allBelow-intro, allBelow-elim}
 use Rattle.files.proofs.Logic.{split, split-le, and-split, and-join}
 use Rattle.plans.specs.State.{State, allHold, applicable, apply}
 use Rattle.plans.specs.Tally.{meetsCell}
-use Rattle.plans.proofs.RowStates.{meets-none, meets-some, after-none, after-some, meetsAt, hold-below, apply-row, apply-behind}
+use Rattle.plans.proofs.RowStates.{after-none, after-some, meetsAt, hold-below, apply-row, apply-behind}
 use Rattle.files.proofs.Truth.{same-truth}
 use Rattle.search.specs.States.{stateNumber, stateAt}
-use Rattle.search.specs.Rows.{rowVariables, rowStates, rowState, canHave, canReach, differsOnly, leadsTo}
-use Rattle.search.specs.Moves.{weighted}
+use Rattle.search.specs.Rows.{rowVariables, rowStates, rowState, canReach, differsOnly, leadsTo}
+use Rattle.lookup.specs.FactRows.{canHave}
+use Rattle.lookup.specs.Moves.{weighted}
+use Rattle.lookup.proofs.HaveLaws.{have-effect, have-left}
 use Rattle.search.proofs.RowNumbers.{RowSizes, RowInside, number-sum, state-alike}
 use Rattle.search.proofs.StateLoops.{after-inside}
 use Rattle.search.proofs.OneChange.{weighted-alike, state-inside, state-behind, number-weights, weights-state}
-
--- what a variable can have after a step
-module _ (condition effect value : ℕ) where
-  pub have-effect : (effect ≡ 255 → ⊥) → eqb effect value ≡ canHave condition effect value
-  unfolding canHave
-  have-effect d = rw (ne-eqb effect 255 d) refl
-
-  have-left : effect ≡ 255 → meetsCell condition value ≡ canHave condition effect value
-  unfolding canHave
-  have-left e = rw (eq-eqb effect 255 e) refl
-
-  pub have-condition : effect ≡ 255 → (condition ≡ 255 → ⊥) → eqb condition value ≡ canHave condition effect value
-  have-condition e d = meets-some condition value d ∙ have-left e
-
-  pub have-any : effect ≡ 255 → condition ≡ 255 → true ≡ canHave condition effect value
-  have-any e d = meets-none condition value d ∙ have-left e
 
 module _ (conditions effects : List ℕ) (base : ℕ) where
   abbrev pub conditionAt : ℕ → ℕ

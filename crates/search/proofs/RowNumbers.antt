@@ -13,8 +13,8 @@ use Rattle.files.proofs.Logic.{split-le}
 use Rattle.files.proofs.Tabulate.{tabulateFrom-length, tabulate-entry}
 use Rattle.plans.specs.State.{State}
 use Rattle.search.specs.States.{stateCount, stateNumber, stateAt}
-use Rattle.search.specs.Rows.{rowVariables, rowStates, rowWeight}
-use Rattle.search.specs.Moves.{weighted}
+use Rattle.search.specs.Rows.{rowVariables, rowStates}
+use Rattle.lookup.specs.Moves.{rowWeight, weighted}
 use Rattle.search.proofs.Radix.{Sizes, InDomains}
 
 -- each of the first n variables has a value; each value of a state is in its domain

@@ -1,6 +1,6 @@
 -- The search of the reduced file's task, from what its parts came to: the entries in the table, and the plan file begun, written and ended.
 use Prim.Native.Nat.{ℕ, _+_, _*_, _≤_, _<_}
-use mathlib.Core.Path.{_≡_, refl, sym, ap, ap₂, _∙_}
+use mathlib.Core.Path.{_≡_, refl, sym, ap, ap₂, subst, _∙_}
 use mathlib.Core.Bool.{true, false}
 use mathlib.Core.List.{List}
 use mathlib.Core.Option.{none, some, Option·map}
@@ -27,10 +27,11 @@ use Rattle.search.specs.declared.Entry.{Entry}
 use Rattle.search.specs.declared.stages.Found.{Found}
 use Rattle.search.specs.declared.stages.Searched.{Searched}
 use Rattle.search.specs.States.{stateCount, stateAt}
-use Rattle.search.specs.Table.{stepsOf, entryOf, distances, tableOf}
+use Rattle.search.specs.Table.{minutesOf, stepsOf, entryOf, distances, tableOf}
 use Rattle.search.specs.FirstPlan.{startNumber, firstPlan, foundPlan}
 use Rattle.search.specs.Entries.{mostNumbers, isNone, entryTotal, entriesIn, tableEntry, CanFill}
 use Rattle.search.specs.Rows.{rowStates}
+use Rattle.lookup.specs.FactRows.{CheapRow}
 use Rattle.search.specs.ReadOff.{CanStep, StepsToWrite, PlanIn, StepsWritten}
 use Rattle.search.specs.Planner.{statesFit, planFits, searchBuffers}
 use Rattle.search.specs.Found.{notFound, foundWhole, Searches, CanSearchFiles, SearchesFiles, TableFound, SearchedFiles, planBy, foundBy, Begins, Finishes}
@@ -40,7 +41,7 @@ use Rattle.search.proofs.Distances.{steps-few}
 use Rattle.search.proofs.ReadOff.{leads-on, goal-no-steps, steps-length}
 use Rattle.search.proofs.TableEntries.{table-entry, entry-low, start-none, start-distance}
 use Rattle.search.proofs.LeastPlans.{stepsRead}
-use Rattle.search.proofs.TableFilling.{filled-none}
+use Rattle.search.proofs.TableFilling.{filled-none, filled-at}
 use Rattle.search.proofs.FoundLaws.{states-fit, search-early, search-late, search-done, no-plan, plan-short, plan-fits, read-plan, read-total, read-needed, read-length, plan-made, plan-is}
 use Rattle.search.proofs.PlanFiles.{whole, plan-none, plan-room, plan-whole, not-headed, not-signed, file-written}
 
@@ -134,6 +135,9 @@ module _ (first : Reduced) (reduced origin : List ℕ) (table : List Entry) (sea
           (λ n. n) in
           omega (arith, leads-on t valid (searched .start) (entryTotal e) start-inside here-total not-goal .below, found .stepped .count)
 
+      start-minutes : minutesOf (tableEntry (entriesIn es (searched .states)) (searched .start)) ≡ minutesOf e
+      start-minutes = ap minutesOf (sym (filled-at table es (searched .states) (searched .start) (omega (arith, found .states, start-inside))))
+
       plan-in : (steps : ℕ) → steps ≡ stepsOf e → PlanIn t look steps searched sizes costs rows moves
       plan-in steps n =
           record {
@@ -143,6 +147,7 @@ module _ (first : Reduced) (reduced origin : List ℕ) (table : List Entry) (sea
             entries-are = entries-are;
             start-is = found .start;
             reached = near;
+            cheap = subst (λ (n : ℕ). CheapRow (searched .actions) costs n rows) start-minutes (found .cheap);
             steps-are = n;
           }
 

@@ -14,8 +14,8 @@ use Rattle.search.specs.States.{stateAt}
 use Rattle.search.specs.Entries.{isNone, lowered, afterStep, Low, StepOn, entryIn}
 use Rattle.search.specs.Rows.{leadsTo, offered, rowVariables, rowState, canReach, differsOnly}
 use Rattle.search.specs.Settling.{Known, Offers}
-use Rattle.search.specs.Sets.{inWords, FirstFrom}
-use Rattle.search.specs.FactRows.{InAllRows}
+use Rattle.bits.specs.Sets.{inWords, FirstFrom}
+use Rattle.lookup.specs.FactRows.{InAllRows}
 use Rattle.search.specs.Offers.{differsFrom, SearchTables, CanSettle, StepsOffered}
 use Rattle.search.specs.declared.Entry.{Entry}
 use Rattle.search.proofs.OneChange.{state-inside}

@@ -91,7 +91,7 @@ abbrev pub Costs : RattleType
 Costs = Array u32 512
 
 abbrev pub Rows : RattleType
-Rows = Array u64 1184
+Rows = Array u64 1192
 
 abbrev pub Moves : RattleType
 Moves = Array u64 1536

@@ -15,13 +15,10 @@ use Rattle.plans.specs.State.{State, apply}
 use Rattle.plans.specs.Tally.{listState}
 use Rattle.plans.proofs.RowStates.{after-none, after-some, afterRow, apply-row}
 use Rattle.search.specs.States.{stateNumber, stateAt}
-use Rattle.search.specs.Rows.{rowVariables, rowStates, rowWeight, Counted}
+use Rattle.search.specs.Rows.{rowVariables, rowStates, Counted}
+use Rattle.lookup.specs.Moves.{rowWeight}
 use Rattle.search.proofs.Radix.{state-past}
 use Rattle.search.proofs.RowNumbers.{RowSizes, RowInside, numberFrom, row-number, number-alike, number-from-below, states-weight, weight-most, count-from-most, row-length, state-alike}
-
--- a product that fits
-pub product-most : (a b : ℕ) → a ≤ 4096 → b < 256 → a * b ≤ 1048576
-product-most a b h k = omega (arith, mul-le-mul-left a (let l : b ≤ 256 = omega arith in l), mul-comm a 256, mul-le-mul-left 256 h)
 
 -- weights, and the count of states
 pub weight-first : (sizes : List ℕ) → 1 ≡ rowWeight sizes 0

@@ -9,28 +9,30 @@ use lib.ListN.{length, getD, take}
 use Rattle.files.specs.Bytes.{placed, u16Bytes}
 use Rattle.files.specs.OriginFile.{originOf}
 use Rattle.files.specs.Records.{numberBytes}
-use Rattle.files.specs.Task.{Task}
+use Rattle.files.specs.Task.{Task, actionOf}
 use Rattle.files.proofs.Countdown.{one-more}
 use Rattle.files.proofs.Logic.{split}
 use Rattle.files.proofs.Placed.{placed-length}
 use Rattle.files.proofs.Valid.{Valid, task-valid}
 use Rattle.files.proofs.Writing.{placed-u16-then}
-use Rattle.plans.specs.Plan.{Total, noSteps}
+use Rattle.plans.specs.Plan.{Total, noSteps, addStep}
 use Rattle.plans.specs.State.{allHold}
 use Rattle.reduction.specs.Preserved.{byOriginFile}
 use Rattle.search.specs.States.{stateCount, stateAt}
-use Rattle.search.specs.Table.{distances, nextState}
-use Rattle.search.specs.FirstPlan.{stepsFrom, foundPlan}
+use Rattle.search.specs.Table.{minutesOf, distances, nextState}
+use Rattle.search.specs.FirstPlan.{startNumber, stepsFrom, foundPlan}
 use Rattle.search.specs.declared.Entry.{Entry}
 use Rattle.search.specs.declared.first_plan.Step.{Step}
 use Rattle.search.specs.declared.stages.Searched.{Searched}
 use Rattle.search.specs.Entries.{entryTotal}
 use Rattle.search.specs.Rows.{rowStates}
-use Rattle.search.specs.ReadOff.{stateAfter, HereOf, CanKnow, goesBy, CanLead, Leads, FirstLed, CanPut, StepPut, CanStep, StepsToWrite, PlanIn, StepsWritten}
+use Rattle.search.specs.ReadOff.{HereOf, CanKnow, goesBy, CanLead, Leads, FirstLed, CanPut, StepPut, CanStep, StepsToWrite, PlanIn, StepsWritten}
 use Rattle.search.proofs.Radix.{start-below}
 use Rattle.search.proofs.RowNumbers.{states-count}
 use Rattle.search.proofs.Distances.{steps-few, minutes-few}
-use Rattle.search.proofs.ReadOff.{actionFrom, LeadsOn, leads-on, steps-more, goal-no-steps, steps-length-within}
+use Rattle.search.proofs.ReadOff.{tight, actionFrom, LeadsOn, leads-on, steps-more, goal-no-steps, steps-length-within}
+use Rattle.search.proofs.DistanceLaws.{addStep-minutes}
+use Rattle.search.proofs.Leading.{not-passed}
 use Rattle.search.proofs.LeastPlans.{first-plan-some}
 use Rattle.search.proofs.Going.{can-go, goes-below, goes-is}
 use Rattle.search.proofs.EntryLaws.{near-some, Within, within-near, within-low, within-total, total-is, some-distance}
@@ -42,6 +44,7 @@ pub record Writing (t : Task) (origin plan : List ℕ) (steps s i : ℕ) (buffer
   pub total : Total
   pub distance : getD (distances t) s none ≡ some total
   pub left : i + total .steps ≡ steps
+  pub no-more : (x : Total) → getD (distances t) (startNumber t) none ≡ some x → total .minutes ≤ x .minutes
   pub limit : ℕ
   pub enough : total .steps ≤ limit
   pub rest : placed buffer (4 + 2 * i) (numberBytes (byOriginFile origin (stepsFrom t (distances t) s limit))) ≡ placed plan 4 (numberBytes (byOriginFile origin (foundPlan t)))
@@ -92,6 +95,10 @@ module _ (t : Task) (look : ℕ → Entry) (steps : ℕ) (searched : Searched) (
         total = entryTotal (look (searched .start));
         distance = start-total;
         left = omega (arith, k .steps-are);
+        no-more = λ x e.
+            let here : some (entryTotal (look (searched .start))) ≡ some x = sym start-total ∙ ap (λ (n : ℕ). getD (distances t) n none) (k .start-is) ∙ e in
+            let same-total : entryTotal (look (searched .start)) ≡ x = cc in
+            omega (arith, ap (λ (y : Total). y .minutes) same-total);
         limit = stateCount (t .variables) - 1;
         enough = omega (arith, steps-few t valid (searched .start) (entryTotal (look (searched .start))) start-inside start-total);
         rest = ap (λ (l : List ℕ). placed plan 4 (numberBytes (byOriginFile origin l))) (sym plan-read);
@@ -125,6 +132,14 @@ module _ (t : Task) (look : ℕ → Entry) (steps : ℕ) (searched : Searched) (
           below = omega (arith, w .inside, states-are);
           own-near = near-some (look s) (within-near 0 (look s) within);
           own-low = within-low 0 (look s) within;
+          most = minutesOf (look (searched .start));
+          cheap = k .cheap;
+          own-within =
+              omega (
+                arith,
+                w .no-more (entryTotal (look (searched .start))) (ap (λ (n : ℕ). getD (distances t) n none) (sym (k .start-is)) ∙ start-total),
+                ap (λ (x : Total). x .minutes) (total-is (look s) (getD (distances t) s none) (w .total) (k .entries-are s (w .inside)) (w .distance)),
+              );
           one = actionFrom t s;
           one-below = omega (arith, onward .below, k .stepped .count);
           one-leads = onward .passes;
@@ -135,12 +150,11 @@ module _ (t : Task) (look : ℕ → Entry) (steps : ℕ) (searched : Searched) (
       from-is = found .is t (leads here known)
 
       next-number : r .next ≡ nextState t (actionFrom t s) s
-      unfolding stateAfter
       next-number =
+          let there = not-passed t look searched s here costs moves (leads here known) (r .action .0) (found .below) (ap (tight t (distances t) s) from-is ∙ onward .passes) in
           found .goes
-          ∙ goes-is t (searched .variables) (searched .actions) sizes costs rows moves (k .stepped) s here known (omega (arith, w .inside, states-are)) (r .action .0) (found .below)
-          ∙ ap (stateAfter t s) from-is
-          ∙ rw (onward .applies) refl
+          ∙ goes-is t (searched .variables) (searched .actions) sizes costs rows moves (k .stepped) s here known (omega (arith, w .inside, states-are)) (r .action .0) (found .below) there
+          ∙ ap (λ (a : ℕ). nextState t a s) from-is
 
       wrote : (next : ℕ) (after : List ℕ) → next ≡ r .next → after ≡ placed buffer (4 + 2 * i) (u16Bytes (getD (originOf origin .actions) (r .action .0) 0))
           → Writing t origin plan steps next (suc i) after
@@ -148,6 +162,9 @@ module _ (t : Task) (look : ℕ → Entry) (steps : ℕ) (searched : Searched) (
           let row = distances t in
           let there : next ≡ nextState t (actionFrom t s) s = n ∙ next-number in
           let fewer = onward .fewer (w .total) (w .distance) in
+          let here-total : some (w .total) ≡ some (addStep (actionOf t (actionFrom t s)) (onward .next)) = sym (w .distance) ∙ onward .value in
+          let totals : w .total ≡ addStep (actionOf t (actionFrom t s)) (onward .next) = cc in
+          let less : onward .next .minutes ≤ w .total .minutes = omega (arith, ap (λ (y : Total). y .minutes) totals, addStep-minutes (actionOf t (actionFrom t s)) (onward .next)) in
           let rest-of = w .limit - 1 in
           let plan-from : stepsFrom t row s (w .limit) ≡ r .action .0 ∷ stepsFrom t row next rest-of =
           ap (stepsFrom t row s) (one-more (w .limit) (omega (arith, fewer, w .enough)))
@@ -158,6 +175,7 @@ module _ (t : Task) (look : ℕ → Entry) (steps : ℕ) (searched : Searched) (
             total = onward .next;
             distance = ap (λ (m : ℕ). getD row m none) there ∙ onward .reached;
             left = omega (arith, fewer, w .left);
+            no-more = λ x e. omega (arith, w .no-more x e, less);
             limit = rest-of;
             enough = omega (arith, fewer, w .enough);
             rest =
@@ -187,7 +205,7 @@ module _ (look : ℕ → Entry) (plan : List ℕ) (steps : ℕ) (searched : Sear
   pub can-know : CanStep look plan steps searched origin sizes costs rows moves → CanKnow (searched .variables) sizes rows
   can-know asked =
       let a = asked .tables .asked in
-      record { states = record { sized = record { few = a .variables-few; least = a .size-least }; states = a .states-few }; facts = asked .tables .few }
+      record { states = record { sized = record { few = a .variables-few; least = a .size-least }; states = a .states-few }; facts = asked .tables .few; room = asked .tables .room }
 
   module _ (s i : ℕ) (buffer : List ℕ) where
     pub steps-length : Stepping look plan steps searched origin sizes costs rows moves s i buffer → length buffer ≡ length plan

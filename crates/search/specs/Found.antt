@@ -21,10 +21,10 @@ use Rattle.reduction.specs.Preserved.{byOriginFile}
 use Rattle.reduction.specs.Reduce.{Buffers}
 use Rattle.reduction.specs.declared.Reduced.{Reduced}
 use Rattle.search.specs.States.{stateCount}
-use Rattle.search.specs.Table.{stepsOf, tableOf}
-use Rattle.search.specs.Entries.{isNone, Holds}
-use Rattle.search.specs.FactRows.{mostFacts}
-use Rattle.search.specs.Moves.{mostMoves}
+use Rattle.search.specs.Table.{minutesOf, stepsOf, tableOf}
+use Rattle.search.specs.Entries.{isNone, Holds, tableEntry}
+use Rattle.lookup.specs.FactRows.{mostWords, CheapRow}
+use Rattle.lookup.specs.Moves.{mostMoves}
 use Rattle.search.specs.FirstPlan.{startNumber, firstPlan, foundPlan}
 use Rattle.search.specs.ReadOff.{Stepped}
 use Rattle.search.specs.Planner.{statesFit, SearchBuffers, searchStages, unplanned, lent, Plans}
@@ -82,20 +82,21 @@ pub record CanSearchIn (given : Type 0) (entries : List ℕ) : Type 0 where
 pub record CanSearchArrays (d : Arrays) (entries rows moves : List ℕ) : Type 0 where
   pub accepted : acceptedTask (held d) ≡ true
   pub entries-room : Holds entries 4096
-  pub rows-room : 8 * mostFacts ≤ length rows
+  pub rows-room : mostWords ≤ length rows
   pub moves-room : mostMoves ≤ length moves
 
 -- no search, or one that is refused
 abbrev pub unsearched : Outcome → Searched
 unsearched o = record { outcome = o; states = 0; start = 0; variables = 0; actions = 0; named = 0; place = 0 }
 
--- the table of a task, and its steps in arrays
+-- the table of a task, its steps in arrays, and the actions that cost no more than a best plan
 pub record TableFound (t : Task) (searched : Searched) (entries : List Entry) (sizes costs rows moves : List ℕ) : Type 0 where
   pub accepted : acceptedTask t ≡ true
   pub few : stateCount (t .variables) ≤ 4096
   pub states : searched .states ≡ stateCount (t .variables)
   pub start : searched .start ≡ startNumber t
   pub stepped : Stepped t (searched .variables) (searched .actions) sizes costs rows moves
+  pub cheap : CheapRow (searched .actions) costs (minutesOf (tableEntry entries (searched .start))) rows
   pub table : entries ≡ tableOf t
 
 -- the search of the task that arrays hold, for a table of `room` entries

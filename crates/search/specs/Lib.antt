@@ -6,9 +6,6 @@ pub mod Least
 pub mod Entries
 pub mod Settling
 pub mod Rows
-pub mod Sets
-pub mod FactRows
-pub mod Moves
 pub mod Offers
 pub mod ReadOff
 pub mod Planner

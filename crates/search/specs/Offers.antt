@@ -16,9 +16,9 @@ use Rattle.search.specs.FirstPlan.{startNumber}
 use Rattle.search.specs.Entries.{noEntry, isNone, firstEntry, Low, Holds, entryIn, entriesIn}
 use Rattle.search.specs.Rows.{offered, rowVariables, rowStates, rowState, Searchable}
 use Rattle.search.specs.Settling.{Known, Blocks}
-use Rattle.search.specs.Sets.{inWord}
-use Rattle.search.specs.FactRows.{mostFacts, FewFacts, RowsByFact}
-use Rattle.search.specs.Moves.{mostMoves, WeightsOf, MovesOf}
+use Rattle.bits.specs.Sets.{inWord}
+use Rattle.lookup.specs.FactRows.{mostFacts, FewFacts, RowsByFact}
+use Rattle.lookup.specs.Moves.{mostMoves, WeightsOf, MovesOf}
 use Rattle.search.specs.declared.Entry.{Entry}
 
 -- state r is state s except in the variables of a set from `from` on

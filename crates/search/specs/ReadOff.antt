@@ -13,16 +13,15 @@ use Rattle.files.specs.Dense.{rowAction}
 use Rattle.files.specs.OriginFile.{originOf, originActionsPlace}
 use Rattle.files.specs.Records.{numberBytes}
 use Rattle.files.specs.Task.{Action, Task, actionCount, actionOf}
-use Rattle.plans.specs.State.{applicable}
 use Rattle.reduction.specs.Preserved.{byOriginFile}
-use Rattle.search.specs.States.{stateCount, stateAt}
-use Rattle.search.specs.Table.{stepsOf, entryOf, same, through, nextState, distances}
+use Rattle.search.specs.States.{stateCount}
+use Rattle.search.specs.Table.{minutesOf, stepsOf, entryOf, same, through, distances}
 use Rattle.search.specs.FirstPlan.{firstAction, startNumber, foundPlan}
 use Rattle.search.specs.Entries.{isNone, sameEntry, afterStep, Low}
-use Rattle.search.specs.Rows.{rowVariables, rowStates, rowWeight, rowState, FewStates, Searchable}
-use Rattle.search.specs.Sets.{inWord, inWords}
-use Rattle.search.specs.FactRows.{factNumber, FewFacts, RowsByFact}
-use Rattle.search.specs.Moves.{MovesOf}
+use Rattle.search.specs.Rows.{rowVariables, rowStates, rowState, FewStates, Searchable}
+use Rattle.lookup.specs.Moves.{rowWeight, MovesOf}
+use Rattle.bits.specs.Sets.{inWord, inWords}
+use Rattle.lookup.specs.FactRows.{mostFacts, factNumber, FewFacts, RowsByFact, mostWords, CheapRow}
 use Rattle.search.specs.declared.Entry.{Entry}
 use Rattle.search.specs.declared.first_plan.Step.{Step}
 use Rattle.search.specs.declared.stages.Searched.{Searched}
@@ -31,6 +30,7 @@ use Rattle.search.specs.declared.stages.Searched.{Searched}
 pub record StepTables (variables actions : ℕ) (sizes costs conditions effects rows moves : List ℕ) : Type 0 where
   pub asked : Searchable variables actions sizes costs conditions effects
   pub few : FewFacts variables sizes rows
+  pub room : mostWords ≤ length rows
   pub rows-are : RowsByFact variables actions sizes conditions conditions rows
   pub moves-are : MovesOf variables actions sizes conditions effects moves
 
@@ -44,19 +44,16 @@ pub record Stepped (t : Task) (variables actions : ℕ) (sizes costs rows moves 
   pub count : actions ≡ actionCount t
   pub actions-are : (a : ℕ) → a < actions → actionOf t a ≡ rowAction variables costs conditions effects a
 
--- the state that an action leads to; where it is not applicable, the state itself
-unfoldable pub stateAfter : Task → ℕ → ℕ → ℕ
-stateAfter t s a = cond (applicable (actionOf t a) (stateAt (t .variables) s)) (nextState t a s) s
-
--- what is known of state s: its applicable actions, and what the value of each variable adds to its number
+-- what is known of state s: its actions, which are applicable and cheap enough, and what the value of each variable adds to its number
 pub record HereOf (variables : ℕ) (sizes rows : List ℕ) (s : ℕ) (here : List ℕ) : Type 0 where
-  pub applicable-are : (a : ℕ) → a < 512 → inWords here 0 a ≡ allBelow variables (λ v. inWords rows (8 * factNumber sizes v (rowState variables sizes s v)) a)
+  pub actions-are : (a : ℕ) → a < 512 → inWords here 0 a ≡ inWords rows (8 * mostFacts) a && allBelow variables (λ v. inWords rows (8 * factNumber sizes v (rowState variables sizes s v)) a)
   pub added : (v : ℕ) → v < variables → getD here (8 + v) 0 ≡ rowWeight sizes v * rowState variables sizes s v
 
--- few states, and room for the rows of their facts
+-- few states, and room for the rows of their facts and for one row more
 pub record CanKnow (variables : ℕ) (sizes rows : List ℕ) : Type 0 where
   pub states : FewStates variables sizes
   pub facts : FewFacts variables sizes rows
+  pub room : mostWords ≤ length rows
 
 -- eight words, and a list that begins with them
 abbrev pub Begun : (words list : List ℕ) → Type 0
@@ -70,11 +67,11 @@ freedBy here word count = sumBelow count (λ v. cond (inWord word v) (getD here 
 unfoldable pub takenBy : List ℕ → List ℕ → ℕ → ℕ
 takenBy here moves a = getD moves (3 * a + 1) 0 + freedBy here (getD moves (3 * a + 2) 0) 64
 
--- the number of the state that an action leads to; where it is not applicable, the number itself
+-- the number of the state that an action leads to; where it is not among those of the state, the number itself
 unfoldable pub goesBy : List ℕ → List ℕ → ℕ → ℕ → ℕ
 goesBy here moves s a = cond (inWords here 0 a) (s + getD moves (3 * a) 0 - takenBy here moves a) s
 
--- numbers that fit, of which an applicable action takes no more than there is
+-- numbers that fit, of which an action of the state takes no more than there is
 pub record CanGo (here moves : List ℕ) (s a : ℕ) : Type 0 where
   pub action-few : a < 512
   pub state-few : s ≤ 4096
@@ -87,7 +84,7 @@ pub record CanStepFrom (searched : Searched) (from s : ℕ) (here moves : List �
   pub goes : (a : ℕ) → a < searched .actions → CanGo here moves s a
   pub more : from < searched .actions
 
--- the step by the first applicable action from `from` on, or by the last action of all
+-- the step by the first action of the state from `from` on, or by the last action of all
 pub record StepFrom (searched : Searched) (from s : ℕ) (here moves : List ℕ) (r : Step) : Type 0 where
   pub first : from ≤ r .action .0
   pub below : r .action .0 < searched .actions
@@ -120,7 +117,7 @@ pub record CanLead (look : ℕ → Entry) (searched : Searched) (s : ℕ) (here 
   pub more : 0 < searched .actions
   pub low : (a : ℕ) → a < searched .actions → isNone (look (goesBy here moves s a)) ≡ false → Low (look (goesBy here moves s a))
 
--- they are those of a task's states, and the state has its entry by way of one of the actions
+-- they are those of a task's states, and the state has its entry by way of one of the actions; those that cost more than it has minutes may be left out
 pub record Leads (t : Task) (look : ℕ → Entry) (searched : Searched) (s : ℕ) (here costs moves : List ℕ) : Type 0 where
   pub sizes : List ℕ
   pub rows : List ℕ
@@ -130,6 +127,9 @@ pub record Leads (t : Task) (look : ℕ → Entry) (searched : Searched) (s : �
   pub below : s < rowStates (searched .variables) sizes
   pub own-near : isNone (look s) ≡ false
   pub own-low : Low (look s)
+  pub most : ℕ
+  pub cheap : CheapRow (searched .actions) costs most rows
+  pub own-within : minutesOf (look s) ≤ most
   pub one : ℕ
   pub one-below : one < searched .actions
   pub one-leads : same (through t (distances t) s one) (getD (distances t) s none) ≡ true
@@ -180,6 +180,7 @@ pub record PlanIn (t : Task) (look : ℕ → Entry) (steps : ℕ) (searched : Se
   pub entries-are : (s : ℕ) → s < stateCount (t .variables) → look s ≡ entryOf (getD (distances t) s none)
   pub start-is : searched .start ≡ startNumber t
   pub reached : isNone (look (searched .start)) ≡ false
+  pub cheap : CheapRow (searched .actions) costs (minutesOf (look (searched .start))) rows
   pub steps-are : steps ≡ stepsOf (look (searched .start))
 
 -- the steps of the plan are written behind the head, by original numbers

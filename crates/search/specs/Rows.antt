@@ -10,6 +10,7 @@ use Rattle.files.specs.Dense.{rowVariable}
 use Rattle.files.specs.Task.{Variable, Action}
 use Rattle.plans.specs.State.{State, applicable, apply}
 use Rattle.plans.specs.Tally.{meetsCell}
+use Rattle.lookup.specs.FactRows.{canHave}
 use Rattle.search.specs.States.{stateCount, stateNumber, stateAt}
 use Rattle.search.specs.Entries.{lowered, afterStep}
 use Rattle.search.specs.declared.Entry.{Entry}
@@ -32,18 +33,9 @@ rowVariables variables sizes starts = tabulate variables (rowVariable sizes star
 unfoldable pub rowStates : ℕ → List ℕ → ℕ
 rowStates variables sizes = stateCount (rowVariables variables sizes [])
 
--- what a change of one in the value of variable v adds to the number of a state
-unfoldable pub rowWeight : List ℕ → ℕ → ℕ
-rowWeight sizes zero = 1
-rowWeight sizes (suc v) = rowWeight sizes v * getD sizes v 0
-
 -- the state of a number, which no start value changes
 unfoldable pub rowState : ℕ → List ℕ → ℕ → State
 rowState variables sizes n = stateAt (rowVariables variables sizes []) n
-
--- a variable can have a value after a step: the effect's, or one that the condition asks where there is no effect
-unfoldable pub canHave : ℕ → ℕ → ℕ → Bool
-canHave condition effect value = cond (eqb effect 255) (meetsCell condition value) (eqb effect value)
 
 -- the step at `base` can lead to state s
 unfoldable pub canReach : List ℕ → List ℕ → ℕ → ℕ → State → Bool

@@ -6,16 +6,16 @@ ghost use lib.ListN.{length};
 ghost use Rattle.search.specs.ReadOff.{Begun, CanKnow, HereOf, freedBy, goesBy, CanGo, CanStepFrom, StepFrom, CanCompare, HasBy, LooksOn, CanPut, StepPut};
 use crate::Entry;
 use crate::entries;
-use crate::fact_rows;
-use crate::sets;
+use lookup::fact_rows;
+use bits::sets;
 use crate::stages::Searched;
 use crate::states;
 use files::bytes;
 use plans::Minutes;
 use plans::ReducedAction;
 
-// An action, and the state that it leads to. Where the action is not applicable that is the state
-// itself, whose entry with a step more is never its own.
+// An action, and the state that it leads to. Where the action is not applicable or too dear that is
+// the state itself, whose entry with a step more is never its own.
 pub struct Step {
     pub action: ReducedAction,
     pub next: usize,
@@ -33,14 +33,14 @@ fn put_words(list: &mut [u64], words: &[u64; 8])
     }
 }
 
-// What reading off needs of a state: its applicable actions as the bits of eight words, then what
-// the value of each variable adds to its number.
-pub fn here(sizes: &[u8; 64], rows: &[u64; 1184], variables: usize, state: usize) -> [u64; 72]
+// What reading off needs of a state: its applicable actions that are cheap enough as the bits of
+// eight words, then what the value of each variable adds to its number.
+pub fn here(sizes: &[u8; 64], rows: &[u64; 1192], variables: usize, state: usize) -> [u64; 72]
     requires { ⌜ CanKnow variables (now sizes) (now rows) ⌝ }
     ensures { λ r. ⌜ HereOf variables (now (sizes .entry)) (now (rows .entry)) state r ⌝ }
 {
     let values = states::values_of(sizes, variables, state);
-    let words = fact_rows::in_all(rows, sizes, variables, &values);
+    let words = fact_rows::cheap_in_all(rows, sizes, variables, &values);
     let mut here = [0u64; 72];
     put_words(&mut here, &words);
     let mut weight: usize = 1;
@@ -67,19 +67,19 @@ fn freed(here: &[u64; 72], word: u64) -> u64
     sum
 }
 
-// The state that action `a` leads to, or the state itself where it is not applicable.
+// The state that action `a` leads to, or the state itself where it is not among those of the state.
 fn next_state(here: &[u64; 72], moves: &[u64; 1536], state: usize, a: usize) -> usize
     requires { ⌜ CanGo (now here) (now moves) state a ⌝ }
     ensures { λ r. ⌜ r ≡ goesBy (now (here .entry)) (now (moves .entry)) state a ⌝ }
 {
-    if sets::next_in(here, a, a + 1) != a {
+    if sets::next_in(here, 0, a, a + 1) != a {
         return state;
     }
     let number = state as u64 + moves[3 * a] - moves[3 * a + 1];
     (number - freed(here, moves[3 * a + 2])) as usize
 }
 
-// The step by the first applicable action from `from` on, or by the last action of all.
+// The step by the first action of the state from `from` on, or by the last action of all.
 pub fn step_from(
     searched: Searched,
     from: usize,
@@ -90,14 +90,14 @@ pub fn step_from(
     requires { ⌜ CanStepFrom searched from state (now here) (now moves) ⌝ }
     ensures { λ r. ⌜ StepFrom searched from state (now (here .entry)) (now (moves .entry)) r ⌝ }
 {
-    let a = sets::next_in(here, from, searched.actions - 1);
+    let a = sets::next_in(here, 0, from, searched.actions - 1);
     Step {
         action: ReducedAction(a as u16),
         next: next_state(here, moves, state, a),
     }
 }
 
-// The step by the first applicable action behind that of another step.
+// The step by the first action of the state behind that of another step.
 pub fn step_after(
     searched: Searched,
     step: Step,

@@ -4,9 +4,9 @@ ghost use mathlib.Core.List.{List};
 ghost use Prim.Native.Nat.{ℕ, _≤_};
 ghost use lib.Dec.{eqb};
 ghost use Rattle.files.specs.Below.{bit};
-ghost use Rattle.search.specs.Moves.{weighted, WeightsOf};
+ghost use Rattle.lookup.specs.Moves.{weighted, WeightsOf};
 ghost use Rattle.search.specs.Offers.{goalValues, GoalFree, SmallWeights};
-use crate::moves;
+use lookup::moves;
 use files::bytes;
 use files::limits;
 

@@ -1,13 +1,10 @@
 // Search over the states of the reduced task, and the planner.
 // The call open to callers is plan; the module own_table serves the programs.
 mod entries;
-mod fact_rows;
 mod first_plan;
 mod goal;
-mod moves;
 pub mod own_table;
 mod selection;
-mod sets;
 mod stages;
 mod states;
 mod steps_to;

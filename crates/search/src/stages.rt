@@ -8,8 +8,8 @@ ghost use Rattle.search.specs.Found.{unsearched, notFound, bothTogether,
 use crate::Entry;
 use crate::Planned;
 use crate::entries;
-use crate::fact_rows;
-use crate::moves;
+use lookup::fact_rows;
+use lookup::moves;
 use crate::states;
 use crate::table;
 use files::outcomes;
@@ -102,7 +102,9 @@ fn search_arrays(
         conditions,
         effects,
     );
-    fact_rows::fill(rows, sizes, conditions, conditions, variables, actions);
+    let entry = entries::entry_at(entries, start);
+    let most = entry.minutes.0;
+    fact_rows::fill_cheap(rows, sizes, conditions, costs, variables, actions, most);
     Searched {
         outcome: outcomes::done(),
         states: count,
@@ -123,7 +125,7 @@ pub fn search_files(
     entries: &mut [u64],
     sizes: &mut [u8; 64],
     costs: &mut [u32; 512],
-    rows: &mut [u64; 1184],
+    rows: &mut [u64; 1192],
     moves: &mut [u64; 1536],
 ) -> Searched
     requires { ⌜ CanSearchIn (CanSearchFiles first (now reduced) (now origin)) (now entries) ⌝ }

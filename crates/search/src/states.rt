@@ -5,7 +5,8 @@ ghost use Prim.Native.Nat.{ℕ, _<_};
 ghost use lib.ListN.{getD};
 ghost use Rattle.plans.specs.Tally.{listState};
 ghost use Rattle.search.specs.States.{stateNumber, stateAt};
-ghost use Rattle.search.specs.Rows.{rowVariables, rowWeight, Sized, FewStates, Counted, ValuesInside};
+ghost use Rattle.search.specs.Rows.{rowVariables, Sized, FewStates, Counted, ValuesInside};
+ghost use Rattle.lookup.specs.Moves.{rowWeight};
 use files::bytes;
 
 // The most states that are searched.

@@ -4,9 +4,9 @@ ghost use Rattle.search.specs.Settling.{Offers};
 ghost use Rattle.search.specs.Offers.{differsFrom, isOneOf, OfferFrom, OfferValues, CanSettle, StepsOffered};
 use crate::Entry;
 use crate::entries;
-use crate::fact_rows;
+use lookup::fact_rows;
 use crate::selection;
-use crate::sets;
+use bits::sets;
 use crate::states;
 use files::bytes;
 use plans::Minutes;
@@ -104,7 +104,7 @@ pub fn settle(
     let own = entries::entry_at(entries, x);
     let values = states::values_of(sizes, variables, x);
     let leading = fact_rows::in_all(rows, sizes, variables, &values);
-    let mut a = sets::next_in(&leading, 0, actions);
+    let mut a = sets::next_in(&leading, 0, 0, actions);
     while a < actions {
         let entry = entries::after_step(own, Minutes(costs[a] as u64));
         let free = moves[3 * a + 2];
@@ -122,6 +122,6 @@ pub fn settle(
             at,
             entry,
         );
-        a = sets::next_in(&leading, a + 1, actions);
+        a = sets::next_in(&leading, 0, a + 1, actions);
     }
 }

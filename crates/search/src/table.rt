@@ -3,7 +3,7 @@ ghost use Rattle.files.specs.Dense.{held, arrays};
 ghost use Rattle.search.specs.Entries.{Holds};
 ghost use Rattle.search.specs.Offers.{Cleared, CanBegin, Begun, CanSearch, TableIn};
 use crate::entries;
-use crate::fact_rows;
+use lookup::fact_rows;
 use crate::goal;
 use crate::selection;
 use crate::states;

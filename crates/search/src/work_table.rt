@@ -9,10 +9,10 @@ ghost use Rattle.search.specs.Planner.{searchBuffers};
 ghost use Rattle.search.specs.Found.{CanSearchFiles, SearchesFiles};
 use crate::Entry;
 use crate::entries;
-use crate::fact_rows;
+use lookup::fact_rows;
 use crate::first_plan;
 use crate::first_plan::Step;
-use crate::moves;
+use lookup::moves;
 use crate::stages;
 use crate::stages::Found;
 use crate::stages::Searched;
@@ -77,7 +77,7 @@ fn write_steps(
     origin: &[u8],
     sizes: &[u8; 64],
     costs: &[u32; 512],
-    rows: &[u64; 1184],
+    rows: &[u64; 1192],
     moves: &[u64; 1536],
 )
     requires { ⌜ StepsToWrite (tableEntry (now table)) (now plan) (steps .0) searched (now origin) (now sizes) (now costs) (now rows) (now moves) ⌝ }

@@ -3,7 +3,7 @@ use Prim.Native.Nat.{_-_, _≤_}
 use native.Mathlib.Omega.{arith}
 use denote.Ref.{now}
 use Rattle.search.proofs.RowNumbers.{weight-most}
-use Rattle.search.proofs.StateLoops.{product-most}
+use Rattle.lookup.proofs.MoveLoops.{product-most}
 use Rattle.search.proofs.HereLoops.{Knowing, can-find, know-begin, know-next, know-end}
 use borrow.Author.Needs.{needs}
 use Rattle.search.proofs.first_plan.here.Statement.{statement}
@@ -18,8 +18,8 @@ abbrev μ-loop : tie.MeasureT-loop
 values-of-requires : tie.Need-values-of-requires Inv-loop μ-loop
 values-of-requires c κs = c .pre .states .sized
 
-in-all-requires : tie.Need-in-all-requires Inv-loop μ-loop
-in-all-requires c κs = can-find _ _ (now (c .before .before .before .args .rows)) _ _ (c .before .before .values-of .ensures) (c .before .before .before .pre)
+cheap-in-all-requires : tie.Need-cheap-in-all-requires Inv-loop μ-loop
+cheap-in-all-requires c κs = can-find _ _ (now (c .before .before .before .args .rows)) _ _ (c .before .before .values-of .ensures) (c .before .before .before .pre)
 
 slice-aggregate-put-words : tie.Need-slice-aggregate-put-words Inv-loop μ-loop
 slice-aggregate-put-words c = search needs
@@ -75,7 +75,7 @@ loop-again c =
     know-next _ (now (start .args .sizes)) (now (start .args .rows)) _ _ (c .before .before .before .before .before .before .before .before .before .before .before .before .before .values-of .ensures) _ (l .here) _ _ _ _ (l .inv) (c .before .before .before .before .loop-test .taken) (start .pre .states .sized .few) (c .before .before .byte-at .ensures .is) (c .byte-at2 .ensures .is)
 
 returns : tie.Need-returns Inv-loop μ-loop
-returns c = know-end _ _ _ _ _ (c .before .before .before .before .before .before .before .before .before .values-of .ensures) _ _ _ _ _ (c .before .loop .inv) (c .loop-test .left) (c .before .before .before .put-words .ensures) (c .before .before .before .before .before .before .in-all .ensures .all)
+returns c = know-end _ _ _ _ _ (c .before .before .before .before .before .before .before .before .before .values-of .ensures) _ _ _ _ _ (c .before .loop .inv) (c .loop-test .left) (c .before .before .before .put-words .ensures) (c .before .before .before .before .before .before .cheap-in-all .ensures)
 
 pub here-spec : {M : Type 1} → statement M
 here-spec =
@@ -84,7 +84,7 @@ here-spec =
     Inv-loop
     μ-loop
     values-of-requires
-    in-all-requires
+    cheap-in-all-requires
     slice-aggregate-put-words
     put-words-requires
     loop-holds

@@ -7,7 +7,7 @@ use lib.ListN.{getD}
 use denote.Ref.{now}
 use borrow.Author.Needs.{needs}
 use Rattle.files.specs.Below.{bit}
-use Rattle.search.proofs.WordLoops.{Marking, mark-begin, mark-fits, mark-most, mark-next, mark-below}
+use Rattle.bits.proofs.WordLoops.{Marking, mark-begin, mark-fits, mark-most, mark-next, mark-below}
 use Rattle.search.proofs.goal.free.Statement.{statement}
 use Rattle.search.proofs.goal.free.Tie as tie
 

@@ -1,17 +1,23 @@
 -- Too many states, no room for the table, or the table.
 use Prim.Native.Nat.{ℕ, _≤_, _<_}
-use mathlib.Core.Path.{_≡_, sym, ap, _∙_}
+use mathlib.Core.Path.{_≡_, sym, ap, subst, _∙_}
+use mathlib.Core.Bool.{true}
 use native.Mathlib.Omega.{arith}
 use denote.Ref.{now}
 use lib.ListN.{getD}
+use Rattle.files.specs.Accepted.{acceptedTask}
 use Rattle.files.specs.Dense.{Arrays, held, arrays}
 use Rattle.files.specs.Outcome.{refusal}
 use Rattle.files.proofs.Guards.{refusal-number}
 use Rattle.search.specs.States.{stateCount}
+use Rattle.search.specs.Table.{minutesOf}
 use Rattle.search.specs.Rows.{FewStates}
+use Rattle.lookup.specs.FactRows.{CheapRow}
 use Rattle.search.specs.ReadOff.{StepTables}
+use Rattle.search.proofs.Radix.{start-below}
 use Rattle.search.proofs.RowNumbers.{weight-most}
-use Rattle.search.proofs.HeldStates.{held-states, held-sizes, held-few, held-actions-few, held-facts, searchable}
+use Rattle.search.proofs.TableFilling.{entries-at}
+use Rattle.search.proofs.HeldStates.{held-valid, held-states, held-sizes, held-few, held-actions-few, held-facts, searchable}
 use Rattle.search.proofs.FoundLaws.{states-many, table-short, states-fit, searched-refused, searched-done}
 use borrow.Author.Needs.{needs}
 use Rattle.search.proofs.stages.search_arrays.Statement.{statement}
@@ -87,20 +93,46 @@ search-requires c κs =
       states = states-of k l;
       few = l;
       room = omega (arith, s .pre .entries-room);
-      rows-long = s .pre .rows-room;
+      rows-long = omega (arith, s .pre .rows-room);
       moves-long = omega (arith, s .pre .moves-room, c .before .before .before .before .before .before .fill .kept .0);
       weights-are = weights;
       moves-are = c .before .before .before .before .before .before .fill .ensures (now (s .args .sizes)) weights;
     }
 
-fill-requires-2 : tie.Need-fill-requires-2
-fill-requires-2 c κs =
-    let k = c .before .before .before .before .before .before .before .before .before .before .before .before .before .before .before .before .before .before in
-    let l = c .before .before .before .before .before .before .before .before .before .before .before .before .before .before .before .before .before .if1 .left in
-    let d = task-of (to-start k) in
-    let accepted = to-start k .pre .accepted in
-    let few : stateCount (held d .variables) ≤ 4096 = omega (arith, states-of k l, l) in
-    record { few = held-facts d accepted few _ (omega (arith, to-start k .pre .rows-room, c .before .before .before .before .before .search .kept .1 .0)); actions-few = held-actions-few d accepted }
+-- from the table found to the count before it
+abbrev to-count : tie.After-search → tie.After-count
+to-count c = c .before .before .before .before .before .before .before .before .before .before .before .before .before
+
+abbrev searched-task : tie.After-search → Arrays
+searched-task c = task-of (to-start (to-count c))
+
+accepted-task : (c : tie.After-search) → acceptedTask (held (searched-task c)) ≡ true
+accepted-task c = to-start (to-count c) .pre .accepted
+
+count-of : (c : tie.After-search) → to-count c .count .result ≡ stateCount (held (searched-task c) .variables)
+count-of c = states-of (to-count c) (c .before .before .before .before .before .before .before .before .before .before .before .before .if1 .left)
+
+few-states : (c : tie.After-search) → stateCount (held (searched-task c) .variables) ≤ 4096
+few-states c = omega (arith, count-of c, c .before .before .before .before .before .before .before .before .before .before .before .before .if1 .left)
+
+start-in : (c : tie.After-search) → c .search .result < to-count c .count .result
+start-in c = omega (arith, count-of c, c .search .ensures .start, start-below (held (searched-task c)) (held-valid (searched-task c) (accepted-task c)))
+
+entry-at-requires : tie.Need-entry-at-requires
+entry-at-requires c κs =
+    let k = c .before .before .before .before .before in
+    omega (arith, start-in k, count-of k, few-states k, to-start (to-count k) .pre .entries-room, k .search .kept .0)
+
+fill-cheap-requires : tie.Need-fill-cheap-requires
+fill-cheap-requires c κs =
+    let k = c .before .before .before .before .before .before .before in
+    let d = searched-task k in
+    let room = to-start (to-count k) .pre .rows-room in
+    let same = k .search .kept .1 .0 in
+    record {
+      facts = record { few = held-facts d (accepted-task k) (few-states k) _ (omega (arith, room, same)); actions-few = held-actions-few d (accepted-task k) };
+      room = omega (arith, room, same);
+    }
 
 done-requires : tie.Need-done-requires
 done-requires c κs = search needs
@@ -116,24 +148,25 @@ same-length-3 c = search needs
 
 returns-3 : tie.Need-returns-3
 returns-3 c =
-    let k = c .before .before .before .before .before .before .before .before .before .before .before .before .before .before .before .before .before .before .before .before .before .before in
-    let l = c .before .before .before .before .before .before .before .before .before .before .before .before .before .before .before .before .before .before .before .before .before .if1 .left in
-    let s = to-start k in
-    let d = task-of s in
+    let k = c .before .before .before .before .before .before .before .before .before .before .before in
+    let filled = c .before .before .before .fill-cheap in
+    let s = to-start (to-count k) in
+    let d = searched-task k in
     let t = held d in
-    let states = states-of k l in
-    let few : stateCount (t .variables) ≤ 4096 = omega (arith, l) in
-    let fit = states-fit t (s .args .room) few (omega (arith, c .before .before .before .before .before .before .before .before .before .before .before .before .before .before .before .before .before .before .before .before .if2 .left)) in
-    let searched = c .before .before .before .before .before .before .before .before .before .search in
-    let tables : StepTables (d .variables) (d .actions) (d .sizes) (d .costs) (d .conditions) (d .effects) (c .before .before .before .fill2 .last .0) (c .before .before .before .before .before .before .before .before .before .before .before .before .before .before .before .before .fill .last .0) =
+    let few = few-states k in
+    let fit = states-fit t (s .args .room) few (omega (arith, count-of k, k .before .before .before .before .before .before .before .before .before .before .before .if2 .left)) in
+    let tables : StepTables (d .variables) (d .actions) (d .sizes) (d .costs) (d .conditions) (d .effects) (filled .last .0) (k .before .before .before .before .before .before .before .fill .last .0) =
     record {
       asked = searchable d (s .pre .accepted) few;
-      few = held-facts d (s .pre .accepted) few _ (omega (arith, s .pre .rows-room, searched .kept .1 .0, c .before .before .before .fill2 .kept .0));
-      rows-are = c .before .before .before .fill2 .ensures;
-      moves-are = c .before .before .before .before .before .before .before .before .before .before .before .before .before .before .before .before .fill .ensures (d .sizes) (c .before .before .before .before .before .before .before .before .before .before .before .before .before .before .before .before .before .before .before .weights .ensures);
+      few = held-facts d (s .pre .accepted) few _ (omega (arith, s .pre .rows-room, k .search .kept .1 .0, filled .kept .0));
+      room = omega (arith, s .pre .rows-room, k .search .kept .1 .0, filled .kept .0);
+      rows-are = filled .ensures .by-fact;
+      moves-are = k .before .before .before .before .before .before .before .fill .ensures (d .sizes) (k .before .before .before .before .before .before .before .before .before .before .weights .ensures);
     }
     in
-    searched-done d _ _ _ (s .pre .accepted) few fit _ (c .done .ensures) _ _ states (searched .ensures .start) _ (searched .ensures .table) _ _ tables
+    let most = ap minutesOf (c .before .before .before .before .before .entry-at .ensures ∙ sym (entries-at _ _ _ (start-in k))) in
+    searched-done d _ _ _ (s .pre .accepted) few fit _ (c .done .ensures) _ _ (count-of k) (k .search .ensures .start) _ (k .search .ensures .table) _ _ tables
+    (subst (λ (n : ℕ). CheapRow (d .actions) (d .costs) n (filled .last .0)) most (filled .ensures .cheap))
 
 pub search-arrays-spec : {M : Type 1} → statement M
 search-arrays-spec =
@@ -149,7 +182,8 @@ search-arrays-spec =
     weights-requires
     fill-requires
     search-requires
-    fill-requires-2
+    entry-at-requires
+    fill-cheap-requires
     done-requires
     same-length
     same-length-2

@@ -2,8 +2,9 @@
 use Prim.Native.Nat.{_-_, _≤_}
 use mathlib.Core.Path.{_≡_}
 use native.Mathlib.Omega.{arith}
-use Rattle.search.specs.Rows.{rowWeight}
-use Rattle.search.proofs.StateLoops.{product-most, weight-first, weight-next, count-over, count-end}
+use Rattle.lookup.specs.Moves.{rowWeight}
+use Rattle.lookup.proofs.MoveLoops.{product-most}
+use Rattle.search.proofs.StateLoops.{weight-first, weight-next, count-over, count-end}
 use denote.Ref.{now}
 use borrow.Author.Needs.{needs}
 use Rattle.search.proofs.states.count.Statement.{statement}

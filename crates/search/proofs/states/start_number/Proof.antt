@@ -5,7 +5,8 @@ use native.Mathlib.Omega.{arith}
 use native.Mathlib.Nat.{mul-comm}
 use Rattle.plans.specs.Tally.{listState}
 use Rattle.search.proofs.RowNumbers.{numberFrom}
-use Rattle.search.proofs.StateLoops.{product-most, number-begin, number-next, number-few, number-end}
+use Rattle.lookup.proofs.MoveLoops.{product-most}
+use Rattle.search.proofs.StateLoops.{number-begin, number-next, number-few, number-end}
 use denote.Ref.{now}
 use borrow.Author.Needs.{needs}
 use Rattle.search.proofs.states.start_number.Statement.{statement}

@@ -4,9 +4,10 @@ use mathlib.Core.Path.{_≡_, refl, _∙_}
 use native.Mathlib.Omega.{arith}
 use lib.ListN.{length, length-set, getD}
 use Rattle.files.proofs.Filling.{filled-before}
-use Rattle.search.specs.Rows.{rowWeight}
+use Rattle.lookup.specs.Moves.{rowWeight}
 use Rattle.search.proofs.RowNumbers.{weight-most}
-use Rattle.search.proofs.StateLoops.{product-most, weight-first, weight-next}
+use Rattle.lookup.proofs.MoveLoops.{product-most}
+use Rattle.search.proofs.StateLoops.{weight-first, weight-next}
 use denote.Ref.{now}
 use borrow.Author.Needs.{needs}
 use Rattle.search.proofs.states.weights.Statement.{statement}

@@ -6,7 +6,7 @@ use denote.Ref.{now}
 use lib.ListN.{getD}
 use Rattle.search.specs.Offers.{differsFrom}
 use Rattle.search.proofs.Blocks.{blocks-same}
-use Rattle.search.proofs.StateLoops.{product-most}
+use Rattle.lookup.proofs.MoveLoops.{product-most}
 use Rattle.search.proofs.OfferLoops.{Turns, turns-begin, turns-next, turns-end, offered-alike, none-left, value-below, value-zero, weight-few, all-values, all-values-last}
 use Prim.Native.Nat.{ℕ, _+_, _-_, _*_, _<_}
 use borrow.Fn.Kinds.{In}

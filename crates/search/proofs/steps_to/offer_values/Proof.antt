@@ -5,7 +5,7 @@ use native.Mathlib.Omega.{arith}
 use denote.Ref.{now}
 use lib.Dec.{eqb}
 use Rattle.search.proofs.Blocks.{blocks-same}
-use Rattle.search.proofs.StateLoops.{product-most}
+use Rattle.lookup.proofs.MoveLoops.{product-most}
 use Rattle.search.proofs.OfferLoops.{Turns, turns-begin, turns-next, turns-end}
 use Rattle.search.proofs.steps_to.offer_values.Statement.{statement}
 use Rattle.search.proofs.steps_to.offer_values.Tie as tie

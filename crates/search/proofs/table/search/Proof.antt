@@ -8,7 +8,7 @@ use lib.ListN.{length, length-replicate, length-set, getD-replicate}
 use Rattle.files.specs.Dense.{Arrays, arrays}
 use Rattle.search.specs.Rows.{rowStates, Searchable}
 use Rattle.search.specs.Settling.{Known}
-use Rattle.search.specs.FactRows.{mostFacts, FewFacts}
+use Rattle.lookup.specs.FactRows.{mostFacts, FewFacts}
 use Rattle.search.specs.Offers.{Numbered, SearchTables}
 use Rattle.search.proofs.HeldStates.{held-states, held-start, held-sizes, held-starts, held-few, held-goal, held-facts, searchable}
 use Rattle.search.proofs.Searching.{openCount, Searching, begin, falls, low, next, end}

@@ -157,7 +157,7 @@ module _ {M : Type 1} (𝓤 : URA M) (H : Heap 𝓤) (A : Atoms 𝓤) (W : Given
       owned ! u64 (Is u64) (uint-makes 𝓤 H A W w64) 0 (vint w64 0 ∷ []) (refl, lit< tt) $ use1 W (‵ (A64 .own (zeros w64 mostNumbers) (zeros-val w64 mostNumbers ∷ []))) (array-repeat 𝓤 H A W u64 (uint-copy 𝓤 H A W w64) mostNumbers 0 (vint w64 0)) $ peeks ! A64 (Is A64) (shows 𝓤 H A A64) (zeros w64 mostNumbers) (zeros-val w64 mostNumbers ∷ []) (λ is7. assigns ! (rep ! mostNumbers (lit ! tt)) (from ! (stop !)) (init ! 78 refl (array-typed u64 (uint-lawful 𝓤 H A W w64 .typed) mostNumbers (zeros w64 mostNumbers) (zeros-val w64 mostNumbers ∷ []) is7 .0)) $
       owned ! u8 (Is u8) (uint-makes 𝓤 H A W w8) 0 (vint w8 0 ∷ []) (refl, lit< tt) $ use1 W (‵ (Sizes .own (zeros w8 64) (zeros-val w8 64 ∷ []))) (array-repeat 𝓤 H A W u8 (uint-copy 𝓤 H A W w8) 64 0 (vint w8 0)) $ peeks ! Sizes (Is Sizes) (shows 𝓤 H A Sizes) (zeros w8 64) (zeros-val w8 64 ∷ []) (λ is8. assigns ! (rep ! 64 (lit ! tt)) (from ! (stop !)) (init ! 77 refl (array-typed u8 (uint-lawful 𝓤 H A W w8 .typed) 64 (zeros w8 64) (zeros-val w8 64 ∷ []) is8 .0)) $
       owned ! u32 (Is u32) (uint-makes 𝓤 H A W w32) 0 (vint w32 0 ∷ []) (refl, lit< tt) $ use1 W (‵ (Costs .own (zeros w32 512) (zeros-val w32 512 ∷ []))) (array-repeat 𝓤 H A W u32 (uint-copy 𝓤 H A W w32) 512 0 (vint w32 0)) $ peeks ! Costs (Is Costs) (shows 𝓤 H A Costs) (zeros w32 512) (zeros-val w32 512 ∷ []) (λ is9. assigns ! (rep ! 512 (lit ! tt)) (from ! (stop !)) (init ! 76 refl (array-typed u32 (uint-lawful 𝓤 H A W w32 .typed) 512 (zeros w32 512) (zeros-val w32 512 ∷ []) is9 .0)) $
-      owned ! u64 (Is u64) (uint-makes 𝓤 H A W w64) 0 (vint w64 0 ∷ []) (refl, lit< tt) $ use1 W (‵ (Rows .own (zeros w64 1184) (zeros-val w64 1184 ∷ []))) (array-repeat 𝓤 H A W u64 (uint-copy 𝓤 H A W w64) 1184 0 (vint w64 0)) $ peeks ! Rows (Is Rows) (shows 𝓤 H A Rows) (zeros w64 1184) (zeros-val w64 1184 ∷ []) (λ is10. assigns ! (rep ! 1184 (lit ! tt)) (from ! (stop !)) (init ! 75 refl (array-typed u64 (uint-lawful 𝓤 H A W w64 .typed) 1184 (zeros w64 1184) (zeros-val w64 1184 ∷ []) is10 .0)) $
+      owned ! u64 (Is u64) (uint-makes 𝓤 H A W w64) 0 (vint w64 0 ∷ []) (refl, lit< tt) $ use1 W (‵ (Rows .own (zeros w64 1192) (zeros-val w64 1192 ∷ []))) (array-repeat 𝓤 H A W u64 (uint-copy 𝓤 H A W w64) 1192 0 (vint w64 0)) $ peeks ! Rows (Is Rows) (shows 𝓤 H A Rows) (zeros w64 1192) (zeros-val w64 1192 ∷ []) (λ is10. assigns ! (rep ! 1192 (lit ! tt)) (from ! (stop !)) (init ! 75 refl (array-typed u64 (uint-lawful 𝓤 H A W w64 .typed) 1192 (zeros w64 1192) (zeros-val w64 1192 ∷ []) is10 .0)) $
       owned ! u64 (Is u64) (uint-makes 𝓤 H A W w64) 0 (vint w64 0 ∷ []) (refl, lit< tt) $ use1 W (‵ (Moves .own (zeros w64 1536) (zeros-val w64 1536 ∷ []))) (array-repeat 𝓤 H A W u64 (uint-copy 𝓤 H A W w64) 1536 0 (vint w64 0)) $ peeks ! Moves (Is Moves) (shows 𝓤 H A Moves) (zeros w64 1536) (zeros-val w64 1536 ∷ []) (λ is11. assigns ! (rep ! 1536 (lit ! tt)) (from ! (stop !)) (init ! 74 refl (array-typed u64 (uint-lawful 𝓤 H A W w64 .typed) 1536 (zeros w64 1536) (zeros-val w64 1536 ∷ []) is11 .0)) $
       assigns ! (of-opd ! (load ! (from ! (fld ! refl (stop !))) (look-in ! 86 (sub ! 1 refl (whole !))))) (from ! (stop !)) (init ! 66 refl (tt, record { fits = gt .0 })) $
       assigns ! (addr ! (from ! (stop !))) (from ! (stop !)) (init ! 64 refl (tt, tt)) $ assigns ! (agg ! (and-then ! (load ! (from ! (stop !)) (look ! 64 refl)) (and-then ! (big-lit ! (record { fits = lit< tt })) (no-more !)))) (from ! (stop !)) (init ! 62 refl (tt, (tt, (record { fits = lit< tt }, tt)))) $
@@ -166,7 +166,7 @@ module _ {M : Type 1} (𝓤 : URA M) (H : Heap 𝓤) (A : Atoms 𝓤) (W : Given
       move ! (82 ∷ 4 ∷ []) $ lend-array-mut ! tt u64 tt (named 2) mostNumbers (zeros w64 mostNumbers) (zeros-val w64 mostNumbers) l₇ room64 (λ ν₇ δ₇ full.
       move ! (82 ∷ 6 ∷ []) $ lend-mut ! tt Sizes tt (named 3) (zeros w8 64) (zeros-val w8 64) l₈ (λ ν₈ δ₈.
       move ! (82 ∷ 8 ∷ []) $ lend-mut ! tt Costs tt (named 4) (zeros w32 512) (zeros-val w32 512) l₉ (λ ν₉ δ₉.
-      move ! (82 ∷ 10 ∷ []) $ lend-mut ! tt Rows tt (named 5) (zeros w64 1184) (zeros-val w64 1184) l₁₀ (λ ν₁₀ δ₁₀.
+      move ! (82 ∷ 10 ∷ []) $ lend-mut ! tt Rows tt (named 5) (zeros w64 1192) (zeros-val w64 1192) l₁₀ (λ ν₁₀ δ₁₀.
       move ! (82 ∷ 12 ∷ []) $ lend-mut ! tt Moves tt (named 6) (zeros w64 1536) (zeros-val w64 1536) l₁₁ (λ ν₁₁ δ₁₁.
       move ! (20 ∷ 19 ∷ 12 ∷ 9 ∷ 6 ∷ 3 ∷ 0 ∷ 23 ∷ 15 ∷ 13 ∷ 10 ∷ 7 ∷ 4 ∷ 1 ∷ []) $ cut (Filing 𝓤 H A at-mem run κ₀ κ₁ q₀ q₁ first br or γr xr bo oo γo xo ys (ν₇, ν₈, ν₉, ν₁₀, ν₁₁) (δ₇, δ₈, δ₉, δ₁₀, δ₁₁) (l₇, l₈, l₉, l₁₀, l₁₁)) (raw (Files 𝓤 H A at-mem run .pre (to-files 𝓤 H A at-mem run κ₀ κ₁ q₀ q₁ first br or γr xr bo oo γo xo ys (ν₇, ν₈, ν₉, ν₁₀, ν₁₁) (δ₇, δ₈, δ₉, δ₁₀, δ₁₁) (l₇, l₈, l₉, l₁₀, l₁₁))) ∷ []) _ (goes-files 𝓤 H A at-mem run κ₀ κ₁ q₀ q₁ first br or γr xr bo oo γo xo ys W first-is gt can (ν₇, ν₈, ν₉, ν₁₀, ν₁₁) (δ₇, δ₈, δ₉, δ₁₀, δ₁₁) (l₇, l₈, l₉, l₁₀, l₁₁) full) $
       calls-at ! fm (Files 𝓤 H A at-mem run) k-files (to-files 𝓤 H A at-mem run κ₀ κ₁ q₀ q₁ first br or γr xr bo oo γo xo ys (ν₇, ν₈, ν₉, ν₁₀, ν₁₁) (δ₇, δ₈, δ₉, δ₁₀, δ₁₁) (l₇, l₈, l₉, l₁₀, l₁₁)) (and-then ! (load ! (from ! (stop !)) (look ! 86 refl)) (and-then ! (load ! (from ! (stop !)) (look ! 82 refl)) (and-then ! (load ! (from ! (stop !)) (look ! 80 refl)) (and-then ! (load ! (from ! (stop !)) (look ! 63 refl)) (and-then ! (load ! (from ! (stop !)) (look ! 59 refl)) (and-then ! (load ! (from ! (stop !)) (look ! 57 refl)) (and-then ! (load ! (from ! (stop !)) (look ! 55 refl)) (and-then ! (load ! (from ! (stop !)) (look ! 53 refl)) (and-then ! (load ! (from ! (stop !)) (look ! 51 refl)) (no-more !)))))))))) (λ w.
@@ -180,7 +180,7 @@ module _ {M : Type 1} (𝓤 : URA M) (H : Heap 𝓤) (A : Atoms 𝓤) (W : Given
       move ! (4 ∷ 16 ∷ 11 ∷ []) $ array-mut-home ! tt u64 (uint-vals w64) (uint-tells w64) mostNumbers (entries-of zs) l₇ (λ u₇ held.
       move ! (5 ∷ 15 ∷ 11 ∷ []) $ mut-home ! tt Sizes tt (array-val w8 64) (array-tells u8 (uint-vals w8) (uint-tells w8) 64) (sizes-of zs) l₈ (λ _.
       move ! (6 ∷ 14 ∷ 11 ∷ []) $ mut-home ! tt Costs tt (array-val w32 512) (array-tells u32 (uint-vals w32) (uint-tells w32) 512) (costs-of zs) l₉ (λ _.
-      move ! (7 ∷ 13 ∷ 11 ∷ []) $ mut-home ! tt Rows tt (array-val w64 1184) (array-tells u64 (uint-vals w64) (uint-tells w64) 1184) (rows-of zs) l₁₀ (λ _.
+      move ! (7 ∷ 13 ∷ 11 ∷ []) $ mut-home ! tt Rows tt (array-val w64 1192) (array-tells u64 (uint-vals w64) (uint-tells w64) 1192) (rows-of zs) l₁₀ (λ _.
       move ! (8 ∷ 12 ∷ 11 ∷ []) $ mut-home ! tt Moves tt (array-val w64 1536) (array-tells u64 (uint-vals w64) (uint-tells w64) 1536) (moves-of zs) l₁₁ (λ _.
       -- the table is filled ys
       assigns ! (addr ! (from ! (fld ! refl (hop ! (look-in ! 84 (sub ! 0 refl (whole !))) (stop !))))) (from ! (stop !)) (init ! 53 refl (tt, tt)) $ assigns ! (agg ! (and-then ! (load ! (from ! (stop !)) (look ! 53 refl)) (and-then ! (load ! (from ! (fld ! refl (stop !))) (look-in ! 84 (sub ! 1 refl (whole !)))) (no-more !)))) (from ! (stop !)) (init ! 51 refl (tt, (tt, (record { fits = gt .0 }, tt)))) $
@@ -223,7 +223,7 @@ module _ {M : Type 1} (𝓤 : URA M) (H : Heap 𝓤) (A : Atoms 𝓤) (W : Given
       move ! (2 ∷ 3 ∷ []) $ share-on ! tt R (named 2) (named 0) (filled ys searched zs) (length ys) bt ot (subst (λ (table : List Entry). length table ≡ length ys) is len-table) gt (λ μ₄ ε₄. move ! (3 ∷ 4 ∷ []) $ lend-on ! tt u8 (named 3) (named 1) (ps .0) (length xp) bp op len₁ gp (λ ν₄ δ₄.
       move ! (13 ∷ 14 ∷ []) $ lend-shr ! tt Sizes tt (named 3) (sizes-of zs) (array-val w8 64 (sizes-of zs)) l₈ (λ μ₈ ε₈.
       move ! (14 ∷ 15 ∷ []) $ lend-shr ! tt Costs tt (named 4) (costs-of zs) (array-val w32 512 (costs-of zs)) l₉ (λ μ₉ ε₉.
-      move ! (15 ∷ 16 ∷ []) $ lend-shr ! tt Rows tt (named 5) (rows-of zs) (array-val w64 1184 (rows-of zs)) l₁₀ (λ μ₁₀ ε₁₀.
+      move ! (15 ∷ 16 ∷ []) $ lend-shr ! tt Rows tt (named 5) (rows-of zs) (array-val w64 1192 (rows-of zs)) l₁₀ (λ μ₁₀ ε₁₀.
       move ! (16 ∷ 17 ∷ []) $ lend-shr ! tt Moves tt (named 6) (moves-of zs) (array-val w64 1536 (moves-of zs)) l₁₁ (λ μ₁₁ ε₁₁.
       move ! (15 ∷ 12 ∷ 19 ∷ 9 ∷ 6 ∷ 3 ∷ 0 ∷ 16 ∷ 13 ∷ 21 ∷ 10 ∷ 7 ∷ 4 ∷ 1 ∷ []) $ cut (Writing 𝓤 H A at-mem run κ₁ q₁ bo oo γo xo bt ot ys bp op xp searched zs (ps .0) μ₄ ν₄ (μ₈, μ₉, μ₁₀, μ₁₁) ε₄ δ₄ (ε₈, ε₉, ε₁₀, ε₁₁) (l₈, l₉, l₁₀, l₁₁)) (raw (Write 𝓤 H A at-mem run .pre (to-write 𝓤 H A at-mem run κ₁ q₁ bo oo γo xo bt ot ys bp op xp searched zs begun (ps .0) μ₄ ν₄ (μ₈, μ₉, μ₁₀, μ₁₁) ε₄ δ₄ (ε₈, ε₉, ε₁₀, ε₁₁) (l₈, l₉, l₁₀, l₁₁))) ∷ []) _
       (goes-write 𝓤 H A at-mem run κ₁ q₁ bo oo γo xo bt ot ys bp op xp W searched zs begun (ps .0) μ₄ ν₄ (μ₈, μ₉, μ₁₀, μ₁₁) ε₄ δ₄ (ε₈, ε₉, ε₁₀, ε₁₁) (l₈, l₉, l₁₀, l₁₁) (can-steps first xr xo ys searched (entries-of zs) (sizes-of zs) (costs-of zs) (rows-of zs) (moves-of zs) held filed can xp (ps .0) begun begins len₁) (steps-are begun (w₃ ∷ []) k₃) (searched-is searched (w ∷ []) k)) $
@@ -236,7 +236,7 @@ module _ {M : Type 1} (𝓤 : URA M) (H : Heap 𝓤) (A : Atoms 𝓤) (W : Given
       move ! (6 ∷ 13 ∷ []) $ unshare ! tt R (named 2) (filled ys searched zs) (length ys) bt ot (subst (λ (table : List Entry). length table ≡ length ys) is len-table) gt $ move ! (7 ∷ 13 ∷ 8 ∷ []) $ get-back ! tt u8 (named 3) (ps .0) (vs .1 .0) (length xp) bp op len₁ len₂ gp $
       move ! (7 ∷ 12 ∷ []) $ shr-home ! tt Sizes tt (array-val w8 64) (array-tells u8 (uint-vals w8) (uint-tells w8) 64) (sizes-of zs) l₈ $ move ! (1 ∷ []) $ drop ! $
       move ! (7 ∷ 11 ∷ []) $ shr-home ! tt Costs tt (array-val w32 512) (array-tells u32 (uint-vals w32) (uint-tells w32) 512) (costs-of zs) l₉ $ move ! (1 ∷ []) $ drop ! $
-      move ! (7 ∷ 10 ∷ []) $ shr-home ! tt Rows tt (array-val w64 1184) (array-tells u64 (uint-vals w64) (uint-tells w64) 1184) (rows-of zs) l₁₀ $ move ! (1 ∷ []) $ drop ! $
+      move ! (7 ∷ 10 ∷ []) $ shr-home ! tt Rows tt (array-val w64 1192) (array-tells u64 (uint-vals w64) (uint-tells w64) 1192) (rows-of zs) l₁₀ $ move ! (1 ∷ []) $ drop ! $
       move ! (7 ∷ 9 ∷ []) $ shr-home ! tt Moves tt (array-val w64 1536) (array-tells u64 (uint-vals w64) (uint-tells w64) 1536) (moves-of zs) l₁₁ $ move ! (1 ∷ []) $ drop ! $
       -- and it is ended
       assigns ! (addr ! (from ! (fld ! refl (hop ! (look-in ! 76 (sub ! 0 refl (whole !))) (stop !))))) (from ! (stop !)) (init ! 13 refl (tt, tt)) $ assigns ! (agg ! (and-then ! (load ! (from ! (stop !)) (look ! 13 refl)) (and-then ! (load ! (from ! (fld ! refl (stop !))) (look-in ! 76 (sub ! 1 refl (whole !)))) (no-more !)))) (from ! (stop !)) (init ! 11 refl (tt, (tt, (record { fits = gp .0 }, tt)))) $

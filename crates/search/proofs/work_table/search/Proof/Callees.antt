@@ -163,7 +163,7 @@ module _ {M : Type 1} (𝓤 : URA M) (H : Heap 𝓤) (A : Atoms 𝓤) (at-mem : 
   lfts-files νs = (κ₀, (κ₁, (νs .0 ∷ [], (νs .1 ∷ [], (νs .2 ∷ [], (νs .3 ∷ [], (νs .4 ∷ [], tt)))))))
 
   abbrev pub files-args : Five GName → Five ℕ → Reduced × (RefT (List ℕ) × (RefT (List ℕ) × (ℕ × (RefT (List ℕ) × (RefT (List ℕ) × (RefT (List ℕ) × (RefT (List ℕ) × (RefT (List ℕ) × Unit {0}))))))))
-  files-args δs ls = (first, (ref br or γr xr, (ref bo oo γo xo, (length ys, (ref (ls .0) 0 (δs .0) (zeros w64 mostNumbers), (ref (ls .1) 0 (δs .1) (zeros w8 64), (ref (ls .2) 0 (δs .2) (zeros w32 512), (ref (ls .3) 0 (δs .3) (zeros w64 1184), (ref (ls .4) 0 (δs .4) (zeros w64 1536), tt)))))))))
+  files-args δs ls = (first, (ref br or γr xr, (ref bo oo γo xo, (length ys, (ref (ls .0) 0 (δs .0) (zeros w64 mostNumbers), (ref (ls .1) 0 (δs .1) (zeros w8 64), (ref (ls .2) 0 (δs .2) (zeros w32 512), (ref (ls .3) 0 (δs .3) (zeros w64 1192), (ref (ls .4) 0 (δs .4) (zeros w64 1536), tt)))))))))
 
   abbrev pub to-files : Five ℕ → Five GName → Five ℕ → Files 𝓤 H A at-mem run .Ghost
   to-files νs δs ls = ((lfts-files νs, (q₀, (q₁, (fullShare, (fullShare, (fullShare, (fullShare, (fullShare, tt))))))), tt, files-args δs ls, (D′.lowered first ∷ [], (sliceVal (br, or) (length xr) ∷ [], (sliceVal (bo, oo) (length xo) ∷ [], (vint w64 (length ys) ∷ [], (sliceVal (ls .0, 0) mostNumbers ∷ [], (vptr (ls .1) 0 ∷ [], (vptr (ls .2) 0 ∷ [], (vptr (ls .3) 0 ∷ [], (vptr (ls .4) 0 ∷ [], tt)))))))))), tt)
@@ -175,7 +175,7 @@ module _ {M : Type 1} (𝓤 : URA M) (H : Heap 𝓤) (A : Atoms 𝓤) (at-mem : 
   Filing νs δs ls = ‵ (flft κ₀ q₀) ∷ ‵ (flft κ₁ q₁) ∷ ‵ (flft (νs .0 ∷ []) fullShare) ∷ ‵ (flft (νs .1 ∷ []) fullShare) ∷ ‵ (flft (νs .2 ∷ []) fullShare) ∷ ‵ (flft (νs .3 ∷ []) fullShare) ∷ ‵ (flft (νs .4 ∷ []) fullShare)
       ∷ ‵ (ShrSlice (named 0) κ₀ u8 .own (ref br or γr xr) (sliceVal (br, or) (length xr) ∷ [])) ∷ ‵ (ShrSlice (named 1) κ₁ u8 .own (ref bo oo γo xo) (sliceVal (bo, oo) (length xo) ∷ [])) ∷ ‵ (MutSlice (named 2) (νs .0 ∷ []) u64 .own (ref (ls .0) 0 (δs .0) (zeros w64 mostNumbers)) (sliceVal (ls .0, 0) mostNumbers ∷ []))
       ∷ ‵ (MutRef (named 3) (νs .1 ∷ []) Sizes .own (ref (ls .1) 0 (δs .1) (zeros w8 64)) (vptr (ls .1) 0 ∷ [])) ∷ ‵ (MutRef (named 4) (νs .2 ∷ []) Costs .own (ref (ls .2) 0 (δs .2) (zeros w32 512)) (vptr (ls .2) 0 ∷ []))
-      ∷ ‵ (MutRef (named 5) (νs .3 ∷ []) Rows .own (ref (ls .3) 0 (δs .3) (zeros w64 1184)) (vptr (ls .3) 0 ∷ [])) ∷ ‵ (MutRef (named 6) (νs .4 ∷ []) Moves .own (ref (ls .4) 0 (δs .4) (zeros w64 1536)) (vptr (ls .4) 0 ∷ [])) ∷ []
+      ∷ ‵ (MutRef (named 5) (νs .3 ∷ []) Rows .own (ref (ls .3) 0 (δs .3) (zeros w64 1192)) (vptr (ls .3) 0 ∷ [])) ∷ ‵ (MutRef (named 6) (νs .4 ∷ []) Moves .own (ref (ls .4) 0 (δs .4) (zeros w64 1536)) (vptr (ls .4) 0 ∷ [])) ∷ []
 
   module _ (W : Given 𝓤 H A) (first-is : Is D first (D′.lowered first ∷ [])) (gt : Room R (length ys)) (can : CanSearchFiles first xr xo) where
     pub goes-files : (νs : Five ℕ) (δs : Five GName) (ls : Five ℕ) → length (zeros w64 mostNumbers) ≡ mostNumbers → ent 𝓤 (⋆ 𝓤 H A (Filing νs δs ls)) (Files 𝓤 H A at-mem run .pre (to-files νs δs ls))

@@ -1,0 +1,66 @@
+-- The loop's invariant: the actions from `left` on are in the word.
+use Prim.Native.Nat.{_+_}
+use native.Mathlib.Omega.{arith}
+use Rattle.lookup.specs.FactRows.{costsWithin}
+use Rattle.lookup.proofs.FactRowLoops.{cost-bit}
+use Rattle.bits.proofs.WordLoops.{Marking, mark-begin, mark-fits, mark-most, mark-next, mark-below}
+use borrow.Author.Needs.{needs}
+use Rattle.lookup.proofs.fact_rows.cheap_word.Statement.{statement}
+use Rattle.lookup.proofs.fact_rows.cheap_word.Tie as tie
+
+abbrev Inv-loop : tie.InvT-loop
+Inv-loop costs first count most word₀ left₀ word left = Marking count (λ k. costsWithin costs most (first + k)) left word
+
+abbrev μ-loop : tie.MeasureT-loop
+μ-loop costs first count most word₀ left₀ word left = left
+
+loop-holds : tie.Need-loop-holds Inv-loop μ-loop
+loop-holds c = mark-begin _ _
+
+sub-left : tie.Need-sub-left Inv-loop μ-loop
+sub-left c = search needs
+
+mul-word : tie.Need-mul-word Inv-loop μ-loop
+mul-word c = omega (arith, mark-fits _ _ _ _ (c .before .loop .inv) (c .loop-test .taken) (c .before .before .pre .most))
+
+add-within : tie.Need-add-within Inv-loop μ-loop
+add-within c = search needs
+
+mul-within : tie.Need-mul-within Inv-loop μ-loop
+mul-within c = search needs
+
+element-copy-out-within : tie.Need-element-copy-out-within Inv-loop μ-loop
+element-copy-out-within c = search needs
+
+within-requires : tie.Need-within-requires Inv-loop μ-loop
+within-requires c κs = search needs
+
+add-word : tie.Need-add-word Inv-loop μ-loop
+add-word c = omega (arith, mark-most _ _ _ _ (c .before .before .before .loop .inv) (c .before .before .loop-test .taken) _ (cost-bit _ _ _ _ (c .within .ensures)) (c .before .before .before .before .pre .most))
+
+loop-less : tie.Need-loop-less Inv-loop μ-loop
+loop-less c = search needs
+
+loop-again : tie.Need-loop-again Inv-loop μ-loop
+loop-again c = mark-next _ _ _ _ (c .before .before .before .loop .inv) (c .before .before .loop-test .taken) _ (cost-bit _ _ _ _ (c .within .ensures))
+
+returns : tie.Need-returns Inv-loop μ-loop
+returns c = mark-below _ _ _ _ (c .before .loop .inv) (c .loop-test .left)
+
+pub cheap-word-spec : {M : Type 1} → statement M
+cheap-word-spec =
+    tie.close
+    (tie.spec
+    Inv-loop
+    μ-loop
+    loop-holds
+    sub-left
+    mul-word
+    add-within
+    mul-within
+    element-copy-out-within
+    within-requires
+    add-word
+    loop-less
+    loop-again
+    returns)
