@@ -1,12 +1,12 @@
 -- Rows of actions by fact: for each fact of a task the actions after whose step it can hold; behind them the actions that are cheap enough.
 use Prim.Native.Nat.{ℕ, _+_, _*_, _≤_, _<_}
 use mathlib.Core.Path.{_≡_}
-use mathlib.Core.Bool.{Bool, _&&_}
+use mathlib.Core.Bool.{Bool, cond, _&&_}
 use mathlib.Core.List.{List}
-use lib.Bits.{bitAnd}
-use lib.Dec.{leb}
+use lib.Dec.{eqb, leb}
 use lib.ListN.{length, getD}
 use Rattle.files.specs.Below.{allBelow, sumOf}
+use Rattle.plans.specs.Tally.{meetsCell}
 use Rattle.bits.specs.Sets.{inWord, inWords}
 
 -- the most facts of a task that is searched

@@ -6,11 +6,11 @@ ghost use lib.ListN.{length};
 ghost use Rattle.search.specs.ReadOff.{Begun, CanKnow, HereOf, freedBy, goesBy, CanGo, CanStepFrom, StepFrom, CanCompare, HasBy, LooksOn, CanPut, StepPut};
 use crate::Entry;
 use crate::entries;
-use lookup::fact_rows;
-use bits::sets;
 use crate::stages::Searched;
 use crate::states;
+use bits::sets;
 use files::bytes;
+use lookup::fact_rows;
 use plans::Minutes;
 use plans::ReducedAction;
 

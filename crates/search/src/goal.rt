@@ -6,9 +6,9 @@ ghost use lib.Dec.{eqb};
 ghost use Rattle.files.specs.Below.{bit};
 ghost use Rattle.lookup.specs.Moves.{weighted, WeightsOf};
 ghost use Rattle.search.specs.Offers.{goalValues, GoalFree, SmallWeights};
-use lookup::moves;
 use files::bytes;
 use files::limits;
+use lookup::moves;
 
 const NO_PAIR: usize = limits::NO_PAIR as usize;
 

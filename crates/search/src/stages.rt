@@ -8,11 +8,11 @@ ghost use Rattle.search.specs.Found.{unsearched, notFound, bothTogether,
 use crate::Entry;
 use crate::Planned;
 use crate::entries;
-use lookup::fact_rows;
-use lookup::moves;
 use crate::states;
 use crate::table;
 use files::outcomes;
+use lookup::fact_rows;
+use lookup::moves;
 use plans::Minutes;
 use plans::Steps;
 

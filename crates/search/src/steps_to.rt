@@ -4,11 +4,11 @@ ghost use Rattle.search.specs.Settling.{Offers};
 ghost use Rattle.search.specs.Offers.{differsFrom, isOneOf, OfferFrom, OfferValues, CanSettle, StepsOffered};
 use crate::Entry;
 use crate::entries;
-use lookup::fact_rows;
 use crate::selection;
-use bits::sets;
 use crate::states;
+use bits::sets;
 use files::bytes;
+use lookup::fact_rows;
 use plans::Minutes;
 
 // Offers the entry to `size` states, from `number` on, each `weight` further.

@@ -3,11 +3,11 @@ ghost use Rattle.files.specs.Dense.{held, arrays};
 ghost use Rattle.search.specs.Entries.{Holds};
 ghost use Rattle.search.specs.Offers.{Cleared, CanBegin, Begun, CanSearch, TableIn};
 use crate::entries;
-use lookup::fact_rows;
 use crate::goal;
 use crate::selection;
 use crate::states;
 use crate::steps_to;
+use lookup::fact_rows;
 
 // Puts the entry of none everywhere.
 fn clear(entries: &mut [u64], count: usize)

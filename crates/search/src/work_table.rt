@@ -9,13 +9,13 @@ ghost use Rattle.search.specs.Planner.{searchBuffers};
 ghost use Rattle.search.specs.Found.{CanSearchFiles, SearchesFiles};
 use crate::Entry;
 use crate::entries;
-use lookup::fact_rows;
 use crate::first_plan;
 use crate::first_plan::Step;
-use lookup::moves;
 use crate::stages;
 use crate::stages::Found;
 use crate::stages::Searched;
+use lookup::fact_rows;
+use lookup::moves;
 use plans::Steps;
 
 // The entry of a state; that of none past the end of the table.

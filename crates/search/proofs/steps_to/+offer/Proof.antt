@@ -16,7 +16,7 @@ use Rattle.search.proofs.steps_to.offer.Kinds as offer-kinds
 use Rattle.search.proofs.steps_to.+offer.Lts-offer as offer-lts
 use Rattle.files.proofs.bytes.byte_at.Reads as byte-at-reads
 use Rattle.search.proofs.selection.lower.Reads as lower-reads
-use Rattle.search.proofs.sets.first_in.Reads as first-in-reads
+use Rattle.bits.proofs.sets.first_in.Reads as first-in-reads
 use Rattle.search.proofs.steps_to.offer_values.Reads as offer-values-reads
 use Rattle.search.proofs.steps_to.+offer.{statement}
 use Rattle.search.proofs.steps_to.+offer.Tie.{close}
