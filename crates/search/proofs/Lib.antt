@@ -25,6 +25,7 @@ pub mod SettleLoops
 pub mod HeldStates
 pub mod Picking
 pub mod Blocks
+pub mod BoundLaws
 pub mod FactRowLaws
 pub mod FactBound
 pub mod Searching

@@ -135,8 +135,11 @@ module _ (d : Arrays) (count : ℕ) where
     inside = omega (arith, r .few, r .size)
 
     -- one state fewer is open
-    pub falls : suc (openCount (set settled u 1)) ≡ openCount settled
+    falls : suc (openCount (set settled u 1)) ≡ openCount settled
     falls = open-set settled u inside (r .picked .unsettled h)
+
+    pub fewer : (settled′ : List ℕ) → settled′ ≡ set settled u 1 → suc (openCount settled′) ≡ openCount settled
+    fewer settled′ is = ap (λ (l : List ℕ). suc (openCount l)) is ∙ falls
 
     within : Within (openCount settled) (entryIn entries u)
     within = small-low (openCount settled) (entryIn entries u) (r .small u h) (r .picked .has-entry h)
@@ -175,8 +178,8 @@ module _ (d : Arrays) (count : ℕ) where
           (λ a k. sym (held-actions d a (omega (arith, actions-held d))))
           ∙ rw (actions-held d, held-variables d) refl
 
-      pub next : Holds entries′ count → (v : ℕ) → Picked entries′ (set settled u 1) count 0 count v → Searching d count entries′ (set settled u 1) v
-      next room v p =
+      settled-next : Holds entries′ count → (v : ℕ) → Picked entries′ (set settled u 1) count 0 count v → Searching d count entries′ (set settled u 1) v
+      settled-next room v p =
           let t = held d in
           let relaxed = offered-relaxed t (entryIn entries) (entryIn entries′) u (λ a k. affordable a) by-task in
           record {
@@ -202,6 +205,10 @@ module _ (d : Arrays) (count : ℕ) where
                 (o .came);
             picked = p;
           }
+
+      pub next : Holds entries′ count → (v : ℕ) (settled′ : List ℕ) → settled′ ≡ set settled u 1 → Picked entries′ settled′ count 0 count v → Searching d count entries′ settled′ v
+      next room v settled′ is p =
+          subst (λ (l : List ℕ). Searching d count entries′ l v) (sym is) (settled-next room v (subst (λ (l : List ℕ). Picked entries′ l count 0 count v) is p))
 
   -- the end
   module _ (entries settled′ : List ℕ) (u : ℕ) (r : Searching d count entries settled′ u) (h : count ≤ u) where

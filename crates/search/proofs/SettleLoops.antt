@@ -14,18 +14,20 @@ use Rattle.search.specs.States.{stateAt}
 use Rattle.search.specs.Entries.{isNone, lowered, afterStep, Low, StepOn, entryIn}
 use Rattle.search.specs.Rows.{leadsTo, offered, rowVariables, rowState, canReach, differsOnly}
 use Rattle.search.specs.Settling.{Known, Offers}
+use Rattle.search.specs.Bounds.{NoneAbove}
 use Rattle.bits.specs.Sets.{inWords, FirstFrom}
 use Rattle.lookup.specs.FactRows.{InAllRows}
-use Rattle.search.specs.Offers.{differsFrom, SearchTables, CanSettle, StepsOffered}
+use Rattle.search.specs.Offers.{differsFrom, freeOf, numberBefore, SearchTables, CanSettle, StepsOffered}
 use Rattle.search.specs.declared.Entry.{Entry}
 use Rattle.search.proofs.OneChange.{state-inside}
 use Rattle.search.proofs.EntryLaws.{Near, near-some, near-after}
 use Rattle.search.proofs.FactRowLaws.{words-reach}
 use Rattle.search.proofs.Predecessors.{leads-is}
 use Rattle.search.proofs.OfferActions.{leads-free}
+use Rattle.search.proofs.BoundLaws.{above-offered}
 use Rattle.search.proofs.Offering.{offered-skip}
 
-module _ (variables actions count x : ℕ) (sizes costs rows moves settled entries₀ least₀ words : List ℕ) where
+module _ (variables actions count x : ℕ) (bound : Entry) (sizes costs rows moves settled entries₀ least₀ words : List ℕ) where
   abbrev Tables : List ℕ → List ℕ → Type 0
   Tables conditions effects = SearchTables variables actions sizes costs conditions effects rows moves
 
@@ -48,8 +50,9 @@ module _ (variables actions count x : ℕ) (sizes costs rows moves settled entri
     pub same-least : length least ≡ length least₀
     pub offers : Before entries a
     pub known : Known entries settled count least
+    pub above : NoneAbove count entries bound
 
-  module _ (weights : List ℕ) (pre : CanSettle variables actions count x sizes weights costs rows moves entries₀ settled least₀) where
+  module _ (weights : List ℕ) (pre : CanSettle variables actions count x bound sizes weights costs rows moves entries₀ settled least₀) where
     -- the words are those of the rows of its values
     module _ (values : List ℕ) (values-are : (starts : List ℕ) → listState values ≡ stateAt (rowVariables variables sizes starts) x) where
       own : listState values ≡ rowState variables sizes x
@@ -92,6 +95,7 @@ module _ (variables actions count x : ℕ) (sizes costs rows moves settled entri
             same-least = refl;
             offers = passed entries₀ 0 a (λ starts conditions effects t s l. refl) f;
             known = pre .known;
+            above = pre .above;
           }
 
     module _ (entries least : List ℕ) (a : ℕ) (c : Actions entries least a) where
@@ -119,7 +123,7 @@ module _ (variables actions count x : ℕ) (sizes costs rows moves settled entri
               near-some new (subst Near (sym (stepped b refl)) (near-after b e cost-few (subst Low (sym is) (pre .low))))
 
           pub actions-next : (entries′ least′ : List ℕ) (next : ℕ) → length entries′ ≡ length entries → length least′ ≡ length least
-              → Offers (differsFrom sizes variables (getD moves (3 * a + 2) 0) 0 (x - getD moves (3 * a) 0 + getD moves (3 * a + 1) 0)) count new settled entries entries′ least′
+              → Offers (differsFrom sizes variables (freeOf moves a) 0 (numberBefore moves a x)) count new settled entries entries′ least′
               → FirstFrom (inWords words 0) actions (a + 1) next → Actions entries′ least′ next
           unfolding offered
           actions-next entries′ least′ next same same-least o f =
@@ -140,9 +144,10 @@ module _ (variables actions count x : ℕ) (sizes costs rows moves settled entri
                     ∙ ap (offeredBy starts conditions effects s) (sym (add-one a)))
                     f;
                 known = o .known;
+                above = above-offered (differsFrom sizes variables (freeOf moves a) 0 (numberBefore moves a x)) count new entries bound (c .above) entries′ (o .offered);
               }
 
-      pub actions-end : actions ≤ a → StepsOffered variables actions count x sizes costs rows moves settled entries₀ entries least
+      pub actions-end : actions ≤ a → StepsOffered variables actions count x bound sizes costs rows moves settled entries₀ entries least
       actions-end h =
           let is : a ≡ actions = omega (arith, c .within) in
-          record { offers = λ starts conditions effects t s l. c .offers starts conditions effects t s l ∙ ap (offeredBy starts conditions effects s) is; known = c .known }
+          record { offers = λ starts conditions effects t s l. c .offers starts conditions effects t s l ∙ ap (offeredBy starts conditions effects s) is; known = c .known; above = c .above }

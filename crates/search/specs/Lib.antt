@@ -5,6 +5,7 @@ pub mod FirstPlan
 pub mod Least
 pub mod Entries
 pub mod Settling
+pub mod Bounds
 pub mod Rows
 pub mod Offers
 pub mod ReadOff

@@ -1,10 +1,10 @@
 -- The steps to a settled state: which states are offered its entry with a step more, and what each part of the search asks and gives.
-use Prim.Native.Nat.{ℕ, _+_, _*_, _≤_, _<_}
+use Prim.Native.Nat.{ℕ, _+_, _-_, _*_, _≤_, _<_}
 use mathlib.Core.Path.{_≡_}
 use mathlib.Core.Bool.{Bool, true, false, cond, _&&_}
 use mathlib.Core.List.{List}
 use lib.Dec.{eqb, leb}
-use lib.ListN.{length, getD}
+use lib.ListN.{length, getD, set}
 use Rattle.files.specs.Below.{anyBelow, allBelow}
 use Rattle.files.specs.Accepted.{acceptedTask}
 use Rattle.files.specs.Dense.{Arrays, rowPairs, rowAction, held}
@@ -15,7 +15,8 @@ use Rattle.search.specs.Table.{tableOf}
 use Rattle.search.specs.FirstPlan.{startNumber}
 use Rattle.search.specs.Entries.{noEntry, isNone, firstEntry, Low, Holds, entryIn, entriesIn}
 use Rattle.search.specs.Rows.{offered, rowVariables, rowStates, rowState, Searchable}
-use Rattle.search.specs.Settling.{Known, Blocks}
+use Rattle.search.specs.Settling.{Picked, Known, Blocks}
+use Rattle.search.specs.Bounds.{NoneAbove}
 use Rattle.bits.specs.Sets.{inWord}
 use Rattle.lookup.specs.FactRows.{mostFacts, FewFacts, RowsByFact}
 use Rattle.lookup.specs.Moves.{mostMoves, WeightsOf, MovesOf}
@@ -65,8 +66,23 @@ pub record SearchTables (variables actions : ℕ) (sizes costs conditions effect
   pub rows-are : RowsByFact variables actions sizes conditions effects rows
   pub moves-are : MovesOf variables actions sizes conditions effects moves
 
--- a state that can be settled, with tables of some arrays
-pub record CanSettle (variables actions count x : ℕ) (sizes weights costs rows moves entries settled least : List ℕ) : Type 0 where
+-- by the moves: the variables that action a sets without a condition, and the number of the state before x in which they are 0
+abbrev pub freeOf : List ℕ → ℕ → ℕ
+freeOf moves a = getD moves (3 * a + 2) 0
+
+abbrev pub numberBefore : List ℕ → ℕ → ℕ → ℕ
+numberBefore moves a x = x - getD moves (3 * a) 0 + getD moves (3 * a + 1) 0
+
+-- an offer to the states from which action a leads to state x, and an entry that none is above
+pub record ActionOffer (variables count : ℕ) (sizes weights moves : List ℕ) (x a : ℕ) (e bound : Entry) (entries settled least : List ℕ) : Type 0 where
+  pub few : a < 512
+  pub moves-long : mostMoves ≤ length moves
+  pub taken : getD moves (3 * a) 0 ≤ x
+  pub offer : OfferFrom variables count sizes weights (freeOf moves a) 0 (numberBefore moves a x) e entries settled least
+  pub above : NoneAbove count entries bound
+
+-- a state that can be settled, with tables of some arrays, and an entry that none is above
+pub record CanSettle (variables actions count x : ℕ) (bound : Entry) (sizes weights costs rows moves entries settled least : List ℕ) : Type 0 where
   pub conditions : List ℕ
   pub effects : List ℕ
   pub tables : SearchTables variables actions sizes costs conditions effects rows moves
@@ -77,12 +93,20 @@ pub record CanSettle (variables actions count x : ℕ) (sizes weights costs rows
   pub known : Known entries settled count least
   pub below : x < count
   pub low : Low (entryIn entries x)
+  pub above : NoneAbove count entries bound
 
 -- the entries after all steps to state x were offered, whichever arrays the tables are of
-pub record StepsOffered (variables actions count x : ℕ) (sizes costs rows moves settled entries₀ entries least : List ℕ) : Type 0 where
+pub record StepsOffered (variables actions count x : ℕ) (bound : Entry) (sizes costs rows moves settled entries₀ entries least : List ℕ) : Type 0 where
   pub offers : (starts conditions effects : List ℕ) → SearchTables variables actions sizes costs conditions effects rows moves → (s : ℕ) → s < count
       → entryIn entries s ≡ offered (rowVariables variables sizes starts) (rowAction variables costs conditions effects) x (entryIn entries₀ x) s (entryIn entries₀ s) actions
   pub known : Known entries settled count least
+  pub above : NoneAbove count entries bound
+
+-- state x is settled and all steps to it were offered, and the state that is settled next
+pub record Rounded (variables actions count x : ℕ) (bound : Entry) (sizes costs rows moves settled₀ entries₀ settled entries least : List ℕ) (next : ℕ) : Type 0 where
+  pub settled-is : settled ≡ set settled₀ x 1
+  pub steps : StepsOffered variables actions count x bound sizes costs rows moves settled entries₀ entries least
+  pub picked : Picked entries settled count 0 count next
 
 -- entries of which none is known yet
 abbrev pub Cleared : (count : ℕ) (entries : List ℕ) → Type 0

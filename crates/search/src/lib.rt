@@ -1,5 +1,6 @@
 // Search over the states of the reduced task, and the planner.
 // The call open to callers is plan; the module own_table serves the programs.
+mod bounds;
 mod entries;
 mod first_plan;
 mod goal;

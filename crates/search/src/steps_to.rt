@@ -1,7 +1,7 @@
 // The steps to a settled state: each state from which an action leads to it is offered its entry
 // with a step more.
 ghost use Rattle.search.specs.Settling.{Offers};
-ghost use Rattle.search.specs.Offers.{differsFrom, isOneOf, OfferFrom, OfferValues, CanSettle, StepsOffered};
+ghost use Rattle.search.specs.Offers.{differsFrom, isOneOf, freeOf, numberBefore, OfferFrom, OfferValues, ActionOffer, CanSettle, StepsOffered};
 use crate::Entry;
 use crate::entries;
 use crate::selection;
@@ -83,30 +83,26 @@ pub fn offer(
     }
 }
 
-// Offers the entry of state x with a step more to every state from which an action leads to it.
-pub fn settle(
+// Offers the entry to every state from which action `a` leads to state x; where no entry is above it,
+// there is nothing to do.
+fn offer_action(
     entries: &mut [u64],
     settled: &[u8],
     least: &mut [usize],
     count: usize,
     sizes: &[u8; 64],
     weights: &[usize; 64],
-    costs: &[u32; 512],
-    rows: &[u64],
     moves: &[u64],
     variables: usize,
-    actions: usize,
     x: usize,
+    a: usize,
+    entry: Entry,
+    bound: Entry,
 )
-    requires { ⌜ CanSettle variables actions count x (now sizes) (now weights) (now costs) (now rows) (now moves) (now entries) (now settled) (now least) ⌝ }
-    ensures { λ r. ⌜ StepsOffered variables actions count x (now (sizes .entry)) (now (costs .entry)) (now (rows .entry)) (now (moves .entry)) (now (settled .entry)) (now (entries .entry)) (now (entries .exit)) (now (least .exit)) ⌝ }
+    requires { ⌜ ActionOffer variables count (now sizes) (now weights) (now moves) x a entry bound (now entries) (now settled) (now least) ⌝ }
+    ensures { λ r. ⌜ Offers (differsFrom (now (sizes .entry)) variables (freeOf (now (moves .entry)) a) 0 (numberBefore (now (moves .entry)) a x)) count entry (now (settled .entry)) (now (entries .entry)) (now (entries .exit)) (now (least .exit)) ⌝ }
 {
-    let own = entries::entry_at(entries, x);
-    let values = states::values_of(sizes, variables, x);
-    let leading = fact_rows::in_all(rows, sizes, variables, &values);
-    let mut a = sets::next_in(&leading, 0, 0, actions);
-    while a < actions {
-        let entry = entries::after_step(own, Minutes(costs[a] as u64));
+    if entries::less(entry, bound) {
         let free = moves[3 * a + 2];
         let at = x - moves[3 * a] as usize + moves[3 * a + 1] as usize;
         offer(
@@ -121,6 +117,49 @@ pub fn settle(
             0,
             at,
             entry,
+        );
+    }
+}
+
+// Offers the entry of state x with a step more to every state from which an action leads to it. No
+// entry is above the bound.
+pub fn settle(
+    entries: &mut [u64],
+    settled: &[u8],
+    least: &mut [usize],
+    count: usize,
+    sizes: &[u8; 64],
+    weights: &[usize; 64],
+    costs: &[u32; 512],
+    rows: &[u64],
+    moves: &[u64],
+    variables: usize,
+    actions: usize,
+    x: usize,
+    bound: Entry,
+)
+    requires { ⌜ CanSettle variables actions count x bound (now sizes) (now weights) (now costs) (now rows) (now moves) (now entries) (now settled) (now least) ⌝ }
+    ensures { λ r. ⌜ StepsOffered variables actions count x bound (now (sizes .entry)) (now (costs .entry)) (now (rows .entry)) (now (moves .entry)) (now (settled .entry)) (now (entries .entry)) (now (entries .exit)) (now (least .exit)) ⌝ }
+{
+    let own = entries::entry_at(entries, x);
+    let values = states::values_of(sizes, variables, x);
+    let leading = fact_rows::in_all(rows, sizes, variables, &values);
+    let mut a = sets::next_in(&leading, 0, 0, actions);
+    while a < actions {
+        let entry = entries::after_step(own, Minutes(costs[a] as u64));
+        offer_action(
+            entries,
+            settled,
+            least,
+            count,
+            sizes,
+            weights,
+            moves,
+            variables,
+            x,
+            a,
+            entry,
+            bound,
         );
         a = sets::next_in(&leading, 0, a + 1, actions);
     }

@@ -1,7 +1,9 @@
 // The table of the task that arrays hold: backwards from the goal, the least entry settled first.
 ghost use Rattle.files.specs.Dense.{held, arrays};
 ghost use Rattle.search.specs.Entries.{Holds};
-ghost use Rattle.search.specs.Offers.{Cleared, CanBegin, Begun, CanSearch, TableIn};
+ghost use Rattle.search.specs.Offers.{Cleared, CanBegin, Begun, CanSettle, Rounded, CanSearch, TableIn};
+use crate::Entry;
+use crate::bounds;
 use crate::entries;
 use crate::goal;
 use crate::selection;
@@ -54,6 +56,46 @@ fn begin(
     );
 }
 
+// Settles a state, offers the steps to it, and gives the state that is to be settled next. No entry is
+// above the bound.
+fn round(
+    entries: &mut [u64],
+    settled: &mut [u8],
+    least: &mut [usize],
+    count: usize,
+    sizes: &[u8; 64],
+    weights: &[usize; 64],
+    costs: &[u32; 512],
+    rows: &[u64],
+    moves: &[u64],
+    variables: usize,
+    actions: usize,
+    state: usize,
+    bound: Entry,
+) -> usize
+    requires { ⌜ CanSettle variables actions count state bound (now sizes) (now weights) (now costs) (now rows) (now moves) (now entries) (now settled) (now least) ⌝ }
+    ensures { λ r. ⌜ Rounded variables actions count state bound (now (sizes .entry)) (now (costs .entry)) (now (rows .entry)) (now (moves .entry)) (now (settled .entry)) (now (entries .entry)) (now (settled .exit)) (now (entries .exit)) (now (least .exit)) r ⌝ }
+{
+    settled[state] = 1;
+    selection::refresh(entries, settled, least, count, state / 64);
+    steps_to::settle(
+        entries,
+        settled,
+        least,
+        count,
+        sizes,
+        weights,
+        costs,
+        rows,
+        moves,
+        variables,
+        actions,
+        state,
+        bound,
+    );
+    selection::select(entries, settled, least, count)
+}
+
 // Fills the entries with the table of the task that arrays hold, and gives the number of its
 // start state. Weights and moves are those of the task; the rows are filled here.
 pub fn search(
@@ -87,13 +129,13 @@ pub fn search(
         goal,
         variables,
     );
+    let mut bound = bounds::greatest(entries, count);
     let mut s = selection::select(entries, &settled, &least, count);
     while s < count {
-        settled[s] = 1;
-        selection::refresh(entries, &settled, &mut least, count, s / 64);
-        steps_to::settle(
+        bound = bounds::before(entries, count, bound, s);
+        s = round(
             entries,
-            &settled,
+            &mut settled,
             &mut least,
             count,
             sizes,
@@ -104,8 +146,8 @@ pub fn search(
             variables,
             actions,
             s,
+            bound,
         );
-        s = selection::select(entries, &settled, &least, count);
     }
     states::start_number(sizes, starts, variables)
 }

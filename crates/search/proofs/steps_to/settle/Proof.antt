@@ -11,11 +11,11 @@ use Rattle.search.proofs.steps_to.settle.Statement.{statement}
 use Rattle.search.proofs.steps_to.settle.Tie as tie
 
 abbrev Inv-loop : tie.InvT-loop
-Inv-loop entries₀ settled least₀ count sizes weights costs rows moves variables actions x own leading a₀ entries least a =
-    Actions variables actions count x sizes costs rows moves settled entries₀ least₀ leading entries least a
+Inv-loop entries₀ settled least₀ count sizes weights costs rows moves variables actions x bound own leading a₀ entries least a =
+    Actions variables actions count x bound sizes costs rows moves settled entries₀ least₀ leading entries least a
 
 abbrev μ-loop : tie.MeasureT-loop
-μ-loop entries₀ settled least₀ count sizes weights costs rows moves variables actions x own leading a₀ entries least a = actions - a
+μ-loop entries₀ settled least₀ count sizes weights costs rows moves variables actions x bound own leading a₀ entries least a = actions - a
 
 entry-at-requires : tie.Need-entry-at-requires Inv-loop μ-loop
 entry-at-requires c κs = let pre = c .before .before .before .before .before .before .pre in omega (arith, pre .blocks .room, pre .below)
@@ -24,7 +24,7 @@ values-of-requires : tie.Need-values-of-requires Inv-loop μ-loop
 values-of-requires c κs = let pre = c .before .before .before .before .before .before .before .pre in record { few = pre .numbered .variables-few; least = pre .numbered .size-least }
 
 in-all-requires : tie.Need-in-all-requires Inv-loop μ-loop
-in-all-requires c κs = let start = c .before .before .before .before .before .before .before .before .before in record { few = start .pre .facts; inside = values-inside _ _ _ _ _ _ (now (start .args .rows)) _ _ _ _ [] _ (start .pre) _ (c .before .values-of .ensures) }
+in-all-requires c κs = let start = c .before .before .before .before .before .before .before .before .before in record { few = start .pre .facts; inside = values-inside _ _ _ _ _ _ _ (now (start .args .rows)) _ _ _ _ [] _ (start .pre) _ (c .before .values-of .ensures) }
 
 slice-aggregate-next-in : tie.Need-slice-aggregate-next-in Inv-loop μ-loop
 slice-aggregate-next-in c = sym (c .before .in-all .ensures .eight)
@@ -35,104 +35,60 @@ next-in-requires c κs = let pre = c .before .before .before .before .before .be
 loop-holds : tie.Need-loop-holds Inv-loop μ-loop
 loop-holds c =
     let start = c .before .before .before .before .before .before .before .before .before .before .before .before in
-    actions-begin _ _ _ _ _ _ _ _ _ _ _ _ _ (start .pre) (leads _ _ _ _ _ _ _ _ _ _ _ _ _ (start .pre) _ (c .before .before .before .before .values-of .ensures) (c .before .before .in-all .ensures .all)) _ (c .next-in .ensures)
+    actions-begin _ _ _ _ _ _ _ _ _ _ _ _ _ _ (start .pre) (leads _ _ _ _ _ _ _ _ _ _ _ _ _ _ (start .pre) _ (c .before .before .before .before .values-of .ensures) (c .before .before .in-all .ensures .all)) _ (c .next-in .ensures)
 
-mul-free : tie.Need-mul-free Inv-loop μ-loop
-mul-free c = let few = action-few _ _ _ _ _ _ _ _ _ _ _ _ _ (c .before .before .before .before .before .before .before .before .before .before .before .before .before .before .pre) _ _ _ (c .before .loop .inv) (c .loop-test .taken) in omega (arith, few)
+mul-t27 : tie.Need-mul-t27 Inv-loop μ-loop
+mul-t27 c = let few = action-few _ _ _ _ _ _ _ _ _ _ _ _ _ _ (c .before .before .before .before .before .before .before .before .before .before .before .before .before .before .pre) _ _ _ (c .before .loop .inv) (c .loop-test .taken) in omega (arith, few)
 
-element-copy-out-free : tie.Need-element-copy-out-free Inv-loop μ-loop
-element-copy-out-free c = let few = action-few _ _ _ _ _ _ _ _ _ _ _ _ _ (c .before .before .before .before .before .before .before .before .before .before .before .before .before .before .pre) _ _ _ (c .before .loop .inv) (c .loop-test .taken) in omega (arith, few)
+element-copy-out-t30 : tie.Need-element-copy-out-t30 Inv-loop μ-loop
+element-copy-out-t30 c = let few = action-few _ _ _ _ _ _ _ _ _ _ _ _ _ _ (c .before .before .before .before .before .before .before .before .before .before .before .before .before .before .pre) _ _ _ (c .before .loop .inv) (c .loop-test .taken) in omega (arith, few)
 
-cast-free : tie.Need-cast-free Inv-loop μ-loop
-cast-free c = omega (arith, cost-few _ _ _ _ _ _ _ _ _ _ _ _ _ (c .before .before .before .before .before .before .before .before .before .before .before .before .before .before .before .pre) _ _ _ (c .before .before .loop .inv) (c .before .loop-test .taken))
+cast-t31 : tie.Need-cast-t31 Inv-loop μ-loop
+cast-t31 c = omega (arith, cost-few _ _ _ _ _ _ _ _ _ _ _ _ _ _ (c .before .before .before .before .before .before .before .before .before .before .before .before .before .before .before .pre) _ _ _ (c .before .before .loop .inv) (c .before .loop-test .taken))
 
 after-step-requires : tie.Need-after-step-requires Inv-loop μ-loop
-after-step-requires c κs = step-on _ _ _ _ _ _ _ _ _ _ _ _ _ (c .before .before .before .before .before .before .before .before .before .before .before .before .before .before .before .pre) _ _ _ (c .before .before .loop .inv) (c .before .loop-test .taken) _ _ (c .before .before .before .before .before .before .before .before .entry-at .ensures) refl
+after-step-requires c κs = step-on _ _ _ _ _ _ _ _ _ _ _ _ _ _ (c .before .before .before .before .before .before .before .before .before .before .before .before .before .before .before .pre) _ _ _ (c .before .before .loop .inv) (c .before .loop-test .taken) _ _ (c .before .before .before .before .before .before .before .before .entry-at .ensures) refl
 
-mul-free-2 : tie.Need-mul-free-2 Inv-loop μ-loop
-mul-free-2 c = let few = action-few _ _ _ _ _ _ _ _ _ _ _ _ _ (c .before .before .before .before .before .before .before .before .before .before .before .before .before .before .before .before .pre) _ _ _ (c .before .before .before .loop .inv) (c .before .before .loop-test .taken) in omega (arith, few)
-
-add-free : tie.Need-add-free Inv-loop μ-loop
-add-free c = let few = action-few _ _ _ _ _ _ _ _ _ _ _ _ _ (c .before .before .before .before .before .before .before .before .before .before .before .before .before .before .before .before .pre) _ _ _ (c .before .before .before .loop .inv) (c .before .before .loop-test .taken) in omega (arith, few)
-
-mul-free-3 : tie.Need-mul-free-3 Inv-loop μ-loop
-mul-free-3 c = let few = action-few _ _ _ _ _ _ _ _ _ _ _ _ _ (c .before .before .before .before .before .before .before .before .before .before .before .before .before .before .before .before .pre) _ _ _ (c .before .before .before .loop .inv) (c .before .before .loop-test .taken) in omega (arith, few)
-
-shared-slice-read-free : tie.Need-shared-slice-read-free Inv-loop μ-loop
-shared-slice-read-free c = let few = action-few _ _ _ _ _ _ _ _ _ _ _ _ _ (c .before .before .before .before .before .before .before .before .before .before .before .before .before .before .before .before .before .pre) _ _ _ (c .before .before .before .before .loop .inv) (c .before .before .before .loop-test .taken) in omega (arith, few, c .before .before .before .before .before .before .before .before .before .before .before .before .before .before .before .before .before .pre .moves-long)
-
-mul-at : tie.Need-mul-at Inv-loop μ-loop
-mul-at c = let few = action-few _ _ _ _ _ _ _ _ _ _ _ _ _ (c .before .before .before .before .before .before .before .before .before .before .before .before .before .before .before .before .before .pre) _ _ _ (c .before .before .before .before .loop .inv) (c .before .before .before .loop-test .taken) in omega (arith, few)
-
-mul-at-2 : tie.Need-mul-at-2 Inv-loop μ-loop
-mul-at-2 c = let few = action-few _ _ _ _ _ _ _ _ _ _ _ _ _ (c .before .before .before .before .before .before .before .before .before .before .before .before .before .before .before .before .before .pre) _ _ _ (c .before .before .before .before .loop .inv) (c .before .before .before .loop-test .taken) in omega (arith, few)
-
-shared-slice-read-at : tie.Need-shared-slice-read-at Inv-loop μ-loop
-shared-slice-read-at c = let few = action-few _ _ _ _ _ _ _ _ _ _ _ _ _ (c .before .before .before .before .before .before .before .before .before .before .before .before .before .before .before .before .before .before .pre) _ _ _ (c .before .before .before .before .before .loop .inv) (c .before .before .before .before .loop-test .taken) in omega (arith, few, c .before .before .before .before .before .before .before .before .before .before .before .before .before .before .before .before .before .before .pre .moves-long)
-
-sub-at : tie.Need-sub-at Inv-loop μ-loop
-sub-at c =
+offer-action-requires : tie.Need-offer-action-requires Inv-loop μ-loop
+offer-action-requires c κs =
     let start = c .before .before .before .before .before .before .before .before .before .before .before .before .before .before .before .before .before .before in
     let pre = start .pre in
     let l = c .before .before .before .before .before .loop in
     let h = c .before .before .before .before .loop-test .taken in
-    let there = reaches _ _ _ _ _ _ _ _ _ _ _ _ _ pre _ _ _ (l .inv) h (pre .conditions) (pre .effects) (pre .tables) in
-    taken-most _ _ _ _ _ _ _ _ _ _ (pre .numbered) (pre .tables) _ (pre .below) _ h there
-
-mul-at-3 : tie.Need-mul-at-3 Inv-loop μ-loop
-mul-at-3 c = let few = action-few _ _ _ _ _ _ _ _ _ _ _ _ _ (c .before .before .before .before .before .before .before .before .before .before .before .before .before .before .before .before .before .before .pre) _ _ _ (c .before .before .before .before .before .loop .inv) (c .before .before .before .before .loop-test .taken) in omega (arith, few)
-
-add-at : tie.Need-add-at Inv-loop μ-loop
-add-at c = let few = action-few _ _ _ _ _ _ _ _ _ _ _ _ _ (c .before .before .before .before .before .before .before .before .before .before .before .before .before .before .before .before .before .before .pre) _ _ _ (c .before .before .before .before .before .loop .inv) (c .before .before .before .before .loop-test .taken) in omega (arith, few)
-
-mul-at-4 : tie.Need-mul-at-4 Inv-loop μ-loop
-mul-at-4 c = let few = action-few _ _ _ _ _ _ _ _ _ _ _ _ _ (c .before .before .before .before .before .before .before .before .before .before .before .before .before .before .before .before .before .before .pre) _ _ _ (c .before .before .before .before .before .loop .inv) (c .before .before .before .before .loop-test .taken) in omega (arith, few)
-
-shared-slice-read-at-2 : tie.Need-shared-slice-read-at-2 Inv-loop μ-loop
-shared-slice-read-at-2 c = let few = action-few _ _ _ _ _ _ _ _ _ _ _ _ _ (c .before .before .before .before .before .before .before .before .before .before .before .before .before .before .before .before .before .before .before .pre) _ _ _ (c .before .before .before .before .before .before .loop .inv) (c .before .before .before .before .before .loop-test .taken) in omega (arith, few, c .before .before .before .before .before .before .before .before .before .before .before .before .before .before .before .before .before .before .before .pre .moves-long)
-
-add-at-2 : tie.Need-add-at-2 Inv-loop μ-loop
-add-at-2 c =
-    let start = c .before .before .before .before .before .before .before .before .before .before .before .before .before .before .before .before .before .before .before in
-    let pre = start .pre in
-    let l = c .before .before .before .before .before .before .loop in
-    let h = c .before .before .before .before .before .loop-test .taken in
-    let there = reaches _ _ _ _ _ _ _ _ _ _ _ _ _ pre _ _ _ (l .inv) h (pre .conditions) (pre .effects) (pre .tables) in
-    omega (arith, number-below _ _ _ _ _ _ _ _ _ _ (pre .numbered) (pre .tables) _ (pre .below) _ h there, pre .numbered .few)
-
-offer-requires : tie.Need-offer-requires Inv-loop μ-loop
-offer-requires c κs =
-    let start = c .before .before .before .before .before .before .before .before .before .before .before .before .before .before .before .before .before .before .before .before .before in
-    let pre = start .pre in
-    let l = c .before .before .before .before .before .before .before .before .loop in
-    let h = c .before .before .before .before .before .before .before .loop-test .taken in
-    let there = reaches _ _ _ _ _ _ _ _ _ _ _ _ _ pre _ _ _ (l .inv) h (pre .conditions) (pre .effects) (pre .tables) in
+    let there = reaches _ _ _ _ _ _ _ _ _ _ _ _ _ _ pre _ _ _ (l .inv) h (pre .conditions) (pre .effects) (pre .tables) in
     record {
-      numbered = pre .numbered;
-      blocks = blocks-same (now (start .args .entries)) _ _ (now (start .args .least)) _ _ (pre .blocks) (l .inv .same) (l .inv .same-least);
-      known = l .inv .known;
-      near = step-near _ _ _ _ _ _ _ _ _ _ _ _ _ pre _ _ _ (l .inv) h _ _ (c .before .before .before .before .before .before .before .before .before .before .before .before .before .before .entry-at .ensures) (c .before .before .before .before .before .after-step .ensures);
-      start = omega arith;
-      below = number-below _ _ _ _ _ _ _ _ _ _ (pre .numbered) (pre .tables) _ (pre .below) _ h there;
-      zero = λ v k. free-zero _ _ _ _ _ _ _ _ _ _ (pre .numbered) (pre .tables) _ (pre .below) _ h there v;
+      few = action-few _ _ _ _ _ _ _ _ _ _ _ _ _ _ pre _ _ _ (l .inv) h;
+      moves-long = pre .moves-long;
+      taken = taken-most _ _ _ _ _ _ _ _ _ _ (pre .numbered) (pre .tables) _ (pre .below) _ h there;
+      offer =
+          record {
+            numbered = pre .numbered;
+            blocks = blocks-same (now (start .args .entries)) _ _ (now (start .args .least)) _ _ (pre .blocks) (l .inv .same) (l .inv .same-least);
+            known = l .inv .known;
+            near = step-near _ _ _ _ _ _ _ _ _ _ _ _ _ _ pre _ _ _ (l .inv) h _ _ (c .before .before .before .before .before .before .before .before .before .before .before .entry-at .ensures) (c .before .before .after-step .ensures);
+            start = omega arith;
+            below = number-below _ _ _ _ _ _ _ _ _ _ (pre .numbered) (pre .tables) _ (pre .below) _ h there;
+            zero = λ v k. free-zero _ _ _ _ _ _ _ _ _ _ (pre .numbered) (pre .tables) _ (pre .below) _ h there v;
+          };
+      above = l .inv .above;
     }
 
 slice-aggregate-next-in-2 : tie.Need-slice-aggregate-next-in-2 Inv-loop μ-loop
-slice-aggregate-next-in-2 c = sym (c .before .before .before .before .before .before .before .before .before .before .before .before .before .before .before .before .before .in-all .ensures .eight)
+slice-aggregate-next-in-2 c = sym (c .before .before .before .before .before .before .before .before .before .before .before .before .before .before .in-all .ensures .eight)
 
 add-next-in : tie.Need-add-next-in Inv-loop μ-loop
-add-next-in c = let few = action-few _ _ _ _ _ _ _ _ _ _ _ _ _ (c .before .before .before .before .before .before .before .before .before .before .before .before .before .before .before .before .before .before .before .before .before .before .before .before .before .before .before .pre) _ _ _ (c .before .before .before .before .before .before .before .before .before .before .before .before .before .before .loop .inv) (c .before .before .before .before .before .before .before .before .before .before .before .before .before .loop-test .taken) in omega (arith, few)
+add-next-in c = let few = action-few _ _ _ _ _ _ _ _ _ _ _ _ _ _ (c .before .before .before .before .before .before .before .before .before .before .before .before .before .before .before .before .before .before .before .before .before .before .before .before .pre) _ _ _ (c .before .before .before .before .before .before .before .before .before .before .before .loop .inv) (c .before .before .before .before .before .before .before .before .before .before .loop-test .taken) in omega (arith, few)
 
 next-in-requires-2 : tie.Need-next-in-requires-2 Inv-loop μ-loop
-next-in-requires-2 c κs = record { room = omega (arith, c .before .before .before .before .before .before .before .before .before .before .before .before .before .before .before .before .before .in-all .ensures .eight); few = c .before .before .before .before .before .before .before .before .before .before .before .before .before .before .before .before .before .before .before .before .before .before .before .before .before .before .before .pre .tables .asked .actions-few; start = omega (arith, c .before .before .before .before .before .before .before .before .before .before .before .before .before .loop-test .taken) }
+next-in-requires-2 c κs = record { room = omega (arith, c .before .before .before .before .before .before .before .before .before .before .before .before .before .before .in-all .ensures .eight); few = c .before .before .before .before .before .before .before .before .before .before .before .before .before .before .before .before .before .before .before .before .before .before .before .before .pre .tables .asked .actions-few; start = omega (arith, c .before .before .before .before .before .before .before .before .before .before .loop-test .taken) }
 
 loop-less : tie.Need-loop-less Inv-loop μ-loop
-loop-less c = omega (arith, c .next-in2 .ensures .first, c .before .before .before .before .before .before .before .before .before .before .before .before .before .before .loop-test .taken)
+loop-less c = omega (arith, c .next-in2 .ensures .first, c .before .before .before .before .before .before .before .before .before .before .before .loop-test .taken)
 
 loop-again : tie.Need-loop-again Inv-loop μ-loop
 loop-again c =
-    let offer = c .before .before .before .before .before .before .offer in
-    actions-next _ _ _ _ _ _ _ _ _ _ _ _ _ (c .before .before .before .before .before .before .before .before .before .before .before .before .before .before .before .before .before .before .before .before .before .before .before .before .before .before .before .before .pre) _ _ _ (c .before .before .before .before .before .before .before .before .before .before .before .before .before .before .before .loop .inv) (c .before .before .before .before .before .before .before .before .before .before .before .before .before .before .loop-test .taken) _ _ (c .before .before .before .before .before .before .before .before .before .before .before .before .before .before .before .before .before .before .before .before .before .entry-at .ensures) (c .before .before .before .before .before .before .before .before .before .before .before .before .after-step .ensures) _ _ _
+    let offer = c .before .before .before .before .before .before .offer-action in
+    actions-next _ _ _ _ _ _ _ _ _ _ _ _ _ _ (c .before .before .before .before .before .before .before .before .before .before .before .before .before .before .before .before .before .before .before .before .before .before .before .before .before .pre) _ _ _ (c .before .before .before .before .before .before .before .before .before .before .before .before .loop .inv) (c .before .before .before .before .before .before .before .before .before .before .before .loop-test .taken) _ _ (c .before .before .before .before .before .before .before .before .before .before .before .before .before .before .before .before .before .before .entry-at .ensures) (c .before .before .before .before .before .before .before .before .before .after-step .ensures) _ _ _
     (offer .kept .0) (offer .kept .1 .1 .0) (offer .ensures) (c .next-in2 .ensures)
 
 same-length : tie.Need-same-length Inv-loop μ-loop
@@ -142,7 +98,7 @@ same-length-2 : tie.Need-same-length-2 Inv-loop μ-loop
 same-length-2 c = c .before .loop .inv .same-least
 
 returns : tie.Need-returns Inv-loop μ-loop
-returns c = actions-end _ _ _ _ _ _ _ _ _ _ _ _ _ (c .before .before .before .before .before .before .before .before .before .before .before .before .before .before .pre) _ _ _ (c .before .loop .inv) (c .loop-test .left)
+returns c = actions-end _ _ _ _ _ _ _ _ _ _ _ _ _ _ (c .before .before .before .before .before .before .before .before .before .before .before .before .before .before .pre) _ _ _ (c .before .loop .inv) (c .loop-test .left)
 
 pub settle-spec : {M : Type 1} → statement M
 settle-spec =
@@ -156,24 +112,11 @@ settle-spec =
     slice-aggregate-next-in
     next-in-requires
     loop-holds
-    mul-free
-    element-copy-out-free
-    cast-free
+    mul-t27
+    element-copy-out-t30
+    cast-t31
     after-step-requires
-    mul-free-2
-    add-free
-    mul-free-3
-    shared-slice-read-free
-    mul-at
-    mul-at-2
-    shared-slice-read-at
-    sub-at
-    mul-at-3
-    add-at
-    mul-at-4
-    shared-slice-read-at-2
-    add-at-2
-    offer-requires
+    offer-action-requires
     slice-aggregate-next-in-2
     add-next-in
     next-in-requires-2

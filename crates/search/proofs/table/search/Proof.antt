@@ -4,27 +4,28 @@ use mathlib.Core.Path.{_≡_, refl, sym, _∙_}
 use mathlib.Core.List.{List}
 use native.Mathlib.Omega.{arith}
 use denote.Ref.{now}
-use lib.ListN.{length, length-replicate, length-set, getD-replicate}
+use lib.ListN.{length, length-replicate, getD-replicate}
 use Rattle.files.specs.Dense.{Arrays, arrays}
 use Rattle.search.specs.Rows.{rowStates, Searchable}
 use Rattle.search.specs.Settling.{Known}
+use Rattle.search.specs.Bounds.{NoneAbove}
 use Rattle.lookup.specs.FactRows.{mostFacts, FewFacts}
 use Rattle.search.specs.Offers.{Numbered, SearchTables}
 use Rattle.search.proofs.HeldStates.{held-states, held-start, held-sizes, held-starts, held-few, held-goal, held-facts, searchable}
-use Rattle.search.proofs.Searching.{openCount, Searching, begin, falls, low, next, end}
-use Rattle.search.proofs.Blocks.{begins, known-settled}
+use Rattle.search.proofs.Searching.{openCount, Searching, begin, fewer, low, next, end}
 use Rattle.search.proofs.table.search.Statement.{statement}
 use Rattle.search.proofs.table.search.Tie as tie
 
 abbrev Inv-loop : tie.InvT-loop
-Inv-loop entries₀ rows moves weights count variables actions sizes starts goal costs conditions effects settled₀ least₀ s₀ entries settled least s =
+Inv-loop entries₀ rows moves weights count variables actions sizes starts goal costs conditions effects settled₀ least₀ bound₀ s₀ entries settled least bound s =
     Searching (arrays variables actions sizes starts goal costs conditions effects) count entries settled s
     × (length entries ≡ length entries₀)
     × Known entries settled count least
     × (length least ≡ 64)
+    × NoneAbove count entries bound
 
 abbrev μ-loop : tie.MeasureT-loop
-μ-loop entries₀ rows moves weights count variables actions sizes starts goal costs conditions effects settled₀ least₀ s₀ entries settled least s = openCount settled
+μ-loop entries₀ rows moves weights count variables actions sizes starts goal costs conditions effects settled₀ least₀ bound₀ s₀ entries settled least bound s = openCount settled
 
 abbrev Started : Type 0
 Started = tie.Start Inv-loop μ-loop
@@ -88,16 +89,19 @@ begin-requires c κs =
       no-state = λ k h. getD-replicate 64 k (s .args .count) 0 (omega (arith, h, s .pre .few));
     }
 
+greatest-requires : tie.Need-greatest-requires Inv-loop μ-loop
+greatest-requires c κs = omega (arith, c .before .before .before .before .begin .kept .0, c .before .before .before .before .before .before .before .before .before .before .before .before .before .before .before .pre .room)
+
 slice-aggregate-select : tie.Need-slice-aggregate-select Inv-loop μ-loop
 slice-aggregate-select c = refl
 
 slice-aggregate-select-2 : tie.Need-slice-aggregate-select-2 Inv-loop μ-loop
-slice-aggregate-select-2 c = sym (c .before .before .before .before .before .before .begin .kept .1 .1 .0 ∙ length-replicate {A = ℕ} 64 (c .before .before .before .before .before .before .before .before .before .before .before .before .before .before .before .before .before .args .count))
+slice-aggregate-select-2 c = sym (c .before .before .before .before .before .before .before .before .begin .kept .1 .1 .0 ∙ length-replicate {A = ℕ} 64 (c .before .before .before .before .before .before .before .before .before .before .before .before .before .before .before .before .before .before .before .args .count))
 
 select-requires : tie.Need-select-requires Inv-loop μ-loop
 select-requires c κs =
-    let s = c .before .before .before .before .before .before .before .before .before .before .before .before .before .before .before .before .before in
-    let first = c .before .before .before .before .before .before .begin in
+    let s = c .before .before .before .before .before .before .before .before .before .before .before .before .before .before .before .before .before .before .before in
+    let first = c .before .before .before .before .before .before .before .before .begin in
     record {
       blocks =
           record {
@@ -111,46 +115,31 @@ select-requires c κs =
 
 loop-holds : tie.Need-loop-holds Inv-loop μ-loop
 loop-holds c =
-    let s = c .before .before .before .before .before .before .before .before .before .before .before .before .before .before .before .before .before .before in
-    let first = c .before .before .before .before .before .before .before .begin in (
+    let s = c .before .before .before .before .before .before .before .before .before .before .before .before .before .before .before .before .before .before .before .before in
+    let first = c .before .before .before .before .before .before .before .before .before .begin in (
       begin (task s) _ _ (s .pre .accepted) (s .pre .states) (s .pre .few) (first .ensures .first (now (s .args .starts))) (omega (arith, first .kept .0, s .pre .room)) _ (c .select .ensures),
       refl,
       first .ensures .known,
       first .kept .1 .1 .0 ∙ length-replicate {A = ℕ} 64 (s .args .count),
+      c .before .before .before .before .greatest .ensures,
     )
 
-array-write-settled : tie.Need-array-write-settled Inv-loop μ-loop
-array-write-settled c = omega (arith, c .loop-test .taken, c .before .loop .inv .0 .few)
+before-requires : tie.Need-before-requires Inv-loop μ-loop
+before-requires c κs = let l = c .before .before .loop in record { room = l .inv .0 .room; above = l .inv .4 }
 
-slice-aggregate-refresh : tie.Need-slice-aggregate-refresh Inv-loop μ-loop
-slice-aggregate-refresh c = let l = c .before .before .before .loop in sym (length-set (l .settled) (l .s) 1 ∙ l .inv .0 .size)
+slice-aggregate-round : tie.Need-slice-aggregate-round Inv-loop μ-loop
+slice-aggregate-round c = sym (c .before .before .before .before .before .loop .inv .0 .size)
 
-slice-aggregate-refresh-2 : tie.Need-slice-aggregate-refresh-2 Inv-loop μ-loop
-slice-aggregate-refresh-2 c = sym (c .before .before .before .before .loop .inv .3)
+slice-aggregate-round-2 : tie.Need-slice-aggregate-round-2 Inv-loop μ-loop
+slice-aggregate-round-2 c = sym (c .before .before .before .before .before .before .loop .inv .3)
 
-refresh-requires : tie.Need-refresh-requires Inv-loop μ-loop
-refresh-requires c κs =
-    let l = c .before .before .before .before .loop in
+round-requires : tie.Need-round-requires Inv-loop μ-loop
+round-requires c κs =
+    let s = c .before .before .before .before .before .before .before .before .before .before .before .before .before .before .before .before .before .before .before .before .before .before .before .before .before .before .before .before in
+    let l = c .before .before .before .before .before .before .before .loop in
     let w = l .inv .0 in
-    record {
-      blocks = record { few = w .few; room = w .room; marks = omega (arith, length-set (l .settled) (l .s) 1, w .size, w .few); least-long = omega (arith, l .inv .3) };
-      begins = begins (l .s) _ (c .before .before .before .loop-test .taken);
-    }
-
-slice-aggregate-settle : tie.Need-slice-aggregate-settle Inv-loop μ-loop
-slice-aggregate-settle c = let l = c .before .before .before .before .before .before .before .before .loop in sym (length-set (l .settled) (l .s) 1 ∙ l .inv .0 .size)
-
-slice-aggregate-settle-2 : tie.Need-slice-aggregate-settle-2 Inv-loop μ-loop
-slice-aggregate-settle-2 c = sym (c .before .before .before .before .refresh .kept .1 .1 .0 ∙ c .before .before .before .before .before .before .before .before .before .loop .inv .3)
-
-settle-requires : tie.Need-settle-requires Inv-loop μ-loop
-settle-requires c κs =
-    let s = c .before .before .before .before .before .before .before .before .before .before .before .before .before .before .before .before .before .before .before .before .before .before .before .before .before .before .before .before .before in
-    let l = c .before .before .before .before .before .before .before .before .before .before .loop in
-    let w = l .inv .0 in
-    let h = c .before .before .before .before .before .before .before .before .before .loop-test .taken in
-    let fill = c .before .before .before .before .before .before .before .before .before .before .before .before .before .before .before .before .before .before .before .before .before .before .before .before .fill in
-    let fresh = c .before .before .before .before .before .refresh in
+    let h = c .before .before .before .before .before .before .loop-test .taken in
+    let fill = c .before .before .before .before .before .before .before .before .before .before .before .before .before .before .before .before .before .before .before .before .before .before .before .fill in
     record {
       conditions = now (s .args .conditions);
       effects = now (s .args .effects);
@@ -158,67 +147,42 @@ settle-requires c κs =
       facts = facts-few s _ (omega (arith, fill .kept .0, s .pre .rows-long));
       moves-long = s .pre .moves-long;
       numbered = numbered s;
-      blocks =
-          record {
-            few = w .few;
-            room = w .room;
-            marks = omega (arith, length-set (l .settled) (l .s) 1, w .size, w .few);
-            least-long = omega (arith, fresh .kept .1 .1 .0, l .inv .3);
-          };
-      known = known-settled _ (l .settled) _ (l .least) _ (l .s) (l .inv .2) (fresh .ensures);
+      blocks = record { few = w .few; room = w .room; marks = omega (arith, w .size, w .few); least-long = omega (arith, l .inv .3) };
+      known = l .inv .2;
       below = h;
       low = low (task s) _ _ _ _ w h;
-    }
-
-slice-aggregate-select-3 : tie.Need-slice-aggregate-select-3 Inv-loop μ-loop
-slice-aggregate-select-3 c = let l = c .before .before .before .before .before .before .before .before .before .before .before .before .before .before .before .before .loop in sym (length-set (l .settled) (l .s) 1 ∙ l .inv .0 .size)
-
-slice-aggregate-select-4 : tie.Need-slice-aggregate-select-4 Inv-loop μ-loop
-slice-aggregate-select-4 c = sym (c .before .before .before .before .before .before .settle .kept .1 .1 .0 ∙ c .before .before .before .before .before .before .before .before .before .before .before .before .refresh .kept .1 .1 .0 ∙ c .before .before .before .before .before .before .before .before .before .before .before .before .before .before .before .before .before .loop .inv .3)
-
-select-requires-2 : tie.Need-select-requires-2 Inv-loop μ-loop
-select-requires-2 c κs =
-    let l = c .before .before .before .before .before .before .before .before .before .before .before .before .before .before .before .before .before .loop in
-    let w = l .inv .0 in
-    let k = c .before .before .before .before .before .before .settle in
-    record {
-      blocks =
-          record {
-            few = w .few;
-            room = omega (arith, k .kept .0, w .room);
-            marks = omega (arith, length-set (l .settled) (l .s) 1, w .size, w .few);
-            least-long = omega (arith, k .kept .1 .1 .0, c .before .before .before .before .before .before .before .before .before .before .before .before .refresh .kept .1 .1 .0, l .inv .3);
-          };
-      known = k .ensures .known;
+      above = c .before .before .before .before .before2 .ensures;
     }
 
 loop-less : tie.Need-loop-less Inv-loop μ-loop
-loop-less c = let l = c .before .before .before .before .before .before .before .before .before .before .before .before .before .before .before .before .before .before .loop in omega (arith, falls (task (c .before .before .before .before .before .before .before .before .before .before .before .before .before .before .before .before .before .before .before .before .before .before .before .before .before .before .before .before .before .before .before .before .before .before .before .before .before)) _ _ _ _ (l .inv .0) (c .before .before .before .before .before .before .before .before .before .before .before .before .before .before .before .before .before .loop-test .taken))
+loop-less c =
+    omega (arith, fewer (task (c .before .before .before .before .before .before .before .before .before .before .before .before .before .before .before .before .before .before .before .before .before .before .before .before .before .before .before .before .before .before .before .before .before)) _ _ _ _ (c .before .before .before .before .before .before .before .before .before .before .before .before .loop .inv .0) (c .before .before .before .before .before .before .before .before .before .before .before .loop-test .taken) _ (c .before .before .before .before .round .ensures .settled-is))
 
 loop-again : tie.Need-loop-again Inv-loop μ-loop
 loop-again c =
-    let s = c .before .before .before .before .before .before .before .before .before .before .before .before .before .before .before .before .before .before .before .before .before .before .before .before .before .before .before .before .before .before .before .before .before .before .before .before .before in
-    let l = c .before .before .before .before .before .before .before .before .before .before .before .before .before .before .before .before .before .before .loop in
+    let s = c .before .before .before .before .before .before .before .before .before .before .before .before .before .before .before .before .before .before .before .before .before .before .before .before .before .before .before .before .before .before .before .before .before in
+    let l = c .before .before .before .before .before .before .before .before .before .before .before .before .loop in
     let i = l .inv in
-    let k = c .before .before .before .before .before .before .before .settle in
-    let tables : SearchTables (s .args .variables) (s .args .actions) (now (s .args .sizes)) (now (s .args .costs)) (now (s .args .conditions)) (now (s .args .effects)) _ (now (s .args .moves)) = record { asked = searched s; rows-are = c .before .before .before .before .before .before .before .before .before .before .before .before .before .before .before .before .before .before .before .before .before .before .before .before .before .before .before .before .before .before .before .before .fill .ensures; moves-are = s .pre .moves-are } in (
-      next (task s) _ _ _ _ (i .0) (c .before .before .before .before .before .before .before .before .before .before .before .before .before .before .before .before .before .loop-test .taken) _ (λ r h. k .ensures .offers (now (s .args .starts)) (now (s .args .conditions)) (now (s .args .effects)) tables r (omega (arith, h, states-are s))) (omega (arith, k .kept .0, i .0 .room)) _ (c .select2 .ensures),
+    let k = c .before .before .before .before .round in
+    let tables : SearchTables (s .args .variables) (s .args .actions) (now (s .args .sizes)) (now (s .args .costs)) (now (s .args .conditions)) (now (s .args .effects)) _ (now (s .args .moves)) = record { asked = searched s; rows-are = c .before .before .before .before .before .before .before .before .before .before .before .before .before .before .before .before .before .before .before .before .before .before .before .before .before .before .before .before .fill .ensures; moves-are = s .pre .moves-are } in (
+      next (task s) _ _ _ _ (i .0) (c .before .before .before .before .before .before .before .before .before .before .before .loop-test .taken) _ (λ r h. k .ensures .steps .offers (now (s .args .starts)) (now (s .args .conditions)) (now (s .args .effects)) tables r (omega (arith, h, states-are s))) (omega (arith, k .kept .0, i .0 .room)) _ _ (k .ensures .settled-is) (k .ensures .picked),
       k .kept .0 ∙ i .1,
-      k .ensures .known,
-      k .kept .1 .1 .0 ∙ c .before .before .before .before .before .before .before .before .before .before .before .before .before .refresh .kept .1 .1 .0 ∙ i .3,
+      k .ensures .steps .known,
+      k .kept .1 .1 .0 ∙ i .3,
+      k .ensures .steps .above,
     )
 
 start-number-requires : tie.Need-start-number-requires Inv-loop μ-loop
-start-number-requires c κs = let s = c .before .before .before .before .before .before .before .before .before .before .before .before .before .before .before .before .before .before .before .before in record { few = held-few (task s) (s .pre .accepted); states = few-states s; inside = held-starts (task s) (s .pre .accepted) }
+start-number-requires c κs = let s = c .before .before .before .before .before .before .before .before .before .before .before .before .before .before .before .before .before .before .before .before .before .before in record { few = held-few (task s) (s .pre .accepted); states = few-states s; inside = held-starts (task s) (s .pre .accepted) }
 
 same-length : tie.Need-same-length Inv-loop μ-loop
-same-length c = c .before .before .loop .inv .1 ∙ c .before .before .before .before .before .before .before .before .before .before .begin .kept .0
+same-length c = c .before .before .loop .inv .1 ∙ c .before .before .before .before .before .before .before .before .before .before .before .before .begin .kept .0
 
 same-length-2 : tie.Need-same-length-2 Inv-loop μ-loop
-same-length-2 c = c .before .before .before .before .before .before .before .before .before .before .before .before .before .before .before .before .fill .kept .0
+same-length-2 c = c .before .before .before .before .before .before .before .before .before .before .before .before .before .before .before .before .before .before .fill .kept .0
 
 returns : tie.Need-returns Inv-loop μ-loop
-returns c = let s = c .before .before .before .before .before .before .before .before .before .before .before .before .before .before .before .before .before .before .before .before .before in record { start = held-start (task s) _ (c .start-number .ensures); table = end (task s) _ _ _ _ (c .before .before .loop .inv .0) (c .before .loop-test .left) }
+returns c = let s = c .before .before .before .before .before .before .before .before .before .before .before .before .before .before .before .before .before .before .before .before .before .before .before in record { start = held-start (task s) _ (c .start-number .ensures); table = end (task s) _ _ _ _ (c .before .before .loop .inv .0) (c .before .loop-test .left) }
 
 pub search-spec : {M : Type 1} → statement M
 search-spec =
@@ -230,20 +194,15 @@ search-spec =
     slice-aggregate-begin
     slice-aggregate-begin-2
     begin-requires
+    greatest-requires
     slice-aggregate-select
     slice-aggregate-select-2
     select-requires
     loop-holds
-    array-write-settled
-    slice-aggregate-refresh
-    slice-aggregate-refresh-2
-    refresh-requires
-    slice-aggregate-settle
-    slice-aggregate-settle-2
-    settle-requires
-    slice-aggregate-select-3
-    slice-aggregate-select-4
-    select-requires-2
+    before-requires
+    slice-aggregate-round
+    slice-aggregate-round-2
+    round-requires
     loop-less
     loop-again
     start-number-requires
