@@ -5,13 +5,14 @@ use mathlib.Core.Bool.{Bool, false}
 use mathlib.Core.List.{List}
 use native.Mathlib.Omega.{arith}
 use native.Mathlib.Nat.{mod-lt, div-add-mod', mul-comm}
-use lib.Bits.{bitAnd}
+use lib.Bits.{bitAnd, bitOr}
 use lib.Count.{trailingZeros}
 use lib.ListN.{length, length-set, getD, set}
+use lib.Seq.{getD-set-other}
 use Rattle.files.proofs.Filling.{filled-before, filled-after}
 use Rattle.files.proofs.Logic.{split-le}
-use Rattle.bits.specs.Sets.{inWord, inWords, FirstFrom, LesserOf, Kept}
-use Rattle.bits.proofs.BitLaws.{in-shifted, none-before, there-at, in-place}
+use Rattle.bits.specs.Sets.{inWord, inWords, FirstFrom, LesserOf, Added, Kept}
+use Rattle.bits.proofs.BitLaws.{in-shifted, none-before, there-at, in-place, place-below, in-words-with}
 
 -- in a word
 module _ (w limit from r : ℕ) (few : limit ≤ 64) (start : from ≤ limit) (is : r ≡ from + trailingZeros 64 (w / 2 ^ from)) where
@@ -85,6 +86,16 @@ module _ (words : List ℕ) (at : ℕ) where
 
     pub scan-end : (place bit : ℕ) → Scanned words at from place bit → from ≤ limit → limit ≤ 64 * place → FirstFrom (inWords words at) limit from limit
     scan-end place bit s start l = record { first = start; last = omega arith; skipped = λ k a b. s .skipped k a (omega arith); there = λ m. absurd (omega arith) }
+
+-- a number added
+pub added : (words : List ℕ) (at k : ℕ) → at + 8 ≤ length words → k < 512
+    → Added at k words (set words (at + k / 64) (bitOr (getD words (at + k / 64) 0) (1 * 2 ^ (k % 64) % 2 ^ 64)))
+added words at k room few =
+    let word = bitOr (getD words (at + k / 64) 0) (1 * 2 ^ (k % 64) % 2 ^ 64) in
+    record {
+      has = in-words-with words at k (omega (arith, place-below k few));
+      others = λ i apart. getD-set-other words (at + k / 64) i word 0 apart;
+    }
 
 -- the first i words have their bits that are in the row too
 pub record Keeping (rows : List ℕ) (at : ℕ) (words₀ words : List ℕ) (i : ℕ) : Type 0 where

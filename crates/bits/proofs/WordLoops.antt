@@ -1,9 +1,9 @@
 -- The loop that makes a word of the numbers that pass a test, the last first.
-use Prim.Native.Nat.{ℕ, zero, suc, _+_, _-_, _*_, _%_, _^_, _≤_, _<_}
+use Prim.Native.Nat.{ℕ, zero, suc, _+_, _-_, _*_, _^_, _≤_, _<_}
 use mathlib.Core.Path.{_≡_, sym, ap, subst, _∙_}
-use mathlib.Core.Bool.{Bool, false, _&&_}
+use mathlib.Core.Bool.{Bool, _&&_}
 use native.Mathlib.Omega.{arith}
-use native.Mathlib.Nat.{add-zero, pow-suc, zero-div}
+use native.Mathlib.Nat.{add-zero, pow-suc}
 use lib.Dec.{eqb, ltb}
 use lib.Pow.{pow-mono}
 use borrow.Author.Tests.{lt-ltb, le-ltb}
@@ -11,11 +11,7 @@ use Rattle.files.specs.Below.{bit}
 use Rattle.files.proofs.BelowLaws.{bit-most}
 use Rattle.files.proofs.Truth.{bit-marked}
 use Rattle.bits.specs.Sets.{inWord}
-use Rattle.bits.proofs.BitLaws.{in-first, in-later}
-
-in-none : (k : ℕ) → inWord 0 k ≡ false
-unfolding inWord
-in-none k = ap (λ (n : ℕ). eqb (n % 2) 1) (zero-div (2 ^ k))
+use Rattle.bits.proofs.BitLaws.{in-none, in-first, in-later}
 
 module _ (limit : ℕ) (test : ℕ → Bool) where
   -- the word has the numbers from v on, less v

@@ -1,7 +1,7 @@
 -- Sets of small numbers as the bits of words: variables in one word, actions in eight.
 use Prim.Native.Nat.{ℕ, _+_, _/_, _%_, _^_, _≤_, _<_}
 use mathlib.Core.Path.{_≡_}
-use mathlib.Core.Bool.{Bool, true, false}
+use mathlib.Core.Bool.{Bool, true, false, _||_}
 use mathlib.Core.List.{List}
 use lib.Bits.{bitAnd}
 use lib.Dec.{eqb}
@@ -31,6 +31,16 @@ pub record InEightWords (words : List ℕ) (at limit from : ℕ) : Type 0 where
   pub room : at + 8 ≤ length words
   pub few : limit ≤ 512
   pub start : from ≤ limit
+
+-- eight words at a place, and a number that a set of eight words can have
+pub record NumberAt (at k : ℕ) (words : List ℕ) : Type 0 where
+  pub room : at + 8 ≤ length words
+  pub few : k < 512
+
+-- k is in the set of the eight words at `at` beside what was in it; every word but that of k is as it was
+pub record Added (at k : ℕ) (words₀ words : List ℕ) : Type 0 where
+  pub has : (j : ℕ) → inWords words at j ≡ inWords words₀ at j || eqb j k
+  pub others : (i : ℕ) → (i ≡ at + k / 64 → ⊥) → getD words i 0 ≡ getD words₀ i 0
 
 -- the lesser of two numbers
 pub record LesserOf (first second r : ℕ) : Type 0 where

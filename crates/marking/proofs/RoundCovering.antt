@@ -1,13 +1,13 @@
 -- What covers what, by the cells of the arrays and the table of what could cover what; and the actions whose conditions count.
-use Prim.Native.Nat.{ℕ, _+_, _*_, _<_}
+use Prim.Native.Nat.{ℕ, _*_, _<_}
 use mathlib.Core.Path.{_≡_, refl, sym, ap, ap₂, _∙_}
-use mathlib.Core.Bool.{Bool, true, false, not, _&&_, _||_}
+use mathlib.Core.Bool.{Bool, true, false, not, _&&_, _||_, and-false}
 use mathlib.Core.List.{List}
 use native.Mathlib.Omega.{arith}
 use lib.Dec.{eqb}
-use lib.ListN.{getD}
 use borrow.Author.Tests.{eqb-true, eqb-false, eq-eqb, ne-eqb}
-use Rattle.files.specs.Below.{anyBelow, allBelow, bit}
+use Rattle.bits.specs.Sets.{inWords}
+use Rattle.files.specs.Below.{anyBelow, allBelow}
 use Rattle.files.specs.Dense.{Arrays, held}
 use Rattle.files.specs.Task.{Pair, actionOf, actionCount, variableCount, valueIn}
 use Rattle.files.proofs.Logic.{split}
@@ -17,11 +17,11 @@ use Rattle.marking.specs.Marks.{Marks}
 use Rattle.marking.specs.Links.{tracked}
 use Rattle.marking.specs.Covering.{sameEffect, couldCover, covers, covered}
 use Rattle.marking.specs.Rounds.{marked, nextActions, trackedMarks, countedActions}
-use Rattle.marking.specs.Dense.{isMarked, askedBy, unlike, coversAt, coveredAt, countedAt}
+use Rattle.marking.specs.Dense.{isMarked, askedBy, couldCoverAt, unlike, keptAlike, coversAt, coveredAt, countedAt}
 use Rattle.files.proofs.HeldTask.{variables-held, actions-held, cost-held, conditions-held, effectAt, effects-held}
 use Rattle.marking.proofs.CoverRows.{could-same}
 use Rattle.marking.proofs.RoundLaws.{trackedMarks-at}
-use Rattle.files.proofs.Truth.{any-same, all-any, count-none, bit-marked}
+use Rattle.files.proofs.Truth.{any-same, all-any, count-none}
 
 -- effects by their cells
 same-cells : (x y : ℕ) → sameEffect (cellValue x) (cellValue y) ≡ eqb x y
@@ -37,7 +37,7 @@ same-cells x y =
     (λ q. rw (e, q) refl))
 
 module _ (d : Arrays) where
-  could-held : (b a : ℕ) → b < d .actions → a < d .actions → couldCover (askedBy (d .costs) (d .conditions) (d .variables) b) (askedBy (d .costs) (d .conditions) (d .variables) a) ≡ couldCover (actionOf (held d) b) (actionOf (held d) a)
+  could-held : (b a : ℕ) → b < d .actions → a < d .actions → couldCoverAt (d .costs) (d .conditions) (d .variables) b a ≡ couldCover (actionOf (held d) b) (actionOf (held d) a)
   could-held b a l k =
       could-same (askedBy (d .costs) (d .conditions) (d .variables) b) (actionOf (held d) b) (askedBy (d .costs) (d .conditions) (d .variables) a) (actionOf (held d) a)
       (sym (cost-held d b l)) (sym (conditions-held d b l)) (sym (cost-held d a k)) (sym (conditions-held d a k))
@@ -64,14 +64,17 @@ module _ (d : Arrays) where
         negated true s = refl
         negated false s = refl
 
-    module _ (A : ℕ → Bool) (actions pairs : List ℕ) (action : (a : ℕ) → a < d .actions → isMarked actions a ≡ A a) (table : (a b : ℕ) → a < d .actions → b < d .actions → getD pairs (512 * a + b) 0 ≡ bit (couldCover (askedBy (d .costs) (d .conditions) (d .variables) b) (askedBy (d .costs) (d .conditions) (d .variables) a))) where
+    module _ (A : ℕ → Bool) (actions pairs : List ℕ) (action : (a : ℕ) → a < d .actions → isMarked actions a ≡ A a) (table : (a b : ℕ) → a < d .actions → b < d .actions → inWords pairs (8 * a) b ≡ couldCoverAt (d .costs) (d .conditions) (d .variables) b a) where
       covers-held : (b a : ℕ) → b < d .actions → a < d .actions → coversAt actions pairs (d .effects) tracks (d .variables) b a ≡ A b && covers (held d) T (actionOf (held d) b) (actionOf (held d) a)
-      unfolding coversAt covers
+      unfolding coversAt keptAlike covers
       covers-held b a l k =
-          ap₂ (λ (x y : Bool). x && y) (action b l)
-          (ap₂ (λ (x y : Bool). x && y)
-          (ap (λ (n : ℕ). eqb n 1) (table a b k l) ∙ bit-marked (couldCover (askedBy (d .costs) (d .conditions) (d .variables) b) (askedBy (d .costs) (d .conditions) (d .variables) a)) ∙ could-held b a l k)
-          (sym (same-held b a l k)))
+          and-swap (inWords pairs (8 * a) b) (isMarked actions b) (eqb (unlike (d .effects) tracks (64 * b) (64 * a) (d .variables)) 0)
+          ∙ ap₂ (λ (x y : Bool). x && y) (action b l)
+          (ap₂ (λ (x y : Bool). x && y) (table a b k l ∙ could-held b a l k) (sym (same-held b a l k)))
+        where
+          and-swap : (x y z : Bool) → x && (y && z) ≡ y && (x && z)
+          and-swap true y z = refl
+          and-swap false y z = sym (and-false y)
 
       pub covered-held : (a : ℕ) → a < d .actions → coveredAt actions pairs (d .effects) tracks (d .variables) (d .actions) a ≡ covered (held d) T A a
       unfolding coveredAt covered
@@ -83,7 +86,7 @@ module _ (d : Arrays) where
 module _ (d : Arrays) (level : ℕ) (m : Marks) (actions pairs tracks : List ℕ)
     (action : (a : ℕ) → a < d .actions → isMarked actions a ≡ marked (nextActions (held d) level m) a)
     (track : (v : ℕ) → v < d .variables → isMarked tracks v ≡ tracked (held d) level m v)
-    (table : level ≡ 4 → (a b : ℕ) → a < d .actions → b < d .actions → getD pairs (512 * a + b) 0 ≡ bit (couldCover (askedBy (d .costs) (d .conditions) (d .variables) b) (askedBy (d .costs) (d .conditions) (d .variables) a))) where
+    (table : level ≡ 4 → (a b : ℕ) → a < d .actions → b < d .actions → inWords pairs (8 * a) b ≡ couldCoverAt (d .costs) (d .conditions) (d .variables) b a) where
   abbrev pub counts : ℕ → Bool
   counts a = marked (countedActions (held d) level (trackedMarks (held d) level m) (nextActions (held d) level m)) a
 

@@ -7,6 +7,7 @@ use mathlib.Core.Logic.{⊎-elim}
 use native.Mathlib.Omega.{arith}
 use lib.Dec.{eqb, leb}
 use lib.ListN.{getD}
+use Rattle.bits.specs.Sets.{inWords}
 use Rattle.files.specs.Below.{bit}
 use Rattle.files.specs.Dense.{Arrays, held}
 use Rattle.files.specs.Task.{Pair, Task, actionOf, actionCount, variableCount, sizeOf, startOf}
@@ -17,8 +18,7 @@ use Rattle.files.proofs.Valid.{Valid}
 use Rattle.marking.specs.Marks.{Marks, kept, relevant, names}
 use Rattle.marking.specs.Links.{setsOther, threatened, linked, unlinked, tracked, gainsAction}
 use Rattle.marking.specs.Rounds.{marked, nextActions, trackedMarks, countedActions, gainsFact, nextMarks}
-use Rattle.marking.specs.Covering.{couldCover}
-use Rattle.marking.specs.Dense.{SetWhere, isMarked, threatensAnew, unlinkedAt, achieves, trackedAt, askedBy, coveredAt, countedAt, namesAnew}
+use Rattle.marking.specs.Dense.{SetWhere, isMarked, threatensAnew, unlinkedAt, achieves, trackedAt, couldCoverAt, coveredAt, countedAt, namesAnew}
 use Rattle.marking.proofs.HeldMarks.{heldMarks, factAt, marks-held, kept-held, relevant-held}
 use Rattle.files.proofs.HeldTask.{variables-held, actions-held, effectAt, effect-valid}
 use Rattle.marking.proofs.MarkCount.{Among}
@@ -59,7 +59,7 @@ module _ (t : Task) (level : ℕ) (m n : Marks) (more : Among t m n) where
 
 -- what a round of the code leaves in its arrays
 pub record Round (d : Arrays) (level : ℕ) (pairs actions facts unlinked-before threats kept-before counted-before threats′ u actions′ tracks counted facts′ : List ℕ) : Type 0 where
-  pub table : level ≡ 4 → (a b : ℕ) → a < d .actions → b < d .actions → getD pairs (512 * a + b) 0 ≡ bit (couldCover (askedBy (d .costs) (d .conditions) (d .variables) b) (askedBy (d .costs) (d .conditions) (d .variables) a))
+  pub table : level ≡ 4 → (a b : ℕ) → a < d .actions → b < d .actions → inWords pairs (8 * a) b ≡ couldCoverAt (d .costs) (d .conditions) (d .variables) b a
   pub threats-set : SetWhere (threatensAnew (d .effects) (d .starts) (d .variables) actions kept-before (d .actions)) threats threats′
   pub unlinked-at : (i : ℕ) → i < 32 * d .variables → getD u i 0 ≡ bit (unlinkedAt level facts (d .starts) threats′ i)
   pub actions-set : SetWhere (achieves (d .effects) (d .actions) unlinked-before u (32 * d .variables)) actions actions′

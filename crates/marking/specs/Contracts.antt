@@ -1,10 +1,11 @@
 -- Names for the parts of what functions ask and ensure.
 use Prim.Native.Nat.{ℕ, _+_, _*_, _≤_, _<_}
 use mathlib.Core.Path.{_≡_}
-use mathlib.Core.Bool.{Bool}
+use mathlib.Core.Bool.{Bool, false}
 use mathlib.Core.List.{List}
 use lib.Dec.{ltb}
 use lib.ListN.{length, getD}
+use Rattle.bits.specs.Sets.{inWords}
 use Rattle.files.specs.Below.{bit}
 use Rattle.files.specs.Contracts.{WithinLimits}
 use Rattle.files.specs.Dense.{OriginSizes}
@@ -67,19 +68,19 @@ pub record EmptyColumn (conditions counts : List ℕ) (variables actions b : ℕ
   pub limits : WithinLimits variables actions
   pub known : b < actions
   pub counted : CountsOf conditions variables actions counts
-  pub room : 262144 ≤ length table
-  pub empty : (a : ℕ) → a < actions → getD table (512 * a + b) 0 ≡ 0
+  pub room : 4096 ≤ length table
+  pub empty : (a : ℕ) → a < actions → inWords table (8 * a) b ≡ false
 
 -- the column of action b is filled, and the others are as they were
 pub record ColumnFilled (costs conditions : List ℕ) (variables actions b : ℕ) (before after : List ℕ) : Type 0 where
   pub same : length after ≡ length before
-  pub column : (a : ℕ) → a < actions → getD after (512 * a + b) 0 ≡ bit (couldCoverAt costs conditions variables b a)
-  pub others : (a j : ℕ) → j < 512 → (j ≡ b → ⊥) → getD after (512 * a + j) 0 ≡ getD before (512 * a + j) 0
+  pub column : (a : ℕ) → a < actions → inWords after (8 * a) b ≡ couldCoverAt costs conditions variables b a
+  pub others : (a j : ℕ) → j < 512 → (j ≡ b → ⊥) → inWords after (8 * a) j ≡ inWords before (8 * a) j
 
 -- a task within limits, and a table with nothing in it
 pub record EmptyTable (variables actions : ℕ) (table : List ℕ) : Type 0 where
   pub limits : WithinLimits variables actions
-  pub room : 262144 ≤ length table
+  pub room : 4096 ≤ length table
   pub empty : (i : ℕ) → getD table i 0 ≡ 0
 
 -- the number of an action that covers, or none below `actions`

@@ -5,6 +5,7 @@ use mathlib.Core.Bool.{Bool, not, cond, _&&_, _||_}
 use mathlib.Core.List.{List, []}
 use lib.Dec.{eqb, leb, ltb}
 use lib.ListN.{length, getD}
+use Rattle.bits.specs.Sets.{inWords}
 use Rattle.files.specs.Below.{tabulate, anyBelow, bit, countBelow}
 use Rattle.files.specs.Dense.{rowPairs}
 use Rattle.files.specs.Task.{Action, Task, action, variableCount, actionCount, sizeOf}
@@ -78,13 +79,16 @@ couldCoverAt costs conditions variables b a = couldCover (askedBy costs conditio
 unfoldable pub unlike : List ℕ → List ℕ → ℕ → ℕ → ℕ → ℕ
 unlike effects tracked base other count = countBelow count (λ v. isMarked tracked v && not (eqb (getD effects (base + v) 0) (getD effects (other + v) 0)))
 
--- b is kept and covers a, by the table of what could cover what
+-- b is kept and its effects on tracked variables are those of a
+unfoldable pub keptAlike : List ℕ → List ℕ → List ℕ → ℕ → ℕ → ℕ → Bool
+keptAlike kept effects tracked variables b a = isMarked kept b && eqb (unlike effects tracked (64 * b) (64 * a) variables) 0
+
+-- b is kept and covers a, by the table of what could cover what: the actions in the set at 8 * a could cover a
 unfoldable pub coversAt : List ℕ → List ℕ → List ℕ → List ℕ → ℕ → ℕ → ℕ → Bool
-coversAt kept pairs effects tracked variables b a =
-    isMarked kept b && (isMarked pairs (512 * a + b) && eqb (unlike effects tracked (64 * b) (64 * a) variables) 0)
+coversAt kept table effects tracked variables b a = inWords table (8 * a) b && keptAlike kept effects tracked variables b a
 
 unfoldable pub coveredAt : List ℕ → List ℕ → List ℕ → List ℕ → ℕ → ℕ → ℕ → Bool
-coveredAt kept pairs effects tracked variables actions a = anyBelow actions (λ b. coversAt kept pairs effects tracked variables b a)
+coveredAt kept table effects tracked variables actions a = anyBelow actions (λ b. coversAt kept table effects tracked variables b a)
 
 -- the conditions of a are among F, or it is kept and, at level 4, not covered
 unfoldable pub countedAt : ℕ → List ℕ → List ℕ → Bool → ℕ → Bool

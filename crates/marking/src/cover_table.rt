@@ -1,15 +1,17 @@
-// The table of what could cover what, by cost and conditions: a row of 512 cells for each action.
+// The table of what could cover what, by cost and conditions: for each action a set of actions, in
+// eight words.
 ghost use mathlib.Core.Path.{_≡_};
 ghost use Prim.Native.Nat.{ℕ, _+_, _*_, _<_};
 ghost use mathlib.Core.Bool.{_&&_};
 ghost use lib.Dec.{ltb};
 ghost use lib.ListN.{getD};
-ghost use Rattle.files.specs.Below.{bit};
+ghost use Rattle.bits.specs.Sets.{inWords};
 ghost use Rattle.files.specs.Contracts.{WithinLimits};
 ghost use Rattle.marking.specs.Contracts.{WholeRow, TwoRows, CountsOf, TwoCounted, EmptyColumn, ColumnFilled, EmptyTable};
 ghost use Rattle.marking.specs.Dense.{otherThan, missing, conditionsIn, couldCoverAt};
 use crate::cells;
 use crate::rounds::Scope;
+use bits::sets;
 use files::limits;
 
 // How many conditions of the row at `base` do not stand in the row at `other`.
@@ -115,7 +117,7 @@ fn pair_could_cover(
 
 // The column of one action in the table, where it is empty: what it could cover.
 fn fill_column(
-    could_cover: &mut [u8],
+    could_cover: &mut [u64],
     costs: &[u32; 512],
     conditions: &[u8; 32768],
     counts: &[u8; 512],
@@ -130,16 +132,16 @@ fn fill_column(
     let mut a: usize = 0;
     while a < actions {
         if pair_could_cover(costs, conditions, counts, variables, first, b, a) {
-            could_cover[limits::MOST_ACTIONS * a + b] = 1;
+            sets::add(could_cover, 8 * a, b);
         }
         a += 1;
     }
 }
 
 // The table of what could cover what, for level 4 alone.
-pub fn fill(could_cover: &mut [u8], scope: Scope, costs: &[u32; 512], conditions: &[u8; 32768])
+pub fn fill(could_cover: &mut [u64], scope: Scope, costs: &[u32; 512], conditions: &[u8; 32768])
     requires { ⌜ EmptyTable (scope .variables) (scope .actions) (now «could_cover») ⌝ }
-    ensures { λ r. ⌜ (scope .level ≡ 4 → (a b : ℕ) → a < scope .actions → b < scope .actions → getD (now («could_cover» .exit)) (512 * a + b) 0 ≡ bit (couldCoverAt (now (costs .entry)) (now (conditions .entry)) (scope .variables) b a)) ⌝ }
+    ensures { λ r. ⌜ (scope .level ≡ 4 → (a b : ℕ) → a < scope .actions → b < scope .actions → inWords (now («could_cover» .exit)) (8 * a) b ≡ couldCoverAt (now (costs .entry)) (now (conditions .entry)) (scope .variables) b a) ⌝ }
 {
     let variables = scope.variables;
     let actions = scope.actions;

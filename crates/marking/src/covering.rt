@@ -1,15 +1,16 @@
-// Covered actions. What could cover what is read from a table.
+// Covered actions. What could cover what is read from a table of sets.
 ghost use mathlib.Core.Path.{_≡_};
-ghost use Prim.Native.Nat.{ℕ, _+_, _*_, _<_};
+ghost use Prim.Native.Nat.{ℕ, _<_};
 ghost use mathlib.Core.Bool.{_&&_, not};
 ghost use lib.Dec.{eqb};
 ghost use lib.ListN.{getD};
-ghost use Rattle.files.specs.Below.{bit, anyBelow};
+ghost use Rattle.files.specs.Below.{bit};
 ghost use Rattle.files.specs.Contracts.{WithinLimits};
-ghost use Rattle.marking.specs.Contracts.{Among, ActionAmong, TwoActions, TwoRows, CovererIs};
-ghost use Rattle.marking.specs.Dense.{isMarked, unlike, coversAt, coveredAt, countedAt};
+ghost use Rattle.marking.specs.Contracts.{ActionAmong, TwoActions, TwoRows, CovererIs};
+ghost use Rattle.marking.specs.Dense.{unlike, keptAlike, coveredAt, countedAt};
 use crate::cells;
 use crate::rounds::Scope;
+use bits::sets;
 use files::limits;
 
 // Whether a variable is tracked and the two effects on it are unlike.
@@ -43,10 +44,9 @@ fn unlike(
     count
 }
 
-// Whether b is kept and covers a.
-fn covers(
+// Whether b is kept and its effects on tracked variables are those of a.
+fn is_kept_alike(
     kept: &[u8; 512],
-    could_cover: &[u8; 262144],
     effects: &[u8; 32768],
     tracked: &[u8; 64],
     variables: usize,
@@ -54,11 +54,8 @@ fn covers(
     a: usize,
 ) -> bool
     requires { ⌜ TwoActions variables b a ⌝ }
-    ensures { λ r. ⌜ r ≡ coversAt (now (kept .entry)) (now («could_cover» .entry)) (now (effects .entry)) (now (tracked .entry)) variables b a ⌝ }
+    ensures { λ r. ⌜ r ≡ keptAlike (now (kept .entry)) (now (effects .entry)) (now (tracked .entry)) variables b a ⌝ }
 {
-    if could_cover[limits::MOST_ACTIONS * a + b] != 1 {
-        return false;
-    }
     if kept[b] != 1 {
         return false;
     }
@@ -72,26 +69,11 @@ fn covers(
         == 0
 }
 
-// Whether nothing could cover a.
-fn is_free(could_cover: &[u8; 262144], actions: usize, a: usize) -> bool
-    requires { ⌜ Among a 512 actions ⌝ }
-    ensures { λ r. ⌜ r ≡ not (anyBelow actions (λ b. isMarked (now («could_cover» .entry)) (512 * a + b))) ⌝ }
-{
-    let mut count: u16 = 0;
-    let mut b: usize = 0;
-    while b < actions {
-        let could = could_cover[limits::MOST_ACTIONS * a + b] == 1;
-        count += cells::bit_of(could) as u16;
-        b += 1;
-    }
-    count == 0
-}
-
-// The first action that covers a, or `actions`.
+// The first action that covers a, or `actions`: only those that could are tried.
 fn find_coverer(
     scope: Scope,
     kept: &[u8; 512],
-    could_cover: &[u8; 262144],
+    could_cover: &[u64; 4096],
     effects: &[u8; 32768],
     tracked: &[u8; 64],
     a: usize,
@@ -101,12 +83,12 @@ fn find_coverer(
 {
     let variables = scope.variables;
     let actions = scope.actions;
-    let mut b: usize = 0;
+    let mut b = sets::next_in(could_cover, 8 * a, 0, actions);
     while b < actions {
-        if covers(kept, could_cover, effects, tracked, variables, b, a) {
+        if is_kept_alike(kept, effects, tracked, variables, b, a) {
             return b;
         }
-        b += 1;
+        b = sets::next_in(could_cover, 8 * a, b + 1, actions);
     }
     actions
 }
@@ -115,7 +97,7 @@ fn find_coverer(
 fn coverer(
     scope: Scope,
     kept: &[u8; 512],
-    could_cover: &[u8; 262144],
+    could_cover: &[u64; 4096],
     effects: &[u8; 32768],
     tracked: &[u8; 64],
     a: usize,
@@ -127,12 +109,11 @@ fn coverer(
     let variables = scope.variables;
     let first = before as usize;
     if first < scope.actions {
-        if covers(kept, could_cover, effects, tracked, variables, first, a) {
-            return first;
+        if sets::has(could_cover, 8 * a, first) {
+            if is_kept_alike(kept, effects, tracked, variables, first, a) {
+                return first;
+            }
         }
-    }
-    if is_free(could_cover, scope.actions, a) {
-        return scope.actions;
     }
     find_coverer(scope, kept, could_cover, effects, tracked, a)
 }
@@ -142,7 +123,7 @@ fn is_counted(
     scope: Scope,
     kept: &[u8; 512],
     counted_before: &[u8; 512],
-    could_cover: &[u8; 262144],
+    could_cover: &[u64; 4096],
     effects: &[u8; 32768],
     tracked: &[u8; 64],
     coverers: &mut [u16; 512],
@@ -170,7 +151,7 @@ pub fn counted(
     scope: Scope,
     kept: &[u8; 512],
     counted_before: &[u8; 512],
-    could_cover: &[u8; 262144],
+    could_cover: &[u64; 4096],
     effects: &[u8; 32768],
     tracked: &[u8; 64],
     coverers: &mut [u16; 512],

@@ -45,7 +45,7 @@ fn run(
     ensures { λ r. ⌜ Final (held (arrays (scope .variables) (scope .actions) (now (sizes .entry)) (now (starts .entry)) (now (goal .entry)) (now (costs .entry)) (now (conditions .entry)) (now (effects .entry)))) (scope .level) (r .kept) (r .facts) (r .unlinked) (r .rounds) ⌝ }
 {
     let actions = scope.actions;
-    let mut could_cover = [0u8; 262144];
+    let mut could_cover = [0u64; 4096];
     cover_table::fill(&mut could_cover, scope, costs, conditions);
     let mut facts = [0u8; 2048];
     gains::name_row(&mut facts, scope, scope.level == 1, goal, 0, sizes);

@@ -37,14 +37,11 @@ pair-could-cover-requires c κs =
       otherCount = counted (c .before .loop .a) (c .loop-test .taken);
     }
 
-mul-could-cover : tie.Need-mul-could-cover Inv-loop μ-loop
-mul-could-cover c = search needs
+mul-add : tie.Need-mul-add Inv-loop μ-loop
+mul-add c = search needs
 
-add-could-cover : tie.Need-add-could-cover Inv-loop μ-loop
-add-could-cover c = search needs
-
-slice-write-could-cover : tie.Need-slice-write-could-cover Inv-loop μ-loop
-slice-write-could-cover c = search needs
+add-requires : tie.Need-add-requires Inv-loop μ-loop
+add-requires c κs = search needs
 
 add-a : tie.Need-add-a Inv-loop μ-loop
 add-a c = search needs
@@ -59,7 +56,9 @@ loop-again c =
     let f : ℕ → Bool = couldCoverAt (now (s .args .costs)) (now (s .args .conditions)) (s .args .variables) (s .args .b) in
     let is : f (l .a) ≡ c .before .pair-could-cover .result = sym (c .before .pair-could-cover .ensures) in (
       ⊎-elim
-          (λ w. column-set f _ _ (l .a) _ (l .could-cover) _ (l .inv .0) (omega arith) (omega arith) (is ∙ w .0 .taken) (w .1))
+          (λ w.
+          rw (w .5)
+          (column-set (l .a) (s .args .b) (omega arith) (l .could-cover) _ (w .2 .ensures) f _ _ (l .inv .0) (w .3 .given) (is ∙ w .0 .taken)))
           (λ w. column-kept f _ _ (l .a) _ (l .could-cover) _ (l .inv .0) (c .before .before .loop-test .taken) (is ∙ w .0 .left) (w .1))
           (c .if1 .came),
       omega arith,
@@ -84,9 +83,8 @@ fill-column-spec =
     first-compared-requires
     loop-holds
     pair-could-cover-requires
-    mul-could-cover
-    add-could-cover
-    slice-write-could-cover
+    mul-add
+    add-requires
     add-a
     loop-less
     loop-again

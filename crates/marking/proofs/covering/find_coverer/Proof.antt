@@ -1,45 +1,57 @@
--- The loop's invariant: none of the actions before `b` covers.
-use Prim.Native.Nat.{_-_, _≤_}
-use mathlib.Core.Path.{_≡_, sym, _∙_}
-use mathlib.Core.Bool.{false}
+-- The loop's invariant: none of the actions before `b` covers, and `b` could.
+use Prim.Native.Nat.{_-_}
+use mathlib.Core.Path.{sym, _∙_}
 use native.Mathlib.Omega.{arith}
 use borrow.Author.Needs.{needs}
-use Rattle.marking.specs.Dense.{coveredAt}
-use Rattle.marking.proofs.CoverSearch.{covered-begin, covered-next, covered-found, covered-none}
+use Rattle.marking.proofs.CoverSearch.{Sought, sought-begin, sought-next, covered-found, covered-none}
 use Rattle.marking.proofs.covering.find_coverer.Statement.{statement}
 use Rattle.marking.proofs.covering.find_coverer.Tie as tie
 
 abbrev Inv-loop : tie.InvT-loop
-Inv-loop kept could effects tracked a variables actions b₀ b =
-    (coveredAt kept could effects tracked variables b a ≡ false) × (b ≤ actions)
+Inv-loop kept could effects tracked a variables actions b₀ b = Sought kept could effects tracked variables actions a b
 
 abbrev μ-loop : tie.MeasureT-loop
 μ-loop kept could effects tracked a variables actions b₀ b = actions - b
 
-loop-holds : tie.Need-loop-holds Inv-loop μ-loop
-loop-holds c = (covered-begin _ _ _ _ _ _, omega arith)
+mul-next-in : tie.Need-mul-next-in Inv-loop μ-loop
+mul-next-in c = search needs
 
-covers-requires : tie.Need-covers-requires Inv-loop μ-loop
-covers-requires c κs = search needs
+next-in-requires : tie.Need-next-in-requires Inv-loop μ-loop
+next-in-requires c κs = search needs
+
+loop-holds : tie.Need-loop-holds Inv-loop μ-loop
+loop-holds c = sought-begin _ _ _ _ _ _ _ _ (c .next-in .ensures)
+
+is-kept-alike-requires : tie.Need-is-kept-alike-requires Inv-loop μ-loop
+is-kept-alike-requires c κs = search needs
 
 returns : tie.Need-returns Inv-loop μ-loop
 returns c =
-    record { is = covered-found _ _ _ _ _ _ _ _ (c .before .before .loop-test .taken) (sym (c .before .covers .ensures) ∙ c .if1 .taken); atMost = omega arith }
+    let here = c .before .before .loop-test .taken in
+    let could = c .before .before .before .loop .inv .could here in
+    record { is = covered-found _ _ _ _ _ _ _ _ here could (sym (c .before .is-kept-alike .ensures) ∙ c .if1 .taken); atMost = omega arith }
 
-add-b : tie.Need-add-b Inv-loop μ-loop
-add-b c = search needs
+mul-next-in-2 : tie.Need-mul-next-in-2 Inv-loop μ-loop
+mul-next-in-2 c = search needs
+
+add-next-in : tie.Need-add-next-in Inv-loop μ-loop
+add-next-in c = search needs
+
+next-in-requires-2 : tie.Need-next-in-requires-2 Inv-loop μ-loop
+next-in-requires-2 c κs = search needs
 
 loop-less : tie.Need-loop-less Inv-loop μ-loop
 loop-less c = search needs
 
 loop-again : tie.Need-loop-again Inv-loop μ-loop
 loop-again c =
-    (covered-next _ _ _ _ _ _ _ (c .before .before .before .loop .inv .0) (sym (c .before .covers .ensures) ∙ c .if1 .left), omega arith)
+    let l = c .before .before .before .before .before .loop in
+    sought-next _ _ _ _ _ _ _ (l .b) _ (l .inv) (sym (c .before .before .before .is-kept-alike .ensures) ∙ c .before .before .if1 .left) (c .next-in2 .ensures)
 
 returns-2 : tie.Need-returns-2 Inv-loop μ-loop
 returns-2 c =
     let l = c .before .loop in
-    record { is = covered-none _ _ _ _ _ _ _ (l .b) (l .inv .1) (c .loop-test .left) (l .inv .0); atMost = omega arith }
+    record { is = covered-none _ _ _ _ _ _ _ (l .b) (l .inv) (c .loop-test .left); atMost = omega arith }
 
 pub find-coverer-spec : {M : Type 1} → statement M
 find-coverer-spec =
@@ -47,10 +59,14 @@ find-coverer-spec =
     (tie.spec
     Inv-loop
     μ-loop
+    mul-next-in
+    next-in-requires
     loop-holds
-    covers-requires
+    is-kept-alike-requires
     returns
-    add-b
+    mul-next-in-2
+    add-next-in
+    next-in-requires-2
     loop-less
     loop-again
     returns-2)

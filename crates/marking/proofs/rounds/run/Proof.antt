@@ -77,7 +77,7 @@ slice-aggregate-fill c = search needs
 fill-requires : tie.Need-fill-requires Inv-loop μ-loop
 fill-requires c κs =
     let s : tie.Start Inv-loop μ-loop = c .before in
-    record { limits = limits s; room = omega arith; empty = zeros-entry 262144 }
+    record { limits = limits s; room = omega arith; empty = zeros-entry 4096 }
 
 slice-aggregate-name-row : tie.Need-slice-aggregate-name-row Inv-loop μ-loop
 slice-aggregate-name-row c = search needs
