@@ -79,7 +79,7 @@ pub extern "C" fn shortest_plan(
     facts: &mut [u8],
     reduced: &mut [u8],
     origin: &mut [u8],
-    table: &mut [search::Entry],
+    table: &mut [distances::Entry],
     plan: &mut [u8],
     out: &mut [u64; 18],
 )

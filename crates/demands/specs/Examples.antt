@@ -14,7 +14,7 @@ use Rattle.marking.specs.Examples.{taskE1}
 use Rattle.marking.specs.Mark.{markBuffers, mark, markAfter}
 use Rattle.reduction.specs.Reduce.{buffers, reduceAfter}
 use Rattle.search.specs.Planner.{Lent, lentOf, planAnswer, planAfter}
-use Rattle.search.specs.Table.{entry}
+use Rattle.distances.specs.Table.{entry}
 use Rattle.search.specs.declared.Planned.{Planned}
 use Rattle.digits.specs.Decimal.{ascii}
 use Rattle.demands.specs.Listing.{listing}

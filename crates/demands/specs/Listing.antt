@@ -9,7 +9,7 @@ use Rattle.files.specs.Records.{signerOf}
 use Rattle.files.specs.Task.{variableCount, actionCount}
 use Rattle.files.specs.TaskFile.{taskOf}
 use Rattle.search.specs.Planner.{Lent, lentOf, searched, planMade, planAnswer}
-use Rattle.search.specs.Table.{entry}
+use Rattle.distances.specs.Table.{entry}
 use Rattle.search.specs.declared.Planned.{Planned}
 use Rattle.digits.specs.Decimal.{ascii, decimal}
 

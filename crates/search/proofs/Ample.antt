@@ -38,7 +38,7 @@ use Rattle.reduction.specs.Task.{reducedTask, originBy, originsAt, keptAt, byOr
 use Rattle.reduction.proofs.OriginAccepted.{origins-accepted}
 use Rattle.reduction.proofs.Preservation.{reduction-preserves, reduction-accepted}
 use Rattle.reduction.proofs.ReducedLength.{reduced-file-length}
-use Rattle.search.specs.States.{stateCount}
+use Rattle.distances.specs.States.{stateCount}
 use Rattle.search.specs.FirstPlan.{firstPlan}
 use Rattle.search.specs.Least.{PlanFirst}
 use Rattle.search.specs.Planner.{planLevel, searched, statesFit, planFound, planFits, searchBuffers, searchStages, Lent, planStages}

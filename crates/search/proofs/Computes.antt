@@ -1,10 +1,10 @@
 -- The crate's definitions under one name: to unfold `computes` is to unfold them all.
-use Rattle.search.specs.States.{stateCount, stateNumber, stateAt}
-use Rattle.search.specs.Table.{less, least, same, stepTo, atGoal, nextState, through, leastBelow, distancesIn, distances, entryOf, tableOf}
-use Rattle.search.specs.FirstPlan.{firstAction, stepsFrom, startNumber, firstPlan, foundPlan}
+use Rattle.distances.specs.States.{stateCount, stateNumber, stateAt}
+use Rattle.distances.specs.Table.{less, least, same, stepTo, atGoal, nextState, through, leastBelow, distancesIn, distances, entryOf, tableOf, startNumber}
+use Rattle.search.specs.FirstPlan.{firstAction, stepsFrom, firstPlan, foundPlan}
 use Rattle.search.specs.Least.{startedAt}
-use Rattle.search.specs.Entries.{isNone, entryIn, entriesIn, lessEntry, lowered, afterStep, sameEntry, tableEntry}
-use Rattle.search.specs.Rows.{leadsTo, offered, rowStates, rowState, canReach, differsOnly}
+use Rattle.distances.specs.Entries.{isNone, entryIn, entriesIn, lessEntry, lowered, afterStep, sameEntry, tableEntry}
+use Rattle.distances.specs.Rows.{leadsTo, offered, rowStates, rowState, canReach, differsOnly}
 use Rattle.lookup.specs.Moves.{rowWeight}
 use Rattle.lookup.specs.FactRows.{canHave}
 use Rattle.search.specs.ReadOff.{hasBy}

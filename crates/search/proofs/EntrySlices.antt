@@ -13,9 +13,9 @@ use denote.Index.{place, place-is}
 use denote.Memory.{mem}
 use denote.Slice.{Room}
 use denote.Struct.Laws as LL
-use Rattle.search.specs.declared.Entry.{Entry}
-use Rattle.search.proofs.Entry as T₀
-use Rattle.search.proofs.Entry.Laws as T′
+use Rattle.distances.specs.declared.Entry.{Entry}
+use Rattle.distances.proofs.Entry as T₀
+use Rattle.distances.proofs.Entry.Laws as T′
 
 abbrev pub R : RattleType
 R = T₀.the-row

@@ -25,19 +25,19 @@ use Rattle.files.proofs.Valid.{Valid}
 use Rattle.plans.specs.Plan.{Total, totalOf}
 use Rattle.reduction.specs.declared.Reduced.{Reduced}
 use Rattle.reduction.specs.Preserved.{byOriginFile}
-use Rattle.search.specs.declared.Entry.{Entry}
+use Rattle.distances.specs.declared.Entry.{Entry}
 use Rattle.search.specs.declared.stages.Found.{Found}
 use Rattle.search.specs.declared.stages.Searched.{Searched}
-use Rattle.search.specs.States.{stateCount}
-use Rattle.search.specs.Table.{minutesOf, distances, tableOf}
-use Rattle.search.specs.FirstPlan.{startNumber, firstPlan, foundPlan}
-use Rattle.search.specs.Entries.{tableEntry}
+use Rattle.distances.specs.States.{stateCount}
+use Rattle.distances.specs.Table.{minutesOf, distances, tableOf, startNumber}
+use Rattle.search.specs.FirstPlan.{firstPlan, foundPlan}
+use Rattle.distances.specs.Entries.{tableEntry}
 use Rattle.lookup.specs.FactRows.{CheapRow}
 use Rattle.search.specs.ReadOff.{StepTables}
 use Rattle.search.specs.Planner.{statesFit, planFits, searchBuffers, searchStages}
 use Rattle.search.specs.Found.{foundStates, notFound, foundWhole, Searches, unsearched, SearchedIn, SearchedFiles}
-use Rattle.search.proofs.HeldStates.{held-variables, held-actions}
-use Rattle.search.proofs.Radix.{start-below}
+use Rattle.distances.proofs.HeldStates.{held-variables, held-actions}
+use Rattle.distances.proofs.Radix.{start-below}
 use Rattle.search.proofs.ReadOff.{steps-length}
 use Rattle.search.proofs.LeastPlans.{stepsRead, first-plan-some, search-least}
 

@@ -18,18 +18,18 @@ use Rattle.marking.proofs.RoundCount.{sum-alike}
 use Rattle.plans.specs.State.{State, allHold, applicable, apply}
 use Rattle.plans.specs.Tally.{afterCell}
 use Rattle.plans.proofs.RowStates.{meets-some, after-none, after-some, meetsAt, hold-below, afterRow}
-use Rattle.search.specs.States.{stateNumber, stateAt}
-use Rattle.search.specs.Table.{nextState}
-use Rattle.search.specs.Rows.{rowVariables, rowStates, rowState, canReach}
+use Rattle.distances.specs.States.{stateNumber, stateAt}
+use Rattle.distances.specs.Table.{nextState}
+use Rattle.distances.specs.Rows.{rowVariables, rowStates, rowState, canReach}
 use Rattle.lookup.specs.Moves.{rowWeight, weighted, setBy, askedOf, setFreely}
 use Rattle.bits.specs.Sets.{inWord, inWords}
 use Rattle.lookup.specs.FactRows.{mostFacts, factNumber, leadsToFact}
 use Rattle.search.specs.ReadOff.{StepTables, Stepped, HereOf, freedBy, takenBy, goesBy, CanGo}
-use Rattle.search.proofs.RowNumbers.{RowInside, number-sum, state-alike}
-use Rattle.search.proofs.StateLoops.{after-inside, after-number}
-use Rattle.search.proofs.OneChange.{state-inside, number-weights, weights-below}
-use Rattle.search.proofs.Predecessors.{reachAt}
-use Rattle.search.proofs.FactRowLaws.{all-same, reach-holds}
+use Rattle.distances.proofs.RowNumbers.{RowInside, number-sum, state-alike}
+use Rattle.distances.proofs.StateLoops.{after-inside, after-number}
+use Rattle.distances.proofs.OneChange.{state-inside, number-weights, weights-below}
+use Rattle.distances.proofs.Predecessors.{reachAt}
+use Rattle.distances.proofs.FactRowLaws.{all-same, reach-holds}
 
 -- what the variables in the set of a word add
 pub freed-next : (here : List ℕ) (word v x sum : ℕ) → inWord word v ≡ true → x ≡ getD here (8 + v) 0 → sum ≡ freedBy here word v → sum + x ≡ freedBy here word (v + 1)

@@ -10,14 +10,14 @@ use Rattle.files.specs.Below.{allBelow}
 use Rattle.files.proofs.Logic.{split-le}
 use Rattle.plans.specs.State.{State}
 use Rattle.plans.specs.Tally.{listState}
-use Rattle.search.specs.States.{stateAt}
-use Rattle.search.specs.Rows.{rowVariables, rowState}
+use Rattle.distances.specs.States.{stateAt}
+use Rattle.distances.specs.Rows.{rowVariables, rowState}
 use Rattle.lookup.specs.Moves.{rowWeight}
 use Rattle.bits.specs.Sets.{inWord, inWords, FirstFrom}
 use Rattle.lookup.specs.FactRows.{mostFacts, factNumber, RowsFor, CheapRowsFor, InCheapRows}
 use Rattle.search.specs.ReadOff.{HereOf, CanKnow, Begun, freedBy, takenBy, goesBy, CanGo}
-use Rattle.search.proofs.StateLoops.{weight-first, weight-next}
-use Rattle.search.proofs.OneChange.{state-inside}
+use Rattle.distances.proofs.StateLoops.{weight-first, weight-next}
+use Rattle.distances.proofs.OneChange.{state-inside}
 use Rattle.bits.proofs.BitLaws.{in-row-before}
 use Rattle.search.proofs.Going.{freed-next, freed-skip, freed-most}
 

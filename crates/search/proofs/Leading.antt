@@ -13,21 +13,21 @@ use Rattle.files.specs.Task.{Action, Task, actionOf, actionCount}
 use Rattle.files.proofs.Logic.{clash, split, split-le, split-option, and-split, and-join}
 use Rattle.plans.specs.Plan.{Total, addStep}
 use Rattle.plans.specs.State.{applicable}
-use Rattle.search.specs.States.{stateAt}
-use Rattle.search.specs.Table.{Distance, minutesOf, same, stepTo, nextState, through, distances, entryOf}
+use Rattle.distances.specs.States.{stateAt}
+use Rattle.distances.specs.Table.{Distance, minutesOf, same, stepTo, nextState, through, distances, entryOf}
 use Rattle.search.specs.FirstPlan.{firstAction}
-use Rattle.search.specs.declared.Entry.{Entry}
-use Rattle.search.specs.Entries.{isNone, entryTotal, sameEntry, afterStep, Low}
-use Rattle.search.specs.Rows.{rowStates}
+use Rattle.distances.specs.declared.Entry.{Entry}
+use Rattle.distances.specs.Entries.{isNone, entryTotal, sameEntry, afterStep, Low}
+use Rattle.distances.specs.Rows.{rowStates}
 use Rattle.bits.specs.Sets.{inWords}
 use Rattle.lookup.specs.FactRows.{mostFacts, costsWithin}
 use Rattle.search.specs.declared.first_plan.Step.{Step}
 use Rattle.search.specs.declared.stages.Searched.{Searched}
 use Rattle.search.specs.ReadOff.{goesBy, CanStepFrom, StepFrom, hasBy, CanCompare, HasBy, LooksOn, CanLead, Leads, FirstLed}
 use Rattle.search.proofs.Going.{goes-below, goes-nowhere, applies-is, goes-is}
-use Rattle.search.proofs.DistanceLaws.{some-none, stepTo-none, stepTo-some, addStep-minutes}
-use Rattle.search.proofs.Distances.{through-applicable, through-not}
-use Rattle.search.proofs.EntryLaws.{low-near, some-distance, not-same, same-step, step-other, far-not-same}
+use Rattle.distances.proofs.DistanceLaws.{some-none, stepTo-none, stepTo-some, addStep-minutes}
+use Rattle.distances.proofs.Distances.{through-applicable, through-not}
+use Rattle.distances.proofs.EntryLaws.{low-near, some-distance, not-same, same-step, step-other, far-not-same}
 use Rattle.search.proofs.ReadOff.{tight, first-tight}
 
 -- by way of an action that costs more than an entry has minutes there is none

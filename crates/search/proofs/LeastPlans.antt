@@ -15,13 +15,13 @@ use Rattle.files.proofs.Valid.{Valid, task-valid}
 use Rattle.plans.specs.State.{State, startState}
 use Rattle.plans.specs.Plan.{IsPlan, Total, addStep, totalOf, atMost, Best, FirstBest}
 use Rattle.plans.proofs.RunLaws.{Runs, runs-plan, plan-runs}
-use Rattle.search.specs.States.{stateCount, stateAt}
-use Rattle.search.specs.Table.{Distance, distances}
-use Rattle.search.specs.FirstPlan.{stepsFrom, startNumber, whereReached, firstPlan}
+use Rattle.distances.specs.States.{stateCount, stateAt}
+use Rattle.distances.specs.Table.{Distance, distances, startNumber}
+use Rattle.search.specs.FirstPlan.{stepsFrom, whereReached, firstPlan}
 use Rattle.search.specs.Least.{startedAt, DistanceLeast, PlanFirst, SearchLeast, SearchIsLeast}
-use Rattle.search.proofs.Radix.{state-past, start-below, start-state}
-use Rattle.search.proofs.DistanceLaws.{Le, le-atMost, atMost-le, le-antisym}
-use Rattle.search.proofs.Distances.{RunsFrom, to-states, to-numbers, distances-least, distances-none, distances-some, steps-few}
+use Rattle.distances.proofs.Radix.{state-past, start-below, start-state}
+use Rattle.distances.proofs.DistanceLaws.{Le, le-atMost, atMost-le, le-antisym}
+use Rattle.distances.proofs.Distances.{RunsFrom, to-states, to-numbers, distances-least, distances-none, distances-some, steps-few}
 use Rattle.search.proofs.ReadOff.{Found, found, steps-length}
 
 -- the task from another state on: its start state is that one, all else is as before

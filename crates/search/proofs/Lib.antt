@@ -1,11 +1,6 @@
 -- Laws about the crate's definitions: state numbers, the order on distances, and that the distances and the plan read
 -- off them are least over all lists.
 pub mod Computes
-pub mod Settled
-pub mod Radix
-pub mod DistanceLaws
-pub mod EntryLaws
-pub mod Distances
 pub mod ReadOff
 pub mod LeastPlans
 pub mod TableEntries
@@ -13,28 +8,10 @@ pub mod FoundLaws
 pub mod StageLaws
 pub mod PlanFiles
 pub mod SearchLaws
-pub mod RowNumbers
-pub mod StateLoops
-pub mod OneChange
-pub mod Predecessors
-pub mod OfferLoops
-pub mod OfferActions
-pub mod Settling
-pub mod Offering
-pub mod SettleLoops
-pub mod HeldStates
-pub mod Picking
-pub mod Blocks
-pub mod BoundLaws
-pub mod FactRowLaws
-pub mod FactBound
-pub mod Searching
 pub mod Hand
 pub mod EntrySlices
 pub mod Spelled
 pub mod TableFilling
-pub mod Goals
-pub mod Begun
 pub mod Going
 pub mod HereLoops
 pub mod Leading

@@ -19,12 +19,12 @@ use Rattle.files.proofs.Logic.{clash, split, split-le}
 use Rattle.files.proofs.Placed.{placed-overwrite}
 use Rattle.files.proofs.Writing.{placed-record, placed-signed}
 use Rattle.reduction.specs.Preserved.{byOriginFile}
-use Rattle.search.specs.declared.Entry.{Entry}
+use Rattle.distances.specs.declared.Entry.{Entry}
 use Rattle.search.specs.declared.stages.Found.{Found}
 use Rattle.search.specs.declared.stages.Searched.{Searched}
-use Rattle.search.specs.Table.{stepsOf}
+use Rattle.distances.specs.Table.{stepsOf}
 use Rattle.search.specs.FirstPlan.{foundPlan}
-use Rattle.search.specs.Entries.{isNone}
+use Rattle.distances.specs.Entries.{isNone}
 use Rattle.search.specs.Found.{notFound, planBy, foundBy, headed, signedOff, Begins, CanFinish, Finishes}
 
 -- what the entry of the start state comes to, where the table is filled

@@ -35,16 +35,16 @@ use Rattle.reduction.specs.Reduce.{Buffers, withFiles, reduceFileStages}
 use Rattle.reduction.specs.Preserved.{Preserves}
 use Rattle.reduction.proofs.Answers.{stages-fit, buffers-fit}
 use Rattle.reduction.proofs.Preservation.{reduction-preserves, reduction-accepted}
-use Rattle.search.specs.declared.Entry.{Entry}
+use Rattle.distances.specs.declared.Entry.{Entry}
 use Rattle.search.specs.declared.Planned.{Planned}
-use Rattle.search.specs.States.{stateCount}
+use Rattle.distances.specs.States.{stateCount}
 use Rattle.search.specs.FirstPlan.{firstPlan}
 use Rattle.search.specs.Least.{startedAt, DistanceLeast, PlanFirst}
 use Rattle.search.specs.Planner.{planLevel, searched, planFound, statesFit, planFits, planMade, SearchBuffers, searchBuffers, searchStages, Lent, lent, planStages, planWhole, planAnswer, planAfter, Plans}
 use Rattle.search.specs.PlannerRight.{PlanLongEnough, HandedBack, EntryRight, PlannerRight, PlannerPromise, PlansRight}
-use Rattle.search.specs.Table.{minutesOf, distances, entryOf, tableOf}
+use Rattle.distances.specs.Table.{minutesOf, distances, entryOf, tableOf}
 use Rattle.search.proofs.Answers.{row-is}
-use Rattle.search.proofs.Distances.{distances-length, steps-few, minutes-few}
+use Rattle.distances.proofs.Distances.{distances-length, steps-few, minutes-few}
 use Rattle.search.proofs.LeastPlans.{search-least}
 
 -- an entry of the table of a task

@@ -15,12 +15,12 @@ use Rattle.files.proofs.Valid.{Valid}
 use Rattle.plans.specs.State.{allHold, applicable}
 use Rattle.plans.specs.Plan.{Total, noSteps, addStep, totalOf, notAfter}
 use Rattle.plans.proofs.OrderLaws.{total-steps}
-use Rattle.search.specs.States.{stateCount, stateAt}
-use Rattle.search.specs.Table.{Distance, same, stepTo, nextState, through, distances}
+use Rattle.distances.specs.States.{stateCount, stateAt}
+use Rattle.distances.specs.Table.{Distance, same, stepTo, nextState, through, distances}
 use Rattle.search.specs.FirstPlan.{firstAction, stepsFrom}
-use Rattle.search.proofs.Radix.{next-below}
-use Rattle.search.proofs.DistanceLaws.{Le, some-none, le-antisym, stepTo-keeps, stepTo-injective, stepTo-is-some, addStep-steps, same-is, is-same}
-use Rattle.search.proofs.Distances.{RunsFrom, step-total, total-none, through-applicable, through-not, distances-least, distances-some, distances-goal, distances-closed, steps-few}
+use Rattle.distances.proofs.Radix.{next-below}
+use Rattle.distances.proofs.DistanceLaws.{Le, some-none, le-antisym, stepTo-keeps, stepTo-injective, stepTo-is-some, addStep-steps, same-is, is-same}
+use Rattle.distances.proofs.Distances.{RunsFrom, step-total, total-none, through-applicable, through-not, distances-least, distances-some, distances-goal, distances-closed, steps-few}
 
 -- by way of action a the state has its distance
 abbrev pub tight : Task → List Distance → ℕ → ℕ → Bool

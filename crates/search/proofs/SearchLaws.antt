@@ -23,21 +23,21 @@ use Rattle.plans.specs.Plan.{Total, noSteps, totalOf}
 use Rattle.plans.specs.State.{allHold}
 use Rattle.reduction.specs.declared.Reduced.{Reduced}
 use Rattle.reduction.specs.Preserved.{byOriginFile}
-use Rattle.search.specs.declared.Entry.{Entry}
+use Rattle.distances.specs.declared.Entry.{Entry}
 use Rattle.search.specs.declared.stages.Found.{Found}
 use Rattle.search.specs.declared.stages.Searched.{Searched}
-use Rattle.search.specs.States.{stateCount, stateAt}
-use Rattle.search.specs.Table.{minutesOf, stepsOf, entryOf, distances, tableOf}
-use Rattle.search.specs.FirstPlan.{startNumber, firstPlan, foundPlan}
-use Rattle.search.specs.Entries.{mostNumbers, isNone, entryTotal, entriesIn, tableEntry, CanFill}
-use Rattle.search.specs.Rows.{rowStates}
+use Rattle.distances.specs.States.{stateCount, stateAt}
+use Rattle.distances.specs.Table.{minutesOf, stepsOf, entryOf, distances, tableOf, startNumber}
+use Rattle.search.specs.FirstPlan.{firstPlan, foundPlan}
+use Rattle.distances.specs.Entries.{mostNumbers, isNone, entryTotal, entriesIn, tableEntry, CanFill}
+use Rattle.distances.specs.Rows.{rowStates}
 use Rattle.lookup.specs.FactRows.{CheapRow}
 use Rattle.search.specs.ReadOff.{CanStep, StepsToWrite, PlanIn, StepsWritten}
 use Rattle.search.specs.Planner.{statesFit, planFits, searchBuffers}
 use Rattle.search.specs.Found.{notFound, foundWhole, Searches, CanSearchFiles, SearchesFiles, TableFound, SearchedFiles, planBy, foundBy, Begins, Finishes}
-use Rattle.search.proofs.Radix.{start-below}
-use Rattle.search.proofs.RowNumbers.{states-count}
-use Rattle.search.proofs.Distances.{steps-few}
+use Rattle.distances.proofs.Radix.{start-below}
+use Rattle.distances.proofs.RowNumbers.{states-count}
+use Rattle.distances.proofs.Distances.{steps-few}
 use Rattle.search.proofs.ReadOff.{leads-on, goal-no-steps, steps-length}
 use Rattle.search.proofs.TableEntries.{table-entry, entry-low, start-none, start-distance}
 use Rattle.search.proofs.LeastPlans.{stepsRead}

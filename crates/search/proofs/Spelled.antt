@@ -14,7 +14,7 @@ use denote.Array.{Array, array-vals, array-tells}
 use denote.Steps.{only}
 use denote.Struct.Laws as LL
 use Rattle.files.specs.declared.units.Steps.{Steps}
-use Rattle.search.specs.declared.Entry.{Entry}
+use Rattle.distances.specs.declared.Entry.{Entry}
 use Rattle.search.specs.declared.Planned.{Planned}
 use Rattle.search.specs.declared.first_plan.Step.{Step}
 use Rattle.search.specs.declared.stages.Found.{Found}
@@ -22,7 +22,7 @@ use Rattle.search.specs.declared.stages.Searched.{Searched}
 use Rattle.files.proofs.units.Steps as N₀
 use Rattle.files.proofs.units.Steps.Laws as N′
 use Rattle.reduction.proofs.Reduced as D₀
-use Rattle.search.proofs.Entry.Laws as T′
+use Rattle.distances.proofs.Entry.Laws as T′
 use Rattle.search.proofs.Planned as P₀
 use Rattle.search.proofs.Planned.Laws as P′
 use Rattle.search.proofs.first_plan.Step as St₀

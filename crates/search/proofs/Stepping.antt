@@ -18,24 +18,24 @@ use Rattle.files.proofs.Writing.{placed-u16-then}
 use Rattle.plans.specs.Plan.{Total, noSteps, addStep}
 use Rattle.plans.specs.State.{allHold}
 use Rattle.reduction.specs.Preserved.{byOriginFile}
-use Rattle.search.specs.States.{stateCount, stateAt}
-use Rattle.search.specs.Table.{minutesOf, distances, nextState}
-use Rattle.search.specs.FirstPlan.{startNumber, stepsFrom, foundPlan}
-use Rattle.search.specs.declared.Entry.{Entry}
+use Rattle.distances.specs.States.{stateCount, stateAt}
+use Rattle.distances.specs.Table.{minutesOf, distances, nextState, startNumber}
+use Rattle.search.specs.FirstPlan.{stepsFrom, foundPlan}
+use Rattle.distances.specs.declared.Entry.{Entry}
 use Rattle.search.specs.declared.first_plan.Step.{Step}
 use Rattle.search.specs.declared.stages.Searched.{Searched}
-use Rattle.search.specs.Entries.{entryTotal}
-use Rattle.search.specs.Rows.{rowStates}
+use Rattle.distances.specs.Entries.{entryTotal}
+use Rattle.distances.specs.Rows.{rowStates}
 use Rattle.search.specs.ReadOff.{HereOf, CanKnow, goesBy, CanLead, Leads, FirstLed, CanPut, StepPut, CanStep, StepsToWrite, PlanIn, StepsWritten}
-use Rattle.search.proofs.Radix.{start-below}
-use Rattle.search.proofs.RowNumbers.{states-count}
-use Rattle.search.proofs.Distances.{steps-few, minutes-few}
+use Rattle.distances.proofs.Radix.{start-below}
+use Rattle.distances.proofs.RowNumbers.{states-count}
+use Rattle.distances.proofs.Distances.{steps-few, minutes-few}
 use Rattle.search.proofs.ReadOff.{tight, actionFrom, LeadsOn, leads-on, steps-more, goal-no-steps, steps-length-within}
-use Rattle.search.proofs.DistanceLaws.{addStep-minutes}
+use Rattle.distances.proofs.DistanceLaws.{addStep-minutes}
 use Rattle.search.proofs.Leading.{not-passed}
 use Rattle.search.proofs.LeastPlans.{first-plan-some}
 use Rattle.search.proofs.Going.{can-go, goes-below, goes-is}
-use Rattle.search.proofs.EntryLaws.{near-some, Within, within-near, within-low, within-total, total-is, some-distance}
+use Rattle.distances.proofs.EntryLaws.{near-some, Within, within-near, within-low, within-total, total-is, some-distance}
 use Rattle.search.proofs.FoundLaws.{plan-is}
 
 -- i steps of a task's plan are written into a buffer that was `plan`; the rest leads on from state s

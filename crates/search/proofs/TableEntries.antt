@@ -13,15 +13,15 @@ use Rattle.files.proofs.BelowLaws.{map-entry}
 use Rattle.files.proofs.Logic.{clash, split-option}
 use Rattle.files.proofs.Valid.{Valid}
 use Rattle.plans.specs.Plan.{Total}
-use Rattle.search.specs.declared.Entry.{Entry}
-use Rattle.search.specs.States.{stateCount}
-use Rattle.search.specs.Table.{entryOf, distances, tableOf}
-use Rattle.search.specs.FirstPlan.{startNumber, firstPlan}
-use Rattle.search.specs.Entries.{noEntry, isNone, entryTotal, Low, tableEntry}
-use Rattle.search.proofs.EntryLaws.{near-some, Within, within-low, within-near, within-total, total-is, some-distance}
-use Rattle.search.proofs.Radix.{start-below}
+use Rattle.distances.specs.declared.Entry.{Entry}
+use Rattle.distances.specs.States.{stateCount}
+use Rattle.distances.specs.Table.{entryOf, distances, tableOf, startNumber}
+use Rattle.search.specs.FirstPlan.{firstPlan}
+use Rattle.distances.specs.Entries.{noEntry, isNone, entryTotal, Low, tableEntry}
+use Rattle.distances.proofs.EntryLaws.{near-some, Within, within-low, within-near, within-total, total-is, some-distance}
+use Rattle.distances.proofs.Radix.{start-below}
 use Rattle.search.proofs.LeastPlans.{first-plan-none}
-use Rattle.search.proofs.Distances.{distances-length, steps-few, minutes-few}
+use Rattle.distances.proofs.Distances.{distances-length, steps-few, minutes-few}
 
 -- the front of a lent table
 pub table-entry : (t : Task) (old : List Entry) (s : ℕ) → s < stateCount (t .variables) → tableEntry (overwrite old (tableOf t)) s ≡ entryOf (getD (distances t) s none)

@@ -9,8 +9,8 @@ use Rattle.files.specs.Below.{tabulateFrom}
 use Rattle.files.specs.Outcome.{overwrite}
 use Rattle.files.proofs.Placed.{overwrite-length}
 use Rattle.files.proofs.Tabulate.{tabulateFrom-length, tabulate-entry}
-use Rattle.search.specs.declared.Entry.{Entry}
-use Rattle.search.specs.Entries.{noEntry, entryIn, entriesIn, tableEntry}
+use Rattle.distances.specs.declared.Entry.{Entry}
+use Rattle.distances.specs.Entries.{noEntry, entryIn, entriesIn, tableEntry}
 
 -- one entry more at the front of a list
 next-front : {A : Type 0} (f : ℕ → A) (k i : ℕ) (old : List A) → i < length old → set (tabulateFrom k i f ++ drop i old) i (f (k + i)) ≡ tabulateFrom k (suc i) f ++ drop (suc i) old

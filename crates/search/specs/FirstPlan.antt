@@ -5,9 +5,9 @@ use mathlib.Core.List.{List, [], _∷_}
 use mathlib.Core.Option.{Option, none, some, Option·getD}
 use lib.ListN.{getD}
 use Rattle.files.specs.Task.{Task, actionCount}
-use Rattle.plans.specs.State.{startState, allHold}
-use Rattle.search.specs.States.{stateCount, stateNumber, stateAt}
-use Rattle.search.specs.Table.{Distance, same, through, nextState, distances}
+use Rattle.plans.specs.State.{allHold}
+use Rattle.distances.specs.States.{stateCount, stateAt}
+use Rattle.distances.specs.Table.{startNumber, Distance, same, through, nextState, distances}
 
 -- the first action, of `count` from a on, by which the state has its distance
 unfoldable pub firstAction : Task → List Distance → ℕ → ℕ → ℕ → ℕ
@@ -23,9 +23,6 @@ stepsFrom t row n (suc limit) =
     let a = firstAction t row n 0 (actionCount t) in
     let more = a ∷ stepsFrom t row (nextState t a n) limit in
     cond (allHold (t .goal) (stateAt (t .variables) n)) [] more
-
-unfoldable pub startNumber : Task → ℕ
-startNumber t = stateNumber (t .variables) (startState t)
 
 abbrev pub whereReached : Distance → List ℕ → Option (List ℕ)
 whereReached none plan = none

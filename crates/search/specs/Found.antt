@@ -20,15 +20,15 @@ use Rattle.plans.specs.Plan.{totalOf}
 use Rattle.reduction.specs.Preserved.{byOriginFile}
 use Rattle.reduction.specs.Reduce.{Buffers}
 use Rattle.reduction.specs.declared.Reduced.{Reduced}
-use Rattle.search.specs.States.{stateCount}
-use Rattle.search.specs.Table.{minutesOf, stepsOf, tableOf}
-use Rattle.search.specs.Entries.{isNone, Holds, tableEntry}
+use Rattle.distances.specs.States.{stateCount}
+use Rattle.distances.specs.Table.{minutesOf, stepsOf, tableOf, startNumber}
+use Rattle.distances.specs.Entries.{isNone, Holds, tableEntry}
 use Rattle.lookup.specs.FactRows.{mostWords, CheapRow}
 use Rattle.lookup.specs.Moves.{mostMoves}
-use Rattle.search.specs.FirstPlan.{startNumber, firstPlan, foundPlan}
+use Rattle.search.specs.FirstPlan.{firstPlan, foundPlan}
 use Rattle.search.specs.ReadOff.{Stepped}
 use Rattle.search.specs.Planner.{statesFit, SearchBuffers, searchStages, unplanned, lent, Plans}
-use Rattle.search.specs.declared.Entry.{Entry}
+use Rattle.distances.specs.declared.Entry.{Entry}
 use Rattle.search.specs.declared.Planned.{Planned}
 use Rattle.search.specs.declared.stages.Found.{Found}
 use Rattle.search.specs.declared.stages.Searched.{Searched}

@@ -9,9 +9,9 @@ use Rattle.files.specs.Accepted.{acceptedTask}
 use Rattle.files.specs.Below.{tabulate}
 use Rattle.files.specs.Task.{Task, variable, variableCount, sizeOf}
 use Rattle.plans.specs.Plan.{IsPlan, totalOf, Best, FirstBest}
-use Rattle.search.specs.States.{stateCount, stateAt}
-use Rattle.search.specs.Table.{Distance, distances}
-use Rattle.search.specs.FirstPlan.{startNumber, firstPlan}
+use Rattle.distances.specs.States.{stateCount, stateAt}
+use Rattle.distances.specs.Table.{Distance, distances, startNumber}
+use Rattle.search.specs.FirstPlan.{firstPlan}
 
 -- the task from another state on
 unfoldable pub startedAt : Task → ℕ → Task

@@ -14,10 +14,10 @@ use Rattle.plans.specs.Plan.{totalOf}
 use Rattle.marking.specs.Rounds.{marking}
 use Rattle.reduction.specs.Task.{reducedTask, byOriginal}
 use Rattle.reduction.specs.Reduce.{Buffers, buffers, withFiles, reducedFile, originsFile, reduceFileStages}
-use Rattle.search.specs.States.{stateCount}
-use Rattle.search.specs.Table.{tableOf}
+use Rattle.distances.specs.States.{stateCount}
+use Rattle.distances.specs.Table.{tableOf}
 use Rattle.search.specs.FirstPlan.{firstPlan}
-use Rattle.search.specs.declared.Entry.{Entry}
+use Rattle.distances.specs.declared.Entry.{Entry}
 use Rattle.search.specs.declared.Planned.{Planned}
 
 -- the planner marks and reduces at level 4

@@ -16,11 +16,11 @@ use Rattle.files.specs.TaskFile.{checkTask, taskOf}
 use Rattle.plans.specs.Plan.{IsPlan, totalOf, Best, FirstBest}
 use Rattle.reduction.specs.Task.{reducedTask}
 use Rattle.reduction.specs.Answers.{LongEnough}
-use Rattle.search.specs.States.{stateCount}
-use Rattle.search.specs.Table.{minutesOf, stepsOf, entryOf}
+use Rattle.distances.specs.States.{stateCount}
+use Rattle.distances.specs.Table.{minutesOf, stepsOf, entryOf}
 use Rattle.search.specs.Least.{startedAt}
 use Rattle.search.specs.Planner.{planLevel, Lent, Plans, planAnswer}
-use Rattle.search.specs.declared.Entry.{Entry}
+use Rattle.distances.specs.declared.Entry.{Entry}
 use Rattle.search.specs.declared.Planned.{Planned}
 
 -- the buffers are long enough for the planner: where no plan exists, every plan buffer is

@@ -14,15 +14,15 @@ use Rattle.files.specs.OriginFile.{originOf, originActionsPlace}
 use Rattle.files.specs.Records.{numberBytes}
 use Rattle.files.specs.Task.{Action, Task, actionCount, actionOf}
 use Rattle.reduction.specs.Preserved.{byOriginFile}
-use Rattle.search.specs.States.{stateCount}
-use Rattle.search.specs.Table.{minutesOf, stepsOf, entryOf, same, through, distances}
-use Rattle.search.specs.FirstPlan.{firstAction, startNumber, foundPlan}
-use Rattle.search.specs.Entries.{isNone, sameEntry, afterStep, Low}
-use Rattle.search.specs.Rows.{rowVariables, rowStates, rowState, FewStates, Searchable}
+use Rattle.distances.specs.States.{stateCount}
+use Rattle.distances.specs.Table.{minutesOf, stepsOf, entryOf, same, through, distances, startNumber}
+use Rattle.search.specs.FirstPlan.{firstAction, foundPlan}
+use Rattle.distances.specs.Entries.{isNone, sameEntry, afterStep, Low}
+use Rattle.distances.specs.Rows.{rowVariables, rowStates, rowState, FewStates, Searchable}
 use Rattle.lookup.specs.Moves.{rowWeight, MovesOf}
 use Rattle.bits.specs.Sets.{inWord, inWords}
 use Rattle.lookup.specs.FactRows.{mostFacts, factNumber, FewFacts, RowsByFact, mostWords, CheapRow}
-use Rattle.search.specs.declared.Entry.{Entry}
+use Rattle.distances.specs.declared.Entry.{Entry}
 use Rattle.search.specs.declared.first_plan.Step.{Step}
 use Rattle.search.specs.declared.stages.Searched.{Searched}
 

@@ -1,27 +1,12 @@
 // Search over the states of the reduced task, and the planner.
 // The call open to callers is plan; the module own_table serves the programs.
-mod bounds;
-mod entries;
 mod first_plan;
-mod goal;
 pub mod own_table;
-mod selection;
 mod stages;
-mod states;
-mod steps_to;
-mod table;
 mod work_table;
 
 ghost use Rattle.search.specs.Planner.{lentOf};
 ghost use Rattle.search.specs.PlannerRight.{PlansRight};
-
-// An entry of the work table: the least cost to the goal from a state, then the fewest steps at
-// that cost; 2^64 - 1 and 65,535 where the goal cannot be reached. C callers lend such tables.
-#[repr(C)]
-pub struct Entry {
-    pub minutes: plans::Minutes,
-    pub steps: plans::Steps,
-}
 
 // What the planner answers: the six lengths written, the round count, cost and steps, 0 beside a
 // refusal.
@@ -47,7 +32,7 @@ pub fn plan(
     facts: &mut [u8],
     reduced: &mut [u8],
     origin: &mut [u8],
-    table: &mut [Entry],
+    table: &mut [distances::Entry],
     plan: &mut [u8],
 ) -> Planned
     ensures { λ r. ⌜ PlansRight (now (task .entry)) signer (lentOf (now (actions .entry)) (now (facts .entry)) (now (reduced .entry)) (now (origin .entry)) (now (table .entry)) (now (plan .entry))) r (lentOf (now (actions .exit)) (now (facts .exit)) (now (reduced .exit)) (now (origin .exit)) (now (table .exit)) (now (plan .exit))) ⌝ }

@@ -2,7 +2,7 @@
 ghost use Rattle.reduction.specs.Reduce.{buffers};
 ghost use Rattle.search.specs.Found.{PlansAlone};
 use crate::Planned;
-use crate::entries;
+use distances::entries;
 
 // Plans as the planner does, with a table that is long enough for every task.
 pub fn plan(

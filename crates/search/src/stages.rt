@@ -2,14 +2,14 @@
 // and the plan file's head and end with the answer.
 ghost use mathlib.Core.Path.{_≡_};
 ghost use Rattle.files.specs.Dense.{held, arrays};
-ghost use Rattle.search.specs.Entries.{entriesIn};
+ghost use Rattle.distances.specs.Entries.{entriesIn};
 ghost use Rattle.search.specs.Planner.{unplanned};
 ghost use Rattle.search.specs.Found.{unsearched, notFound, bothTogether, CanSearchFiles, CanSearchIn, CanSearchArrays, SearchedIn, SearchedFiles, Begins, CanFinish, Finishes};
-use crate::Entry;
+use distances::Entry;
 use crate::Planned;
-use crate::entries;
-use crate::states;
-use crate::table;
+use distances::entries;
+use distances::states;
+use distances::table;
 use files::outcomes;
 use lookup::fact_rows;
 use lookup::moves;

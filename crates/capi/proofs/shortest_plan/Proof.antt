@@ -41,7 +41,7 @@ use denote.Triple.Table.{entered, cited}
 use denote.Triple.Walked.{says, Stays, stay-dropped, gave-ref, gave-slice, walkOf, goes-dropped, goes-gave-ref, goes-gave-slice, Walks, ends-at, walked, walk-meets}
 use denote.Exit.{yes}
 use Rattle.files.proofs.Stages.{by-other}
-use Rattle.search.specs.declared.Entry.{Entry}
+use Rattle.distances.specs.declared.Entry.{Entry}
 use Rattle.search.specs.declared.Planned.{Planned}
 use Rattle.search.specs.Planner.{Lent, lentOf}
 use Rattle.search.specs.PlannerRight.{PlansRight}

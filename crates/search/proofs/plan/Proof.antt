@@ -44,7 +44,7 @@ use denote.Exit.{yes}
 use Rattle.files.specs.Bytes.{Octets}
 use Rattle.reduction.specs.Reduce.{Buffers, buffers, Reduces}
 use Rattle.reduction.specs.declared.Reduced.{Reduced}
-use Rattle.search.specs.declared.Entry.{Entry}
+use Rattle.distances.specs.declared.Entry.{Entry}
 use Rattle.search.specs.declared.Planned.{Planned}
 use Rattle.search.specs.declared.stages.Found.{Found}
 use Rattle.search.specs.Planner.{Lent, lentOf, planLevel, searchBuffers}

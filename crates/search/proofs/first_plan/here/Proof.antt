@@ -2,7 +2,7 @@
 use Prim.Native.Nat.{_-_, _≤_}
 use native.Mathlib.Omega.{arith}
 use denote.Ref.{now}
-use Rattle.search.proofs.RowNumbers.{weight-most}
+use Rattle.distances.proofs.RowNumbers.{weight-most}
 use Rattle.lookup.proofs.MoveLoops.{product-most}
 use Rattle.search.proofs.HereLoops.{Knowing, can-find, know-begin, know-next, know-end}
 use borrow.Author.Needs.{needs}

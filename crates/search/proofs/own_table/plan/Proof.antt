@@ -42,22 +42,22 @@ use denote.Triple.Table.{entered, cited}
 use denote.Triple.Walked.{says, Stays, stay-dropped, gave-slice, walkOf, goes-dropped, goes-gave-slice, Walks, ends-at, walked, walk-meets}
 use denote.Exit.{yes}
 use Rattle.reduction.specs.Reduce.{buffers}
-use Rattle.search.specs.declared.Entry.{Entry}
+use Rattle.distances.specs.declared.Entry.{Entry}
 use Rattle.search.specs.declared.Planned.{Planned}
 use Rattle.search.specs.Planner.{lentOf}
 use Rattle.search.specs.PlannerRight.{PlansRight}
 use Rattle.search.specs.Found.{PlansAlone}
-use Rattle.search.proofs.Entry as T₀
-use Rattle.search.proofs.Entry.Laws as T′
+use Rattle.distances.proofs.Entry as T₀
+use Rattle.distances.proofs.Entry.Laws as T′
 use Rattle.search.proofs.Planned as P₀
 use Rattle.search.proofs.Planned.Laws as P′
 use Rattle.search.proofs.EntrySlices.{R, vals, tells}
 use Rattle.search.proofs.Spelled.{P, planned-is, entry-is}
 use Rattle.search.proofs.Hand.{big-lit, ref, lend-array-mut, array-mut-home}
-use Rattle.search.proofs.entries.none as n
-use Rattle.search.proofs.entries.none.Symbol as n-def
-use Rattle.search.proofs.entries.none.Symbol.{name as #search·entries·none}
-use Rattle.search.proofs.entries.none.Met as n-thm
+use Rattle.distances.proofs.entries.none as n
+use Rattle.distances.proofs.entries.none.Symbol as n-def
+use Rattle.distances.proofs.entries.none.Symbol.{name as #search·entries·none}
+use Rattle.distances.proofs.entries.none.Met as n-thm
 use Rattle.search.proofs.plan as p
 use Rattle.search.proofs.plan.Symbol as p-def
 use Rattle.search.proofs.plan.Symbol.{name as #search·plan}

@@ -9,15 +9,15 @@ use Rattle.files.specs.Accepted.{acceptedTask}
 use Rattle.files.specs.Dense.{Arrays, held, arrays}
 use Rattle.files.specs.Outcome.{refusal}
 use Rattle.files.proofs.Guards.{refusal-number}
-use Rattle.search.specs.States.{stateCount}
-use Rattle.search.specs.Table.{minutesOf}
-use Rattle.search.specs.Rows.{FewStates}
+use Rattle.distances.specs.States.{stateCount}
+use Rattle.distances.specs.Table.{minutesOf}
+use Rattle.distances.specs.Rows.{FewStates}
 use Rattle.lookup.specs.FactRows.{CheapRow}
 use Rattle.search.specs.ReadOff.{StepTables}
-use Rattle.search.proofs.Radix.{start-below}
-use Rattle.search.proofs.RowNumbers.{weight-most}
+use Rattle.distances.proofs.Radix.{start-below}
+use Rattle.distances.proofs.RowNumbers.{weight-most}
 use Rattle.search.proofs.TableFilling.{entries-at}
-use Rattle.search.proofs.HeldStates.{held-valid, held-states, held-sizes, held-few, held-actions-few, held-facts, searchable}
+use Rattle.distances.proofs.HeldStates.{held-valid, held-states, held-sizes, held-few, held-actions-few, held-facts, searchable}
 use Rattle.search.proofs.FoundLaws.{states-many, table-short, states-fit, searched-refused, searched-done}
 use borrow.Author.Needs.{needs}
 use Rattle.search.proofs.stages.search_arrays.Statement.{statement}

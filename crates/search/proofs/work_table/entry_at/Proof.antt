@@ -40,17 +40,17 @@ use denote.Triple.Clauses.{ensured, lasts}
 use denote.Triple.Table.{entered, cited}
 use denote.Triple.Walked.{says, Stays, stay-none, stay-none-slice, walkOf, goes-none, goes-none-slice, Walks, ends-at, walked, walk-meets}
 use denote.Exit.{yes}
-use Rattle.search.specs.declared.Entry.{Entry}
-use Rattle.search.specs.Entries.{tableEntry, noEntry}
-use Rattle.search.proofs.Entry as T₀
-use Rattle.search.proofs.Entry.Laws as T′
+use Rattle.distances.specs.declared.Entry.{Entry}
+use Rattle.distances.specs.Entries.{tableEntry, noEntry}
+use Rattle.distances.proofs.Entry as T₀
+use Rattle.distances.proofs.Entry.Laws as T′
 use Rattle.search.proofs.EntrySlices.{R, vals, tells, place-entry, place-fits}
 use Rattle.search.proofs.Spelled.{word, shrTy}
 use Rattle.search.proofs.Hand.{ref, see, unsee}
-use Rattle.search.proofs.entries.none as g
-use Rattle.search.proofs.entries.none.Symbol as g-def
-use Rattle.search.proofs.entries.none.Symbol.{name as #search·entries·none}
-use Rattle.search.proofs.entries.none.Met as g-thm
+use Rattle.distances.proofs.entries.none as g
+use Rattle.distances.proofs.entries.none.Symbol as g-def
+use Rattle.distances.proofs.entries.none.Symbol.{name as #search·entries·none}
+use Rattle.distances.proofs.entries.none.Met as g-thm
 use Rattle.search.proofs.work_table.entry_at.Key.{name as #search·work-table·entry-at}
 use Rattle.search.proofs.work_table.entry_at as f
 use Rattle.search.proofs.work_table.entry_at.Statement as stated

@@ -45,18 +45,18 @@ use denote.Triple.Table.{entered, cited}
 use denote.Triple.Walked.{says, needs, Stays, stay-none, stay-slice, stay-none-slice, walkOf, goes-none, goes-slice, goes-none-slice, Walks, ends-at, walked, walk-meets}
 use denote.Exit.{yes}
 use Rattle.files.specs.Outcome.{overwrite}
-use Rattle.search.specs.declared.Entry.{Entry}
-use Rattle.search.specs.Entries.{entryIn, entriesIn, CanFill}
-use Rattle.search.proofs.Entry as T₀
-use Rattle.search.proofs.Entry.Laws as T′
+use Rattle.distances.specs.declared.Entry.{Entry}
+use Rattle.distances.specs.Entries.{entryIn, entriesIn, CanFill}
+use Rattle.distances.proofs.Entry as T₀
+use Rattle.distances.proofs.Entry.Laws as T′
 use Rattle.search.proofs.EntrySlices.{R, vals, tells, holds, fails}
 use Rattle.search.proofs.Spelled.{word, shrTy, mutTy, one-more}
 use Rattle.search.proofs.TableFilling.{filled-length, filled-none, filled-next}
 use Rattle.search.proofs.Hand.{ref, lend-on, get-back}
-use Rattle.search.proofs.entries.entry_at as g
-use Rattle.search.proofs.entries.entry_at.Symbol as g-def
-use Rattle.search.proofs.entries.entry_at.Symbol.{name as #search·entries·entry-at}
-use Rattle.search.proofs.entries.entry_at.Met as g-thm
+use Rattle.distances.proofs.entries.entry_at as g
+use Rattle.distances.proofs.entries.entry_at.Symbol as g-def
+use Rattle.distances.proofs.entries.entry_at.Symbol.{name as #search·entries·entry-at}
+use Rattle.distances.proofs.entries.entry_at.Met as g-thm
 use Rattle.search.proofs.work_table.put_entry as p
 use Rattle.search.proofs.work_table.put_entry.Symbol as p-def
 use Rattle.search.proofs.work_table.put_entry.Symbol.{name as #search·work-table·put-entry}

@@ -43,14 +43,14 @@ use denote.Triple.Table.{entered, cited}
 use denote.Triple.Walked.{says, needs, Stays, stay-none, stay-none-ref, stay-none-slice, walkOf, goes-none, goes-none-ref, goes-none-slice, Walks, ends-at, walked, walk-meets}
 use denote.Exit.{yes}
 use Rattle.search.specs.declared.first_plan.Step.{Step}
-use Rattle.search.specs.declared.Entry.{Entry}
+use Rattle.distances.specs.declared.Entry.{Entry}
 use Rattle.search.specs.declared.stages.Searched.{Searched}
-use Rattle.search.specs.Entries.{tableEntry}
+use Rattle.distances.specs.Entries.{tableEntry}
 use Rattle.search.specs.ReadOff.{CanStepFrom, StepFrom, CanCompare, LooksOn, CanLead, FirstLed}
 use Rattle.search.proofs.first_plan.Step as St₀
 use Rattle.search.proofs.first_plan.Step.Laws as St′
-use Rattle.search.proofs.Entry as T₀
-use Rattle.search.proofs.Entry.Laws as T′
+use Rattle.distances.proofs.Entry as T₀
+use Rattle.distances.proofs.Entry.Laws as T′
 use Rattle.search.proofs.stages.Searched as S₀
 use Rattle.search.proofs.stages.Searched.Laws as S′
 use Rattle.search.proofs.EntrySlices.{R, vals, tells}

@@ -34,10 +34,10 @@ use denote.Triple.Spec.{Meets, tripleOf}
 use denote.Triple.Table.{entered}
 use denote.Triple.Walked.{says, needs, Stays, stay-none, stay-slice, walkOf, goes-none, goes-slice, Walks, ends-at, walked, walk-meets}
 use denote.Exit.{yes}
-use Rattle.search.specs.declared.Entry.{Entry}
-use Rattle.search.specs.Entries.{noEntry}
-use Rattle.search.proofs.Entry as T₀
-use Rattle.search.proofs.Entry.Laws as T′
+use Rattle.distances.specs.declared.Entry.{Entry}
+use Rattle.distances.specs.Entries.{noEntry}
+use Rattle.distances.proofs.Entry as T₀
+use Rattle.distances.proofs.Entry.Laws as T′
 use Rattle.search.proofs.EntrySlices.{R, vals, tells, place-entry, place-fits}
 use Rattle.search.proofs.Hand.{ref, take, put-in}
 use Rattle.search.proofs.work_table.put_entry.Key.{name as #search·work-table·put-entry}

@@ -43,18 +43,18 @@ use denote.Triple.Table.{entered, cited}
 use denote.Triple.Walked.{says, needs, Stays, stay-dropped, stay-slice, gave-slice, walkOf, goes-dropped, goes-slice, goes-gave-slice, Walks, ends-at, walked, walk-meets}
 use denote.Exit.{yes}
 use Rattle.reduction.specs.declared.Reduced.{Reduced}
-use Rattle.search.specs.declared.Entry.{Entry}
+use Rattle.distances.specs.declared.Entry.{Entry}
 use Rattle.search.specs.declared.stages.Found.{Found}
 use Rattle.search.specs.declared.stages.Searched.{Searched}
-use Rattle.search.specs.Entries.{mostNumbers}
+use Rattle.distances.specs.Entries.{mostNumbers}
 use Rattle.search.specs.Planner.{searchBuffers}
 use Rattle.search.specs.Found.{CanSearchFiles, SearchesFiles, Finishes}
 use Rattle.files.proofs.units.Steps as N₀
 use Rattle.files.proofs.units.Steps.Laws as N′
 use Rattle.reduction.proofs.Reduced as D₀
 use Rattle.reduction.proofs.Reduced.Laws as D′
-use Rattle.search.proofs.Entry as T₀
-use Rattle.search.proofs.Entry.Laws as T′
+use Rattle.distances.proofs.Entry as T₀
+use Rattle.distances.proofs.Entry.Laws as T′
 use Rattle.search.proofs.stages.Searched as S₀
 use Rattle.search.proofs.stages.Searched.Laws as S′
 use Rattle.search.proofs.stages.Found as F₀

@@ -48,9 +48,9 @@ use denote.Triple.Walked.{says, needs, Stays, stay-none, stay-none-ref, stay-sli
 use denote.Exit.{yes}
 use Rattle.files.specs.declared.units.Steps.{Steps}
 use Rattle.search.specs.declared.first_plan.Step.{Step}
-use Rattle.search.specs.declared.Entry.{Entry}
+use Rattle.distances.specs.declared.Entry.{Entry}
 use Rattle.search.specs.declared.stages.Searched.{Searched}
-use Rattle.search.specs.Entries.{tableEntry}
+use Rattle.distances.specs.Entries.{tableEntry}
 use Rattle.search.specs.ReadOff.{HereOf, CanKnow, CanLead, FirstLed, CanPut, StepPut, CanStep, StepsToWrite, StepsWritten}
 use Rattle.files.proofs.units.Steps as N₀
 use Rattle.files.proofs.units.Steps.Laws as N′

@@ -33,18 +33,18 @@ use denote.Triple.Walked.{says}
 use Rattle.files.specs.Outcome.{overwrite}
 use Rattle.files.specs.declared.units.Steps.{Steps}
 use Rattle.reduction.specs.declared.Reduced.{Reduced}
-use Rattle.search.specs.declared.Entry.{Entry}
+use Rattle.distances.specs.declared.Entry.{Entry}
 use Rattle.search.specs.declared.stages.Found.{Found}
 use Rattle.search.specs.declared.stages.Searched.{Searched}
-use Rattle.search.specs.Entries.{mostNumbers, entriesIn, tableEntry, CanFill}
+use Rattle.distances.specs.Entries.{mostNumbers, entriesIn, tableEntry, CanFill}
 use Rattle.search.specs.ReadOff.{StepsToWrite, StepsWritten}
 use Rattle.search.specs.Found.{CanSearchFiles, SearchedFiles, Begins, CanFinish}
 use Rattle.files.proofs.units.Steps as N₀
 use Rattle.files.proofs.units.Steps.Laws as N′
 use Rattle.reduction.proofs.Reduced as D₀
 use Rattle.reduction.proofs.Reduced.Laws as D′
-use Rattle.search.proofs.Entry as T₀
-use Rattle.search.proofs.Entry.Laws as T′
+use Rattle.distances.proofs.Entry as T₀
+use Rattle.distances.proofs.Entry.Laws as T′
 use Rattle.search.proofs.stages.Searched as S₀
 use Rattle.search.proofs.stages.Searched.Laws as S′
 use Rattle.search.proofs.stages.Found as F₀

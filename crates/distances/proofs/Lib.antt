@@ -1,0 +1,24 @@
+-- Laws about the crate's definitions: state numbers, the order on distances, and that the search ends in the table.
+pub mod Settled
+pub mod Radix
+pub mod DistanceLaws
+pub mod EntryLaws
+pub mod Distances
+pub mod RowNumbers
+pub mod StateLoops
+pub mod OneChange
+pub mod Predecessors
+pub mod OfferLoops
+pub mod OfferActions
+pub mod Settling
+pub mod Offering
+pub mod SettleLoops
+pub mod HeldStates
+pub mod Picking
+pub mod Blocks
+pub mod BoundLaws
+pub mod FactRowLaws
+pub mod FactBound
+pub mod Searching
+pub mod Goals
+pub mod Begun
