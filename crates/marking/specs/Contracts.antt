@@ -36,6 +36,11 @@ pub record ActionAmong (variables actions a : ℕ) : Type 0 where
   pub limits : WithinLimits variables actions
   pub known : a < 512
 
+-- an action of a task, and a number to begin with
+pub record ActionFrom (variables actions a from : ℕ) : Type 0 where
+  pub among : ActionAmong variables actions a
+  pub start : from ≤ actions
+
 -- two actions
 pub record TwoActions (variables b a : ℕ) : Type 0 where
   pub fewVariables : variables ≤ 64

@@ -4,10 +4,11 @@ ghost use Prim.Native.Nat.{ℕ, _<_};
 ghost use mathlib.Core.Bool.{_&&_, not};
 ghost use lib.Dec.{eqb};
 ghost use lib.ListN.{getD};
+ghost use Rattle.bits.specs.Sets.{FirstFrom};
 ghost use Rattle.files.specs.Below.{bit};
 ghost use Rattle.files.specs.Contracts.{WithinLimits};
-ghost use Rattle.marking.specs.Contracts.{ActionAmong, TwoActions, TwoRows, CovererIs};
-ghost use Rattle.marking.specs.Dense.{unlike, keptAlike, coveredAt, countedAt};
+ghost use Rattle.marking.specs.Contracts.{ActionAmong, ActionFrom, TwoActions, TwoRows, CovererIs};
+ghost use Rattle.marking.specs.Dense.{unlike, keptAlike, coversAt, coveredAt, countedAt};
 use crate::cells;
 use crate::rounds::Scope;
 use bits::sets;
@@ -69,7 +70,7 @@ fn is_kept_alike(
         == 0
 }
 
-// The first action that covers a, or `actions`: only those that could are tried.
+// The first action from `from` on that covers a, or `actions`: only those that could are tried.
 fn find_coverer(
     scope: Scope,
     kept: &[u8; 512],
@@ -77,13 +78,14 @@ fn find_coverer(
     effects: &[u8; 32768],
     tracked: &[u8; 64],
     a: usize,
+    from: usize,
 ) -> usize
-    requires { ⌜ ActionAmong (scope .variables) (scope .actions) a ⌝ }
-    ensures { λ r. ⌜ CovererIs r (scope .actions) (coveredAt (now (kept .entry)) (now («could_cover» .entry)) (now (effects .entry)) (now (tracked .entry)) (scope .variables) (scope .actions) a) ⌝ }
+    requires { ⌜ ActionFrom (scope .variables) (scope .actions) a from ⌝ }
+    ensures { λ r. ⌜ FirstFrom (λ b. coversAt (now (kept .entry)) (now («could_cover» .entry)) (now (effects .entry)) (now (tracked .entry)) (scope .variables) b a) (scope .actions) from r ⌝ }
 {
     let variables = scope.variables;
     let actions = scope.actions;
-    let mut b = sets::next_in(could_cover, 8 * a, 0, actions);
+    let mut b = sets::next_in(could_cover, 8 * a, from, actions);
     while b < actions {
         if is_kept_alike(kept, effects, tracked, variables, b, a) {
             return b;
@@ -93,7 +95,7 @@ fn find_coverer(
     actions
 }
 
-// An action that covers a, or `actions`: the one that did so before is tried first.
+// An action that covers a, or `actions`: sought from the one that did so before on, then from the first.
 fn coverer(
     scope: Scope,
     kept: &[u8; 512],
@@ -106,16 +108,16 @@ fn coverer(
     requires { ⌜ ActionAmong (scope .variables) (scope .actions) a ⌝ }
     ensures { λ r. ⌜ CovererIs r (scope .actions) (coveredAt (now (kept .entry)) (now («could_cover» .entry)) (now (effects .entry)) (now (tracked .entry)) (scope .variables) (scope .actions) a) ⌝ }
 {
-    let variables = scope.variables;
     let first = before as usize;
-    if first < scope.actions {
-        if sets::has(could_cover, 8 * a, first) {
-            if is_kept_alike(kept, effects, tracked, variables, first, a) {
-                return first;
+    if 0 < first {
+        if first < scope.actions {
+            let found = find_coverer(scope, kept, could_cover, effects, tracked, a, first);
+            if found < scope.actions {
+                return found;
             }
         }
     }
-    find_coverer(scope, kept, could_cover, effects, tracked, a)
+    find_coverer(scope, kept, could_cover, effects, tracked, a, 0)
 }
 
 // Whether F has or gains the conditions of an action. What covers it is kept in `coverers`.
