@@ -1,6 +1,6 @@
 -- The loops over the variables of a state: from one turn to the next, and at the end.
 use Prim.Native.Nat.{ℕ, suc, _+_, _-_, _*_, _/_, _%_, _≤_, _<_}
-use mathlib.Core.Path.{_≡_, refl, sym, ap, ap₂, fun-ext, _∙_}
+use mathlib.Core.Path.{_≡_, refl, sym, ap, ap₂, subst, fun-ext, _∙_}
 use mathlib.Core.List.{List, []}
 use native.Mathlib.Omega.{arith}
 use native.Mathlib.Nat.{add-zero, zero-add, mul-le-mul-left, mul-comm, mod-lt}
@@ -132,8 +132,8 @@ module _ (sizes : List ℕ) (n state : ℕ) where
         ∙ c .left (suc w)
         ∙ ap (stateAt (rowVariables n sizes []) state) e
 
-    pub decode-next : Decoding sizes n state (set values v (rest % d)) (rest / d) (v + 1)
-    decode-next =
+    decoded : Decoding sizes n state (set values v (rest % d)) (rest / d) (v + 1)
+    decoded =
         record {
           before = filled-before values v (rest % d) (λ w x. x ≡ stateAt (rowVariables n sizes []) state w) (omega (arith, c .full)) (c .before) value;
           behind = filled-after values v (rest % d) (λ w x. x ≡ 0) (c .behind);
@@ -141,6 +141,9 @@ module _ (sizes : List ℕ) (n state : ℕ) where
           within = omega arith;
           full = length-set values v (rest % d) ∙ c .full;
         }
+
+    pub decode-next : (x y : ℕ) → x ≡ rest % d → y ≡ rest / d → Decoding sizes n state (set values v x) y (v + 1)
+    decode-next x y e f = subst (λ (z : ℕ). Decoding sizes n state (set values v x) z (v + 1)) (sym f) (subst (λ (z : ℕ). Decoding sizes n state (set values v z) (rest / d) (v + 1)) (sym e) decoded)
 
   pub decode-end : (values : List ℕ) (rest v : ℕ) → Decoding sizes n state values rest v → n ≤ v → (starts : List ℕ) → listState values ≡ stateAt (rowVariables n sizes starts) state
   unfolding listState

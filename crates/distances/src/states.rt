@@ -1,7 +1,7 @@
 // States of the task that arrays hold, numbered in mixed radix.
 ghost use mathlib.Core.Path.{_≡_};
 ghost use mathlib.Core.List.{List};
-ghost use Prim.Native.Nat.{ℕ, _<_};
+ghost use Prim.Native.Nat.{ℕ, _/_, _%_, _≤_, _<_};
 ghost use lib.ListN.{getD};
 ghost use Rattle.plans.specs.Tally.{listState};
 ghost use Rattle.distances.specs.States.{stateNumber, stateAt};
@@ -43,6 +43,29 @@ pub fn start_number(sizes: &[u8; 64], starts: &[u8; 64], variables: usize) -> us
     number
 }
 
+// The value of a variable of so many values in a state of which the variables before are divided out.
+// Most have two values, for which no division is made.
+fn value_in(rest: usize, size: usize) -> usize
+    requires { ⌜ 1 ≤ size ⌝ }
+    ensures { λ r. ⌜ r ≡ rest % size ⌝ }
+{
+    if size == 2 {
+        return rest % 2;
+    }
+    rest % size
+}
+
+// The state without that variable.
+fn without(rest: usize, size: usize) -> usize
+    requires { ⌜ 1 ≤ size ⌝ }
+    ensures { λ r. ⌜ r ≡ rest / size ⌝ }
+{
+    if size == 2 {
+        return rest / 2;
+    }
+    rest / size
+}
+
 // The values of the variables in a state; 0 past the last variable.
 pub fn values_of(sizes: &[u8; 64], variables: usize, state: usize) -> [u8; 64]
     requires { ⌜ Sized variables (now sizes) ⌝ }
@@ -53,8 +76,8 @@ pub fn values_of(sizes: &[u8; 64], variables: usize, state: usize) -> [u8; 64]
     let mut v: usize = 0;
     while v < variables {
         let size = bytes::byte_at(sizes, v);
-        values[v] = (rest % size) as u8;
-        rest = rest / size;
+        values[v] = value_in(rest, size) as u8;
+        rest = without(rest, size);
         v += 1;
     }
     values

@@ -22,20 +22,20 @@ loop-holds c = decode-begin _ _ _ _ (zeros-entry 64) refl
 byte-at-requires : tie.Need-byte-at-requires Inv-loop μ-loop
 byte-at-requires c κs = search needs
 
-rem-values : tie.Need-rem-values Inv-loop μ-loop
-rem-values c = omega (arith, c .byte-at .ensures .is, c .before .before .before .before .pre .least (c .before .before .before .loop .v) (c .before .before .loop-test .taken))
+value-in-requires : tie.Need-value-in-requires Inv-loop μ-loop
+value-in-requires c κs = omega (arith, c .byte-at .ensures .is, c .before .before .before .before .pre .least (c .before .before .before .loop .v) (c .before .before .loop-test .taken))
 
 cast-values : tie.Need-cast-values Inv-loop μ-loop
 cast-values c =
-    let l = c .before .before .before .loop in
-    let start = c .before .before .before .before in
-    omega (arith, digit-below (now (start .args .sizes)) (start .args .variables) (l .rest) (l .v) (c .byte-at .result) (start .pre .least) (c .before .before .loop-test .taken) (c .byte-at .ensures .is) (c .byte-at .ensures .below))
+    let l = c .before .before .before .before .loop in
+    let start = c .before .before .before .before .before in
+    omega (arith, c .value-in .ensures, digit-below (now (start .args .sizes)) (start .args .variables) (l .rest) (l .v) (c .before .byte-at .result) (start .pre .least) (c .before .before .before .loop-test .taken) (c .before .byte-at .ensures .is) (c .before .byte-at .ensures .below))
 
 array-write-values : tie.Need-array-write-values Inv-loop μ-loop
-array-write-values c = omega (arith, c .before .before .before .before .pre .few, c .before .before .loop-test .taken)
+array-write-values c = omega (arith, c .before .before .before .before .before .pre .few, c .before .before .before .loop-test .taken)
 
-div-rest : tie.Need-div-rest Inv-loop μ-loop
-div-rest c = omega (arith, c .byte-at .ensures .is, c .before .before .before .before .pre .least (c .before .before .before .loop .v) (c .before .before .loop-test .taken))
+without-requires : tie.Need-without-requires Inv-loop μ-loop
+without-requires c κs = omega (arith, c .before .byte-at .ensures .is, c .before .before .before .before .before .pre .least (c .before .before .before .before .loop .v) (c .before .before .before .loop-test .taken))
 
 add-v : tie.Need-add-v Inv-loop μ-loop
 add-v c = search needs
@@ -45,9 +45,9 @@ loop-less c = search needs
 
 loop-again : tie.Need-loop-again Inv-loop μ-loop
 loop-again c =
-    let l = c .before .before .before .loop in
-    let start = c .before .before .before .before in
-    decode-next (now (start .args .sizes)) _ _ (l .values) _ _ _ (l .inv) (c .before .before .loop-test .taken) (start .pre .few) (c .byte-at .ensures .is)
+    let l = c .before .before .before .before .before .loop in
+    let start = c .before .before .before .before .before .before in
+    decode-next (now (start .args .sizes)) _ _ (l .values) _ _ _ (l .inv) (c .before .before .before .before .loop-test .taken) (start .pre .few) (c .before .before .byte-at .ensures .is) _ _ (c .before .value-in .ensures) (c .without .ensures)
 
 returns : tie.Need-returns Inv-loop μ-loop
 returns c = decode-end _ _ _ _ _ _ (c .before .loop .inv) (c .loop-test .left)
@@ -60,10 +60,10 @@ values-of-spec =
     μ-loop
     loop-holds
     byte-at-requires
-    rem-values
+    value-in-requires
     cast-values
     array-write-values
-    div-rest
+    without-requires
     add-v
     loop-less
     loop-again
