@@ -117,8 +117,7 @@ fn search_arrays(
         conditions,
         effects,
     );
-    let entry = entries::entry_at(entries, start);
-    let most = entry.minutes.0;
+    let most = entries::entry_at(entries, start).minutes.0;
     fact_rows::fill_cheap(rows, sizes, conditions, costs, variables, actions, most);
     Searched {
         outcome: outcome,
