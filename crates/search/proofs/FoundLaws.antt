@@ -5,8 +5,10 @@ use mathlib.Core.Bool.{true, false}
 use mathlib.Core.List.{List, []}
 use mathlib.Core.Option.{Option, none, some, Option·map, Option·getD}
 use native.Mathlib.Omega.{arith}
+use lib.Dec.{leb}
 use lib.ListN.{length, getD, take, length-take, length-map, List·getD-eq-default}
 use lib.Seq.{getD-take}
+use borrow.Author.Tests.{leb-true}
 use Rattle.files.specs.declared.Outcome.{Outcome}
 use Rattle.files.specs.Outcome.{done, refusal, isDone, fits, overwrite}
 use Rattle.files.specs.Accepted.{acceptedTask}
@@ -16,7 +18,7 @@ use Rattle.files.specs.OriginFile.{originOf, originActionsPlace}
 use Rattle.files.specs.PlanFile.{planFile}
 use Rattle.files.specs.Task.{Task}
 use Rattle.files.specs.TaskFile.{taskOf}
-use Rattle.files.proofs.Guards.{goes-le, stops-le, is-refused, is-done, done-number}
+use Rattle.files.proofs.Guards.{goes-le, stops-le, passed, is-refused, is-done, done-number}
 use Rattle.files.proofs.HeldTask.{actions-held}
 use Rattle.files.proofs.Logic.{clash, split, split-le}
 use Rattle.files.proofs.Lengths.{plan-file-length}
@@ -35,24 +37,42 @@ use Rattle.distances.specs.Entries.{tableEntry}
 use Rattle.lookup.specs.FactRows.{CheapRow}
 use Rattle.search.specs.ReadOff.{StepTables}
 use Rattle.search.specs.Planner.{statesFit, planFits, searchBuffers, searchStages}
-use Rattle.search.specs.Found.{foundStates, notFound, foundWhole, Searches, unsearched, SearchedIn, SearchedFiles}
+use Rattle.search.specs.Found.{foundStates, countFits, notFound, foundWhole, Searches, unsearched, SearchedIn, SearchedFiles}
 use Rattle.distances.proofs.HeldStates.{held-variables, held-actions}
 use Rattle.distances.proofs.Radix.{start-below}
 use Rattle.search.proofs.ReadOff.{steps-length}
 use Rattle.search.proofs.LeastPlans.{stepsRead, first-plan-some, search-least}
 
-module _ (t : Task) (room : ℕ) where
-  pub states-many : (o : Outcome) → 4096 < stateCount (t .variables) → o ≡ refusal 25 0 → o ≡ statesFit t room
-  unfolding statesFit
-  states-many o h e = stops-le (stateCount (t .variables)) 4096 25 0 _ o _ _ refl refl h e
+-- so many states: too many, no room for the table, or done
+module _ (count room : ℕ) where
+  pub count-many : (o : Outcome) → 4096 < count → o ≡ refusal 25 0 → o ≡ countFits count room
+  unfolding countFits
+  count-many o h e = stops-le count 4096 25 0 _ o _ _ refl refl h e
 
-  pub table-short : (o : Outcome) → stateCount (t .variables) ≤ 4096 → room < stateCount (t .variables) → o ≡ refusal 21 (stateCount (t .variables)) → o ≡ statesFit t room
-  unfolding statesFit fits
-  table-short o h k e = goes-le (stateCount (t .variables)) 4096 25 0 _ o _ _ refl refl h (stops-le (stateCount (t .variables)) room 21 (stateCount (t .variables)) _ o _ _ refl refl k e)
+  pub count-short : (o : Outcome) → count ≤ 4096 → room < count → o ≡ refusal 21 count → o ≡ countFits count room
+  unfolding countFits fits
+  count-short o h k e = goes-le count 4096 25 0 _ o _ _ refl refl h (stops-le count room 21 count _ o _ _ refl refl k e)
 
-  pub states-fit : stateCount (t .variables) ≤ 4096 → stateCount (t .variables) ≤ room → done ≡ statesFit t room
-  unfolding statesFit fits
-  states-fit h k = goes-le (stateCount (t .variables)) 4096 25 0 _ done _ _ refl refl h (goes-le (stateCount (t .variables)) room 21 (stateCount (t .variables)) _ done _ _ refl refl k refl)
+  pub count-done : (o : Outcome) → count ≤ 4096 → count ≤ room → o ≡ done → o ≡ countFits count room
+  unfolding countFits fits
+  count-done o h k e = goes-le count 4096 25 0 _ o _ _ refl refl h (goes-le count room 21 count _ o _ _ refl refl k e)
+
+  pub count-few : countFits count room .number ≡ 0 → count ≤ 4096
+  unfolding countFits
+  count-few z = leb-true count 4096 (passed (leb count 4096) 25 0 _ (omega arith) z .0)
+
+pub states-fit : (t : Task) (room : ℕ) → stateCount (t .variables) ≤ 4096 → stateCount (t .variables) ≤ room → done ≡ statesFit t room
+unfolding statesFit countFits
+states-fit t room h k = count-done (stateCount (t .variables)) room done h k refl
+
+-- the count of a task's states, or a number that is too many as well
+pub counted-fit : (t : Task) (count room : ℕ) → (count ≤ 4096 → count ≡ stateCount (t .variables)) → (4096 < count → 4096 < stateCount (t .variables))
+    → (o : Outcome) → o ≡ countFits count room → o ≡ statesFit t room
+unfolding countFits statesFit
+counted-fit t count room few many o e =
+    split-le count 4096
+    (λ h. e ∙ ap (λ (n : ℕ). countFits n room) (few h))
+    (λ h. e ∙ sym (count-many count room (refusal 25 0) h refl) ∙ count-many (stateCount (t .variables)) room (refusal 25 0) (many h) refl)
 
 -- the search of a task, from what its parts came to
 module _ (t : Task) (original : List ℕ → List ℕ) (signer : ℕ) (table : List Entry) (plan : List ℕ) where
@@ -144,17 +164,17 @@ searched-refused t room named place o e d r q entries sizes costs rows moves =
       place-is = λ z. absurd (not-done z);
     }
 
-pub searched-done : (d : Arrays) (room named place : ℕ) → acceptedTask (held d) ≡ true → stateCount (held d .variables) ≤ 4096 → done ≡ statesFit (held d) room
-    → (o : Outcome) → o ≡ done → (states start : ℕ) → states ≡ stateCount (held d .variables) → start ≡ startNumber (held d) → (entries : List Entry) → entries ≡ tableOf (held d)
+pub searched-done : (d : Arrays) (room named place : ℕ) → acceptedTask (held d) ≡ true → stateCount (held d .variables) ≤ 4096
+    → (o : Outcome) → o ≡ statesFit (held d) room → o .number ≡ 0 → (states start : ℕ) → states ≡ stateCount (held d .variables) → start ≡ startNumber (held d) → (entries : List Entry) → entries ≡ tableOf (held d)
     → (rows moves : List ℕ) → StepTables (d .variables) (d .actions) (d .sizes) (d .costs) (d .conditions) (d .effects) rows moves
     → CheapRow (d .actions) (d .costs) (minutesOf (tableEntry entries start)) rows
     → SearchedIn (held d) room named place (record { outcome = o; states = states; start = start; variables = d .variables; actions = d .actions; named = named; place = place })
     entries (d .sizes) (d .costs) rows moves
-searched-done d room named place accepted few fit o q states start n s entries table rows moves tables cheap =
+searched-done d room named place accepted few o fit z states start n s entries table rows moves tables cheap =
     record {
-      outcome = q ∙ fit;
-      refused = λ k. absurd (k (ap (λ (x : Outcome). x .number) q));
-      found = λ z.
+      outcome = fit;
+      refused = λ k. absurd (k z);
+      found = λ _.
           record {
             accepted = accepted;
             few = few;
@@ -173,8 +193,8 @@ searched-done d room named place accepted few fit o q states start n s entries t
             cheap = cheap;
             table = table;
           };
-      named-is = λ z. refl;
-      place-is = λ z. refl;
+      named-is = λ _. refl;
+      place-is = λ _. refl;
     }
 
 -- the part of a buffer that holds a file

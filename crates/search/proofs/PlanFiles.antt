@@ -1,7 +1,7 @@
 -- What the entry of the start state comes to, and the plan file begun and ended.
 use Prim.Native.Nat.{ℕ, _+_, _*_, _≤_, _<_}
 use mathlib.Core.Path.{_≡_, refl, sym, ap, _∙_}
-use mathlib.Core.Bool.{Bool, true, false}
+use mathlib.Core.Bool.{Bool, true, false, cond}
 use mathlib.Core.List.{List, _++_}
 use native.Mathlib.Omega.{arith}
 use lib.ListN.{length, getD, length-map}
@@ -13,7 +13,7 @@ use Rattle.files.specs.Outcome.{done, refusal, isDone, guard, fits, overwrite}
 use Rattle.files.specs.PlanFile.{planFile}
 use Rattle.files.specs.Records.{numberBytes, recordBytes}
 use Rattle.files.specs.Task.{Task}
-use Rattle.files.proofs.Guards.{is-done, is-refused, refusal-number}
+use Rattle.files.proofs.Guards.{is-done, is-refused}
 use Rattle.files.proofs.Lengths.{number-bytes-length, number-record-length, plan-file-length}
 use Rattle.files.proofs.Logic.{clash, split, split-le}
 use Rattle.files.proofs.Placed.{placed-overwrite}
@@ -25,7 +25,31 @@ use Rattle.search.specs.declared.stages.Searched.{Searched}
 use Rattle.distances.specs.Table.{stepsOf}
 use Rattle.search.specs.FirstPlan.{foundPlan}
 use Rattle.distances.specs.Entries.{isNone}
-use Rattle.search.specs.Found.{notFound, planBy, foundBy, headed, signedOff, Begins, CanFinish, Finishes}
+use Rattle.search.specs.Found.{notFound, entryFits, planBy, foundBy, headed, signedOff, Begins, CanFinish, Finishes}
+
+-- the outcome by the entry of the start state
+module _ (e : Entry) (room : ℕ) where
+  pub entry-none : isNone e ≡ true → entryFits e room ≡ refusal 24 0
+  unfolding entryFits
+  entry-none far = rw far refl
+
+  pub entry-short : isNone e ≡ false → room < 16 + 2 * stepsOf e → entryFits e room ≡ refusal 21 (16 + 2 * stepsOf e)
+  unfolding entryFits fits guard
+  entry-short near short = rw (near, lt-leb (16 + 2 * stepsOf e) room short) refl
+
+  pub entry-done : isNone e ≡ false → 16 + 2 * stepsOf e ≤ room → entryFits e room ≡ done
+  unfolding entryFits fits guard
+  entry-done near long = rw (near, le-leb (16 + 2 * stepsOf e) room long) refl
+
+  -- where it is done there is room for the file
+  pub entry-room : entryFits e room .number ≡ 0 → (entryFits e room ≡ done) × (16 + 2 * stepsOf e ≤ room)
+  entry-room z =
+      split (isNone e)
+      (λ far. absurd (omega (arith, ap (λ (o : Outcome). o .number) (entry-none far))))
+      (λ near.
+      split-le (16 + 2 * stepsOf e) room
+      (λ h. (entry-done near h, h))
+      (λ h. absurd (omega (arith, ap (λ (o : Outcome). o .number) (entry-short near h)))))
 
 -- what the entry of the start state comes to, where the table is filled
 module _ (states : ℕ) (e : Entry) (room : ℕ) where
@@ -36,15 +60,15 @@ module _ (states : ℕ) (e : Entry) (room : ℕ) where
   whole = record { outcome = done; states = states; plan = size; cost = e .minutes; steps = e .steps }
 
   pub plan-none : isNone e ≡ true → planBy states e room ≡ notFound states (refusal 24 0)
-  unfolding planBy isDone
+  unfolding planBy entryFits isDone
   plan-none far = rw far refl
 
   pub plan-room : isNone e ≡ false → room < size → planBy states e room ≡ notFound states (refusal 21 size)
-  unfolding planBy isDone fits guard
+  unfolding planBy entryFits isDone fits guard
   plan-room near short = rw (near, lt-leb size room short) refl
 
   pub plan-whole : isNone e ≡ false → size ≤ room → planBy states e room ≡ whole
-  unfolding planBy isDone fits guard
+  unfolding planBy entryFits isDone fits guard
   plan-whole near long = rw (near, le-leb size room long) refl
 
 -- the plan file of a refusal is not begun and not ended
@@ -90,30 +114,32 @@ module _ (searched : Searched) (e : Entry) (plan : List ℕ) where
     unfolding foundBy
     by-plan = rw (is-done (searched .outcome) z) refl
 
-    refused-plan : (o : Outcome) → isDone o ≡ false → planBy (searched .states) e (length plan) ≡ notFound (searched .states) o → (r : Found) → r ≡ notFound (searched .states) o → Begins searched e plan r plan
-    refused-plan o n is r q =
-        record { found = q ∙ sym (by-plan ∙ is); begun = sym (not-headed r (ap (λ (x : Found). isDone (x .outcome)) q ∙ n) plan) }
+    module _ (o : Outcome) (is : o ≡ entryFits e (length plan)) where
+      by-entry : (b : Bool) → isDone o ≡ b
+          → planBy (searched .states) e (length plan) ≡ cond b (whole (searched .states) e (length plan)) (notFound (searched .states) o)
+      unfolding planBy
+      by-entry b q = rw (← is, q) refl
 
-    pub begins-none : (b : Bool) → b ≡ isNone e → b ≡ true → (o : Outcome) → o ≡ refusal 24 0 → (r : Found) → r ≡ notFound (searched .states) o → Begins searched e plan r plan
-    begins-none b is far o q r w =
-        refused-plan (refusal 24 0) (is-refused (refusal 24 0) (refusal-number (refusal 24 0) 24 0 (omega arith) refl)) (plan-none (searched .states) e (length plan) (sym is ∙ far)) r (w ∙ ap (notFound (searched .states)) q)
+      pub begins-refused : (o .number ≡ 0 → ⊥) → (r : Found) → r ≡ notFound (searched .states) o → Begins searched e plan r plan
+      begins-refused d r q =
+          let n = is-refused o d in
+          record { found = q ∙ sym (by-plan ∙ by-entry false n); begun = sym (not-headed r (ap (λ (x : Found). isDone (x .outcome)) q ∙ n) plan) }
 
-    module _ (b : Bool) (is : b ≡ isNone e) (near : b ≡ false) (needed : ℕ) (n : needed ≡ 16 + 2 * stepsOf e) where
-      pub begins-short : length plan < needed → (o : Outcome) → o ≡ refusal 21 needed → (r : Found) → r ≡ notFound (searched .states) o → Begins searched e plan r plan
-      begins-short h o q r w =
-          refused-plan (refusal 21 (16 + 2 * stepsOf e)) (is-refused _ (refusal-number _ 21 (16 + 2 * stepsOf e) (omega arith) refl))
-          (plan-room (searched .states) e (length plan) (sym is ∙ near) (omega arith)) r (w ∙ ap (notFound (searched .states)) (q ∙ ap (refusal 21) n))
+      done-here : o .number ≡ 0 → (entryFits e (length plan) ≡ done) × (16 + 2 * stepsOf e ≤ length plan)
+      done-here k = entry-room e (length plan) (ap (λ (x : Outcome). x .number) (sym is) ∙ k)
 
-      pub begins-whole : needed ≤ length plan → (o : Outcome) → o ≡ done → (now : List ℕ) → now ≡ placed plan 0 (u16Bytes (2 * stepsOf e) ++ u16Bytes 8)
+      pub begins-room : o .number ≡ 0 → 16 + 2 * stepsOf e ≤ length plan
+      begins-room k = done-here k .1
+
+      pub begins-whole : o .number ≡ 0 → (needed : ℕ) → needed ≡ 16 + 2 * stepsOf e → (now : List ℕ) → now ≡ placed plan 0 (u16Bytes (2 * stepsOf e) ++ u16Bytes 8)
           → Begins searched e plan (record { outcome = o; states = searched .states; plan = needed; cost = e .minutes; steps = e .steps }) now
       unfolding headed
-      begins-whole h o q now w =
+      begins-whole k needed n now w =
+          let y = is-done o k in
+          let q = is ∙ done-here k .0 in
           let answer : record { outcome = o; states = searched .states; plan = needed; cost = e .minutes; steps = e .steps } ≡ whole (searched .states) e (length plan) =
           λ i. record { outcome = q i; states = searched .states; plan = n i; cost = e .minutes; steps = e .steps } in
-          record {
-            found = answer ∙ sym (by-plan ∙ plan-whole (searched .states) e (length plan) (sym is ∙ near) (omega arith));
-            begun = w ∙ sym (rw (ap isDone q ∙ is-done done refl) refl);
-          }
+          record { found = answer ∙ sym (by-plan ∙ by-entry true y); begun = w ∙ sym (rw y refl) }
 
 -- and ended
 module _ (signer : ℕ) (begun : Found) (plan : List ℕ) where

@@ -4,12 +4,13 @@ use mathlib.Core.Path.{_≡_}
 use mathlib.Core.Bool.{true, cond}
 use mathlib.Core.List.{List, _++_}
 use mathlib.Core.Option.{Option·map}
+use lib.Dec.{leb}
 use lib.ListN.{length, take}
 use Rattle.files.specs.declared.Outcome.{Outcome}
 use Rattle.files.specs.Accepted.{acceptedTask}
 use Rattle.files.specs.Dense.{Arrays, held}
 use Rattle.files.specs.Bytes.{placed, u16Bytes, u32Bytes}
-use Rattle.files.specs.Outcome.{done, refusal, isDone, fits}
+use Rattle.files.specs.Outcome.{done, refusal, isDone, guard, fits}
 use Rattle.files.specs.OriginFile.{originOf, originActionsPlace}
 use Rattle.files.specs.PlanFile.{planFile}
 use Rattle.files.specs.Records.{recordBytes}
@@ -23,8 +24,7 @@ use Rattle.reduction.specs.declared.Reduced.{Reduced}
 use Rattle.distances.specs.States.{stateCount}
 use Rattle.distances.specs.Table.{minutesOf, stepsOf, tableOf, startNumber}
 use Rattle.distances.specs.Entries.{isNone, Holds, tableEntry}
-use Rattle.lookup.specs.FactRows.{mostWords, CheapRow}
-use Rattle.lookup.specs.Moves.{mostMoves}
+use Rattle.lookup.specs.FactRows.{CheapRow}
 use Rattle.search.specs.FirstPlan.{firstPlan, foundPlan}
 use Rattle.search.specs.ReadOff.{Stepped}
 use Rattle.search.specs.Planner.{statesFit, SearchBuffers, searchStages, unplanned, lent, Plans}
@@ -78,12 +78,16 @@ pub record CanSearchIn (given : Type 0) (entries : List ℕ) : Type 0 where
   pub source : given
   pub room : Holds entries 4096
 
--- arrays of an accepted task, and room for every entry, row and move
-pub record CanSearchArrays (d : Arrays) (entries rows moves : List ℕ) : Type 0 where
-  pub accepted : acceptedTask (held d) ≡ true
-  pub entries-room : Holds entries 4096
-  pub rows-room : mostWords ≤ length rows
-  pub moves-room : mostMoves ≤ length moves
+-- arrays of an accepted task, and room for every entry
+abbrev pub CanSearchArrays : Arrays → List ℕ → Type 0
+CanSearchArrays d entries = CanSearchIn (acceptedTask (held d) ≡ true) entries
+
+-- so many states: too many to search, or more than there is room for
+unfoldable pub countFits : ℕ → ℕ → Outcome
+countFits count room =
+    guard (leb count 4096) 25 0
+    (fits count room
+    done)
 
 -- no search, or one that is refused
 abbrev pub unsearched : Outcome → Searched
@@ -114,12 +118,15 @@ pub record SearchedFiles (first : Reduced) (reduced origin : List ℕ) (room : �
       → SearchedIn (taskOf (take (first .reduced) reduced)) room (first .origin) (originActionsPlace (take (first .origin) origin)) searched entries sizes costs rows moves
   pub place-few : searched .place < 8589934592
 
--- where the table is filled, by the entry of the start state: no plan, no room for it, or its file's length, its cost and its steps
+-- by the entry of the start state: no plan, or one whose file fits the plan buffer
+unfoldable pub entryFits : Entry → ℕ → Outcome
+entryFits e room = cond (isNone e) (refusal 24 0) (fits (16 + 2 * stepsOf e) room done)
+
+-- where the table is filled: no plan, no room for it, or its file's length, its cost and its steps
 unfoldable pub planBy : ℕ → Entry → ℕ → Found
 planBy states e room =
-    let size = 16 + 2 * stepsOf e in
-    let o = cond (isNone e) (refusal 24 0) (fits size room done) in
-    cond (isDone o) (record { outcome = done; states = states; plan = size; cost = e .minutes; steps = e .steps }) (notFound states o)
+    let o = entryFits e room in
+    cond (isDone o) (record { outcome = done; states = states; plan = 16 + 2 * stepsOf e; cost = e .minutes; steps = e .steps }) (notFound states o)
 
 unfoldable pub foundBy : Searched → Entry → ℕ → Found
 foundBy s e room = cond (isDone (s .outcome)) (planBy (s .states) e room) (notFound 0 (s .outcome))

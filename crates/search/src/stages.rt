@@ -1,10 +1,14 @@
 // The stages of the search that do not look at the table: the search itself, in numbers of its own,
 // and the plan file's head and end with the answer.
+ghost use Prim.Native.Nat.{_≤_};
 ghost use mathlib.Core.Path.{_≡_};
+ghost use lib.ListN.{length, take};
+ghost use Rattle.files.specs.Contracts.{IsBelow};
 ghost use Rattle.files.specs.Dense.{held, arrays};
+ghost use Rattle.files.specs.OriginFile.{originActionsPlace};
 ghost use Rattle.distances.specs.Entries.{entriesIn};
 ghost use Rattle.search.specs.Planner.{unplanned};
-ghost use Rattle.search.specs.Found.{unsearched, notFound, bothTogether, CanSearchFiles, CanSearchIn, CanSearchArrays, SearchedIn, SearchedFiles, Begins, CanFinish, Finishes};
+ghost use Rattle.search.specs.Found.{unsearched, countFits, entryFits, notFound, bothTogether, CanSearchFiles, CanSearchIn, CanSearchArrays, SearchedIn, SearchedFiles, Begins, CanFinish, Finishes};
 use crate::Planned;
 use distances::Entry;
 use distances::entries;
@@ -57,12 +61,25 @@ fn unsearched(outcome: files::Outcome) -> Searched
     }
 }
 
+// Too many states, more of them than there is room for, or done.
+fn count_fits(count: usize, room: usize) -> files::Outcome
+    ensures { λ r. ⌜ r ≡ countFits count room ⌝ }
+{
+    if states::MOST_STATES < count {
+        return outcomes::refuse(outcomes::TOO_MANY_STATES, 0);
+    }
+    if room < count {
+        return outcomes::refuse(outcomes::SHORT_BUFFER, count);
+    }
+    outcomes::done()
+}
+
 // Searches the task that arrays hold, whose actions an origin file of `named` bytes names in the record
 // at `place`, for a table of `room` entries.
 fn search_arrays(
     entries: &mut [u64],
-    rows: &mut [u64],
-    moves: &mut [u64],
+    rows: &mut [u64; 1192],
+    moves: &mut [u64; 1536],
     room: usize,
     named: usize,
     place: usize,
@@ -75,15 +92,13 @@ fn search_arrays(
     conditions: &[u8; 32768],
     effects: &[u8; 32768],
 ) -> Searched
-    requires { ⌜ CanSearchArrays (arrays variables actions (now sizes) (now starts) (now goal) (now costs) (now conditions) (now effects)) (now entries) (now rows) (now moves) ⌝ }
+    requires { ⌜ CanSearchArrays (arrays variables actions (now sizes) (now starts) (now goal) (now costs) (now conditions) (now effects)) (now entries) ⌝ }
     ensures { λ r. ⌜ SearchedIn (held (arrays variables actions (now (sizes .entry)) (now (starts .entry)) (now (goal .entry)) (now (costs .entry)) (now (conditions .entry)) (now (effects .entry)))) room named place r (entriesIn (now (entries .exit)) (r .states)) (now (sizes .entry)) (now (costs .entry)) (now (rows .exit)) (now (moves .exit)) ⌝ }
 {
     let count = states::count(sizes, variables);
-    if states::MOST_STATES < count {
-        return unsearched(outcomes::refuse(outcomes::TOO_MANY_STATES, 0));
-    }
-    if room < count {
-        return unsearched(outcomes::refuse(outcomes::SHORT_BUFFER, count));
+    let outcome = count_fits(count, room);
+    if outcome.number != 0 {
+        return unsearched(outcome);
     }
     let weights = states::weights(sizes, variables);
     moves::fill(moves, &weights, conditions, effects, variables, actions);
@@ -102,11 +117,10 @@ fn search_arrays(
         conditions,
         effects,
     );
-    let entry = entries::entry_at(entries, start);
-    let most = entry.minutes.0;
+    let most = entries::entry_at(entries, start).minutes.0;
     fact_rows::fill_cheap(rows, sizes, conditions, costs, variables, actions, most);
     Searched {
-        outcome: outcomes::done(),
+        outcome: outcome,
         states: count,
         start: start,
         variables: variables,
@@ -114,6 +128,14 @@ fn search_arrays(
         named: named,
         place: place,
     }
+}
+
+// Where the actions' numbers stand in the origin file of so many bytes.
+fn place_in(origin: &[u8], named: usize) -> usize
+    requires { ⌜ named ≤ length (now origin) ⌝ }
+    ensures { λ r. ⌜ IsBelow r (originActionsPlace (take named (now (origin .entry)))) 8589934592 ⌝ }
+{
+    files::origin::actions_place(&origin[0..named])
 }
 
 // Searches the task of the reduced file, where there is one, and leaves its steps in tables.
@@ -131,13 +153,15 @@ pub fn search_files(
     requires { ⌜ CanSearchIn (CanSearchFiles first (now reduced) (now origin)) (now entries) ⌝ }
     ensures { λ r. ⌜ SearchedFiles first (now (reduced .entry)) (now (origin .entry)) room r (entriesIn (now (entries .exit)) (r .states)) (now (sizes .exit)) (now (costs .exit)) (now (rows .exit)) (now (moves .exit)) ⌝ }
 {
-    let outcome = first.outcome;
-    if outcome.number != 0 {
-        return unsearched(outcome);
+    if first.outcome.number != 0 {
+        return unsearched(first.outcome);
     }
-    let written = first.reduced;
     let named = first.origin;
+    let place = place_in(origin, named);
+    let written = first.reduced;
     let file = &reduced[0..written];
+    let variables = files::task::variables_in(file);
+    let actions = files::task::actions_in(file);
     let mut starts = [0u8; 64];
     let mut goal = [0u8; 64];
     let mut conditions = [0u8; 32768];
@@ -157,9 +181,9 @@ pub fn search_files(
         moves,
         room,
         named,
-        files::origin::actions_place(&origin[0..named]),
-        files::task::variables_in(file),
-        files::task::actions_in(file),
+        place,
+        variables,
+        actions,
         sizes,
         &starts,
         &goal,
@@ -182,29 +206,39 @@ fn not_found(outcome: files::Outcome, states: usize) -> Found
     }
 }
 
+// No plan, no room for its file, or done, by the entry of the start state.
+fn entry_fits(entry: Entry, room: usize) -> files::Outcome
+    ensures { λ r. ⌜ r ≡ entryFits entry room ⌝ }
+{
+    if entries::is_none(entry) {
+        return outcomes::refuse(outcomes::NO_PLAN, 0);
+    }
+    let needed = files::plan::needed(entry.steps);
+    if room < needed {
+        return outcomes::refuse(outcomes::SHORT_BUFFER, needed);
+    }
+    outcomes::done()
+}
+
 // What the search comes to by the entry of the start state. Where there is a plan and room for it,
 // its file is begun.
 pub fn begin(plan: &mut [u8], searched: Searched, entry: Entry) -> Found
     ensures { λ r. ⌜ Begins searched entry (now (plan .entry)) r (now (plan .exit)) ⌝ }
 {
-    let outcome = searched.outcome;
+    if searched.outcome.number != 0 {
+        return not_found(searched.outcome, 0);
+    }
+    let outcome = entry_fits(entry, plan.len());
     if outcome.number != 0 {
-        return not_found(outcome, 0);
+        return not_found(outcome, searched.states);
     }
-    let states = searched.states;
-    if entries::is_none(entry) {
-        return not_found(outcomes::refuse(outcomes::NO_PLAN, 0), states);
-    }
+    let needed = files::plan::needed(entry.steps);
+    files::plan::put_head(plan, entry.steps);
     let cost = entry.minutes;
     let steps = entry.steps;
-    let needed = files::plan::needed(steps);
-    if plan.len() < needed {
-        return not_found(outcomes::refuse(outcomes::SHORT_BUFFER, needed), states);
-    }
-    files::plan::put_head(plan, steps);
     Found {
-        outcome: outcomes::done(),
-        states: states,
+        outcome: outcome,
+        states: searched.states,
         plan: needed,
         cost: cost,
         steps: steps,
@@ -216,10 +250,8 @@ pub fn finish(plan: &mut [u8], signer: u32, begun: Found) -> Found
     requires { ⌜ CanFinish begun (now plan) ⌝ }
     ensures { λ r. ⌜ Finishes signer begun (now (plan .entry)) r (now (plan .exit)) ⌝ }
 {
-    let outcome = begun.outcome;
-    let steps = begun.steps;
-    if outcome.number == 0 {
-        files::records::put_sign_off(plan, 4 + 2 * (steps.0 as usize), signer as usize);
+    if begun.outcome.number == 0 {
+        files::records::put_sign_off(plan, 4 + 2 * (begun.steps.0 as usize), signer as usize);
     }
     begun
 }
@@ -246,10 +278,10 @@ fn refused(outcome: files::Outcome) -> Planned
 pub fn together(first: reduction::Reduced, found: Found) -> Planned
     ensures { λ r. ⌜ r ≡ bothTogether first found ⌝ }
 {
-    let outcome = found.outcome;
-    if outcome.number != 0 {
-        return refused(outcome);
+    if found.outcome.number != 0 {
+        return refused(found.outcome);
     }
+    let outcome = found.outcome;
     let cost = found.cost;
     let steps = found.steps;
     Planned {

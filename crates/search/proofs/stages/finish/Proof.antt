@@ -15,7 +15,7 @@ add-put-sign-off : tie.Need-add-put-sign-off
 add-put-sign-off c = search needs
 
 put-sign-off-requires : tie.Need-put-sign-off-requires
-put-sign-off-requires c κs = omega (arith, c .before .before .before .before .before .before .before .pre (c .before .before .if1 .taken))
+put-sign-off-requires c κs = omega (arith, c .before .before .before .before .before .pre (c .before .before .if1 .taken))
 
 same-length : tie.Need-same-length
 same-length c = search needs

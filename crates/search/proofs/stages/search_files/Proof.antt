@@ -9,7 +9,6 @@ use Rattle.files.specs.declared.Outcome.{Outcome}
 use Rattle.files.specs.Accepted.{acceptedTask}
 use Rattle.files.specs.Bytes.{Octets}
 use Rattle.files.specs.Outcome.{done}
-use Rattle.files.specs.OriginFile.{originActionsPlace}
 use Rattle.files.specs.TaskFile.{checkTask, taskOf}
 use Rattle.files.proofs.TaskChecked.{task-accepted}
 use Rattle.files.proofs.HeldTask.{held-by}
@@ -18,15 +17,12 @@ use borrow.Author.Needs.{needs}
 use Rattle.search.proofs.stages.search_files.Statement.{statement}
 use Rattle.search.proofs.stages.search_files.Tie as tie
 
--- from each call to the one before it
+-- from the task read to the start
 abbrev to-start : tie.After-read-task → tie.Start
-to-start c = c .before .before .before .before .before .before .before .before .before .before .before .before .before .before
-
-abbrev to-read : tie.After-actions-in → tie.After-read-task
-to-read c = c .before .before .before .before .before .before .before
+to-start c = c .before .before .before .before .before .before .before .before .before .before .before .before .before .before .before .before
 
 reduced-done : (c : tie.After-read-task) → to-start c .args .first .outcome .number ≡ 0
-reduced-done c = c .before .before .before .before .before .before .before .before .if1 .left
+reduced-done c = c .before .before .before .before .before .before .before .before .before .before .before .if1 .left
 
 -- the part of the buffer that holds the reduced file
 abbrev file-of : tie.After-read-task → List ℕ
@@ -44,6 +40,9 @@ unsearched-requires c κs = search needs
 returns : tie.Need-returns
 returns c = searched-not _ _ _ _ _ _ _ _ _ _ (c .before .if1 .taken) (c .unsearched .ensures)
 
+place-in-requires : tie.Need-place-in-requires
+place-in-requires c κs = c .before .before .before .before .before .pre .source (c .if1 .left) .origin-fits
+
 sub-file : tie.Need-sub-file
 sub-file c = search needs
 
@@ -51,22 +50,7 @@ part-file-start : tie.Need-part-file-start
 part-file-start c = search needs
 
 part-file-end : tie.Need-part-file-end
-part-file-end c = omega (arith, c .before .before .before .before .before .before .pre .source (c .if1 .left) .reduced-fits)
-
-read-task-requires : tie.Need-read-task-requires
-read-task-requires c κs = search needs
-
-sub-actions-place : tie.Need-sub-actions-place
-sub-actions-place c = search needs
-
-part-actions-place-start : tie.Need-part-actions-place-start
-part-actions-place-start c = search needs
-
-part-actions-place-end : tie.Need-part-actions-place-end
-part-actions-place-end c = omega (arith, to-start (c .before .before .before) .pre .source (reduced-done (c .before .before .before)) .origin-fits)
-
-actions-place-requires : tie.Need-actions-place-requires
-actions-place-requires c κs = search needs
+part-file-end c = omega (arith, c .before .before .before .before .before .before .pre .source (c .before .if1 .left) .reduced-fits)
 
 variables-in-requires : tie.Need-variables-in-requires
 variables-in-requires c κs = search needs
@@ -74,17 +58,17 @@ variables-in-requires c κs = search needs
 actions-in-requires : tie.Need-actions-in-requires
 actions-in-requires c κs = search needs
 
+read-task-requires : tie.Need-read-task-requires
+read-task-requires c κs = search needs
+
 search-arrays-requires : tie.Need-search-arrays-requires
 search-arrays-requires c κs =
-    let a = c .before .before .before .before .before .before in
-    let d = to-read a in
-    let octets : Octets (now (to-start d .args .reduced)) = λ i. omega (arith, d .before .before .before .before .before .before .before .before .before .before .before .before .before .shared-slice-known .given i) in
-    let is = held-by _ _ _ _ _ _ _ _ _ _ _ (a .before .variables-in .ensures .is) (a .actions-in .ensures .is) (d .read-task .ensures .task (passes d)) in
+    let d = c .before .before .before .before .before .before .before .before .before in
+    let octets : Octets (now (to-start d .args .reduced)) = λ i. omega (arith, d .before .before .before .before .before .before .before .before .before .before .before .before .before .before .before .shared-slice-known .given i) in
+    let is = held-by _ _ _ _ _ _ _ _ _ _ _ (d .before .before .before .before .before .before .before .before .variables-in .ensures .is) (d .before .before .before .before .before .before .before .actions-in .ensures .is) (d .read-task .ensures .task (passes d)) in
     record {
-      accepted = ap acceptedTask is ∙ task-accepted (file-of d) (part-octets (to-start d .args .first .reduced - 0) (now (to-start d .args .reduced)) octets) (ap (λ (o : Outcome). o .number) (checked d));
-      entries-room = to-start d .pre .room;
-      rows-room = omega (arith, c .before .before .before .before .before .before .before .before .before .before .before .search-arrays-arg2 .given);
-      moves-room = omega (arith, c .before .before .before .before .before .before .before .before .before .before .search-arrays-arg3 .given);
+      source = ap acceptedTask is ∙ task-accepted (file-of d) (part-octets (to-start d .args .first .reduced - 0) (now (to-start d .args .reduced)) octets) (ap (λ (o : Outcome). o .number) (checked d));
+      room = to-start d .pre .room;
     }
 
 same-length : tie.Need-same-length
@@ -92,13 +76,11 @@ same-length c = search needs
 
 returns-2 : tie.Need-returns-2
 returns-2 c =
-    let a = c .before .before .before .before .before .before .before .before .before in
-    let d = to-read a in
+    let d = c .before .before .before .before .before .before .before .before .before .before .before .before in
     let s = to-start d in
-    let is = held-by _ _ _ _ _ _ _ _ _ _ _ (a .before .variables-in .ensures .is) (a .actions-in .ensures .is) (d .read-task .ensures .task (passes d)) in
-    let origins = file-part (s .args .first .origin) (now (s .args .origin)) in
-    searched-files _ _ _ _ _ _ _ _ _ _ (reduced-done d) _ (is ∙ ap taskOf (file-part (s .args .first .reduced) (now (s .args .reduced)))) _
-    (a .before .before .actions-place .ensures .is ∙ ap originActionsPlace origins) (omega (arith, a .before .before .actions-place .ensures .below)) (c .before .before .search-arrays .ensures)
+    let is = held-by _ _ _ _ _ _ _ _ _ _ _ (d .before .before .before .before .before .before .before .before .variables-in .ensures .is) (d .before .before .before .before .before .before .before .actions-in .ensures .is) (d .read-task .ensures .task (passes d)) in
+    let place = d .before .before .before .before .before .before .before .before .before .before .place-in .ensures in
+    searched-files _ _ _ _ _ _ _ _ _ _ (reduced-done d) _ (is ∙ ap taskOf (file-part (s .args .first .reduced) (now (s .args .reduced)))) _ (place .is) (place .below) (c .before .before .search-arrays .ensures)
 
 pub search-files-spec : {M : Type 1} → statement M
 search-files-spec =
@@ -106,16 +88,13 @@ search-files-spec =
     (tie.spec
     unsearched-requires
     returns
+    place-in-requires
     sub-file
     part-file-start
     part-file-end
-    read-task-requires
-    sub-actions-place
-    part-actions-place-start
-    part-actions-place-end
-    actions-place-requires
     variables-in-requires
     actions-in-requires
+    read-task-requires
     search-arrays-requires
     same-length
     returns-2)

@@ -11,7 +11,7 @@ returns : tie.Need-returns
 returns c = together-refused _ _ _ (c .refused .ensures) (c .before .if1 .taken)
 
 returns-2 : tie.Need-returns-2
-returns-2 c = together-done _ _ (c .before .before .if1 .left)
+returns-2 c = together-done _ _ (c .before .before .before .if1 .left)
 
 pub together-spec : {M : Type 1} → statement M
 together-spec = tie.close (tie.spec refused-requires returns returns-2)
