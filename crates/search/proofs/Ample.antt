@@ -41,7 +41,7 @@ use Rattle.reduction.proofs.ReducedLength.{reduced-file-length}
 use Rattle.distances.specs.States.{stateCount}
 use Rattle.search.specs.FirstPlan.{firstPlan}
 use Rattle.search.specs.Least.{PlanFirst}
-use Rattle.search.specs.Planner.{planLevel, searched, statesFit, planFound, planFits, searchBuffers, searchStages, Lent, planStages}
+use Rattle.search.specs.Planner.{countFits, planLevel, searched, statesFit, planFound, planFits, searchBuffers, searchStages, Lent, planStages}
 use Rattle.search.specs.PlannerRight.{Ample, AmpleSuffices, NeverShort}
 use Rattle.search.proofs.Answers.{row-is}
 use Rattle.search.proofs.LeastPlans.{search-least}
@@ -170,7 +170,7 @@ module _ (task : List ℕ) (signer : ℕ) (b : Lent) (octets : Octets task) (roo
       done-short (fits-short _ _ done (omega (arith, room .origin)) (fits-short _ _ _ (omega (arith, room .reduced)) e))
 
   states-never : statesFit (searched task) (length (b .table)) .number ≡ 21 → ⊥
-  unfolding statesFit
+  unfolding countFits
   states-never e =
       let few = guard-short _ 25 0 _ e (λ q. omega arith) in
       let count = stateCount (searched task .variables) in
@@ -178,7 +178,7 @@ module _ (task : List ℕ) (signer : ℕ) (b : Lent) (octets : Octets task) (roo
       done-short (fits-short count (length (b .table)) done (omega (arith, room .table)) (few .1))
 
   states-few : statesFit (searched task) (length (b .table)) .number ≡ 0 → stateCount (reducedTask (taskOf task) planLevel .variables) ≤ 4096
-  unfolding statesFit searched
+  unfolding countFits searched
   states-few e = let found = simp facts at e in found .0
 
   plan-never : checkTask task ≡ done → stateCount (reducedTask (taskOf task) planLevel .variables) ≤ 4096 → planFits (planFound task) signer (length (b .plan)) .number ≡ 21 → ⊥

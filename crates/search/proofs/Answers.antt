@@ -21,7 +21,7 @@ use Rattle.reduction.specs.Reduce.{Buffers, withFiles, reducedFile, originsFile
 use Rattle.reduction.specs.Task.{reducedTask, originsAt}
 use Rattle.reduction.proofs.Answers.{files-listed}
 use Rattle.search.specs.Answers.{planRefusals, PlanAnswers}
-use Rattle.search.specs.Planner.{planLevel, searched, searchedStates, statesFit, planFound, planFits, planMade, SearchBuffers, searchBuffers, searchStages, planStages, Lent, lent}
+use Rattle.search.specs.Planner.{countFits, planLevel, searched, searchedStates, statesFit, planFound, planFits, planMade, SearchBuffers, searchBuffers, searchStages, planStages, Lent, lent}
 
 module _ (task : List ℕ) (signer : ℕ) (b : Lent) where
   abbrev marks : Outcome
@@ -82,7 +82,7 @@ module _ (task : List ℕ) (signer : ℕ) (b : Lent) where
   files-stage-listed = behind-marks files (files-listed task planLevel signer (b .buffers) later)
 
   states-listed : listed (planRefusals task signer) states ≡ true
-  unfolding statesFit fits searchedStates
+  unfolding countFits fits searchedStates
   states-listed =
       behind-marks states
       (behind-files states

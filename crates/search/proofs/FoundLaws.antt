@@ -36,8 +36,8 @@ use Rattle.search.specs.FirstPlan.{firstPlan, foundPlan}
 use Rattle.distances.specs.Entries.{tableEntry}
 use Rattle.lookup.specs.FactRows.{CheapRow}
 use Rattle.search.specs.ReadOff.{StepTables}
-use Rattle.search.specs.Planner.{statesFit, planFits, searchBuffers, searchStages}
-use Rattle.search.specs.Found.{foundStates, countFits, notFound, foundWhole, Searches, unsearched, SearchedIn, SearchedFiles}
+use Rattle.search.specs.Planner.{countFits, statesFit, planFits, searchBuffers, searchStages}
+use Rattle.search.specs.Found.{foundStates, notFound, foundWhole, Searches, unsearched, SearchedIn, SearchedFiles}
 use Rattle.distances.proofs.HeldStates.{held-variables, held-actions}
 use Rattle.distances.proofs.Radix.{start-below}
 use Rattle.search.proofs.ReadOff.{steps-length}
@@ -62,13 +62,13 @@ module _ (count room : ℕ) where
   count-few z = leb-true count 4096 (passed (leb count 4096) 25 0 _ (omega arith) z .0)
 
 pub states-fit : (t : Task) (room : ℕ) → stateCount (t .variables) ≤ 4096 → stateCount (t .variables) ≤ room → done ≡ statesFit t room
-unfolding statesFit countFits
+unfolding countFits
 states-fit t room h k = count-done (stateCount (t .variables)) room done h k refl
 
 -- the count of a task's states, or a number that is too many as well
 pub counted-fit : (t : Task) (count room : ℕ) → (count ≤ 4096 → count ≡ stateCount (t .variables)) → (4096 < count → 4096 < stateCount (t .variables))
     → (o : Outcome) → o ≡ countFits count room → o ≡ statesFit t room
-unfolding countFits statesFit
+unfolding countFits
 counted-fit t count room few many o e =
     split-le count 4096
     (λ h. e ∙ ap (λ (n : ℕ). countFits n room) (few h))

@@ -40,7 +40,7 @@ use Rattle.search.specs.declared.Planned.{Planned}
 use Rattle.distances.specs.States.{stateCount}
 use Rattle.search.specs.FirstPlan.{firstPlan}
 use Rattle.search.specs.Least.{startedAt, DistanceLeast, PlanFirst}
-use Rattle.search.specs.Planner.{planLevel, searched, planFound, statesFit, planFits, planMade, SearchBuffers, searchBuffers, searchStages, Lent, lent, planStages, planWhole, planAnswer, planAfter, Plans}
+use Rattle.search.specs.Planner.{countFits, planLevel, searched, planFound, statesFit, planFits, planMade, SearchBuffers, searchBuffers, searchStages, Lent, lent, planStages, planWhole, planAnswer, planAfter, Plans}
 use Rattle.search.specs.PlannerRight.{PlanLongEnough, HandedBack, EntryRight, PlannerRight, PlannerPromise, PlansRight}
 use Rattle.distances.specs.Table.{minutesOf, distances, entryOf, tableOf}
 use Rattle.search.proofs.Answers.{row-is}
@@ -108,7 +108,7 @@ module _ (task : List ℕ) (signer : ℕ) (b : Lent) (octets : Octets task) (e :
   reduced-done = is-yes _ (stages-fit task planLevel signer (b .buffers) e refl s (long .buffers))
 
   states-done : isDone (statesFit (searched task) (length (b .table))) ≡ true
-  unfolding statesFit searched
+  unfolding countFits searched
   states-done =
       is-yes _
       (sym (guard-passes (leb (stateCount (u .variables)) 4096) 25 0 _ done (le-leb _ _ few) (sym (fits-in (stateCount (u .variables)) (length (b .table)) done (long .table)))))

@@ -33,7 +33,7 @@ use Rattle.distances.specs.Entries.{mostNumbers, isNone, entryTotal, entriesIn,
 use Rattle.distances.specs.Rows.{rowStates}
 use Rattle.lookup.specs.FactRows.{CheapRow}
 use Rattle.search.specs.ReadOff.{CanStep, StepsToWrite, PlanIn, StepsWritten}
-use Rattle.search.specs.Planner.{statesFit, planFits, searchBuffers}
+use Rattle.search.specs.Planner.{countFits, statesFit, planFits, searchBuffers}
 use Rattle.search.specs.Found.{notFound, foundWhole, Searches, CanSearchFiles, SearchesFiles, TableFound, SearchedFiles, planBy, foundBy, Begins, Finishes}
 use Rattle.distances.proofs.Radix.{start-below}
 use Rattle.distances.proofs.RowNumbers.{states-count}
@@ -91,7 +91,7 @@ module _ (first : Reduced) (reduced origin : List ℕ) (table : List Entry) (sea
     fit-number = ap (λ (o : Outcome). o .number) (sym (k .searched-in (first-done z) .outcome)) ∙ z
 
     states-inside : stateCount (t .variables) ≤ length table
-    unfolding statesFit fits
+    unfolding countFits fits
     states-inside =
         let few = passed (leb (stateCount (t .variables)) 4096) 25 0 _ (omega arith) fit-number in
         let short = passed (leb (stateCount (t .variables)) (length table)) 21 (stateCount (t .variables)) done (omega arith) (few .1) in

@@ -4,13 +4,12 @@ use mathlib.Core.Path.{_≡_}
 use mathlib.Core.Bool.{true, cond}
 use mathlib.Core.List.{List, _++_}
 use mathlib.Core.Option.{Option·map}
-use lib.Dec.{leb}
 use lib.ListN.{length, take}
 use Rattle.files.specs.declared.Outcome.{Outcome}
 use Rattle.files.specs.Accepted.{acceptedTask}
 use Rattle.files.specs.Dense.{Arrays, held}
 use Rattle.files.specs.Bytes.{placed, u16Bytes, u32Bytes}
-use Rattle.files.specs.Outcome.{done, refusal, isDone, guard, fits}
+use Rattle.files.specs.Outcome.{done, refusal, isDone, fits}
 use Rattle.files.specs.OriginFile.{originOf, originActionsPlace}
 use Rattle.files.specs.PlanFile.{planFile}
 use Rattle.files.specs.Records.{recordBytes}
@@ -81,13 +80,6 @@ pub record CanSearchIn (given : Type 0) (entries : List ℕ) : Type 0 where
 -- arrays of an accepted task, and room for every entry
 abbrev pub CanSearchArrays : Arrays → List ℕ → Type 0
 CanSearchArrays d entries = CanSearchIn (acceptedTask (held d) ≡ true) entries
-
--- so many states: too many to search, or more than there is room for
-unfoldable pub countFits : ℕ → ℕ → Outcome
-countFits count room =
-    guard (leb count 4096) 25 0
-    (fits count room
-    done)
 
 -- no search, or one that is refused
 abbrev pub unsearched : Outcome → Searched

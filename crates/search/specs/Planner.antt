@@ -48,11 +48,14 @@ abbrev pub lentOf : List ℕ → List ℕ → List ℕ → List ℕ → List Ent
 lentOf actions facts reduced origin table plan = lent (buffers actions facts reduced origin) table plan
 
 -- at most 4,096 states, and the room for the table
-unfoldable pub statesFit : Task → ℕ → Outcome
-statesFit t room =
-    guard (leb (stateCount (t .variables)) 4096) 25 0
-    (fits (stateCount (t .variables)) room
+unfoldable pub countFits : ℕ → ℕ → Outcome
+countFits count room =
+    guard (leb count 4096) 25 0
+    (fits count room
     done)
+
+abbrev pub statesFit : Task → ℕ → Outcome
+statesFit t room = countFits (stateCount (t .variables)) room
 
 -- no plan exists, or it fits the plan buffer
 unfoldable pub planFits : Option (List ℕ) → ℕ → ℕ → Outcome
