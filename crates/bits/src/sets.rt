@@ -1,4 +1,5 @@
 // Sets of small numbers as the bits of words.
+ghost use mathlib.Core.Path.{_≡_};
 ghost use Rattle.bits.specs.Sets.{inWord, inWords, FirstFrom, LesserOf, InOneWord, InEightWords, NumberAt, Added, CanKeep, Kept};
 
 // The first number from `from` on in the set of a word, or `limit` where there is none below it.
@@ -32,6 +33,14 @@ pub fn next_in(words: &[u64], at: usize, from: usize, limit: usize) -> usize
         bit = 0;
     }
     limit
+}
+
+// Whether a number is in the set of the eight words at `at`.
+pub fn has(words: &[u64], at: usize, k: usize) -> bool
+    requires { ⌜ NumberAt at k (now words) ⌝ }
+    ensures { λ r. ⌜ r ≡ inWords (now (words .entry)) at k ⌝ }
+{
+    (words[at + k / 64] >> (k % 64)) % 2 == 1
 }
 
 // Puts a number into the set of the eight words at `at`.

@@ -1,7 +1,7 @@
 -- What reading off needs of a state, variable by variable; and the number of the state that an action leads to, from its parts.
 use Prim.Native.Nat.{ℕ, _+_, _-_, _*_, _≤_, _<_}
 use mathlib.Core.Path.{_≡_, refl, sym, ap, subst, _∙_}
-use mathlib.Core.Bool.{true, _&&_}
+use mathlib.Core.Bool.{Bool, true, false, _&&_}
 use mathlib.Core.List.{List, []}
 use native.Mathlib.Omega.{arith}
 use lib.ListN.{length, length-set, getD, set}
@@ -99,22 +99,16 @@ module _ (here : List ℕ) (word : ℕ) where
   free-end sum v c l = let last : v ≡ 64 = omega (arith, c .within) in c .sum-is ∙ ap (freedBy here word) last
 
 -- the state that an action leads to
-module _ (here moves : List ℕ) (s a r : ℕ) (f : FirstFrom (inWords here 0) (a + 1) a r) where
-  pub goes-still : (r ≡ a → ⊥) → s ≡ goesBy here moves s a
+module _ (here moves : List ℕ) (s a : ℕ) (b : Bool) (is : b ≡ inWords here 0 a) where
+  pub goes-still : b ≡ false → s ≡ goesBy here moves s a
   unfolding goesBy
-  goes-still d =
-      split-le r a
-      (λ h. absurd (d (omega (arith, f .first))))
-      (λ h. let none-here = f .skipped a (omega arith) h in sym (rw none-here refl))
-
-  pub goes-applicable : r ≡ a → inWords here 0 a ≡ true
-  goes-applicable e = subst (λ (b : ℕ). inWords here 0 b ≡ true) e (f .there (omega arith))
+  goes-still e = let none-here = sym is ∙ e in sym (rw none-here refl)
 
   -- it takes no more than there is
-  pub goes-enough : CanGo here moves s a → r ≡ a → getD moves (3 * a + 1) 0 + freedBy here (getD moves (3 * a + 2) 0) 64 ≤ s + getD moves (3 * a) 0
+  pub goes-enough : CanGo here moves s a → b ≡ true → getD moves (3 * a + 1) 0 + freedBy here (getD moves (3 * a + 2) 0) 64 ≤ s + getD moves (3 * a) 0
   unfolding takenBy
-  goes-enough can e = can .enough (goes-applicable e)
+  goes-enough can e = can .enough (sym is ∙ e)
 
-  pub goes-further : r ≡ a → (freed : ℕ) → freed ≡ freedBy here (getD moves (3 * a + 2) 0) 64 → s + getD moves (3 * a) 0 - getD moves (3 * a + 1) 0 - freed ≡ goesBy here moves s a
+  pub goes-further : b ≡ true → (freed : ℕ) → freed ≡ freedBy here (getD moves (3 * a + 2) 0) 64 → s + getD moves (3 * a) 0 - getD moves (3 * a + 1) 0 - freed ≡ goesBy here moves s a
   unfolding goesBy takenBy
-  goes-further e freed k = let yes-here = goes-applicable e in rw yes-here (omega arith)
+  goes-further e freed k = let yes-here = sym is ∙ e in rw yes-here (omega arith)

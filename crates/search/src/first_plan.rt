@@ -72,11 +72,11 @@ fn next_state(here: &[u64; 72], moves: &[u64; 1536], state: usize, a: usize) -> 
     requires { ⌜ CanGo (now here) (now moves) state a ⌝ }
     ensures { λ r. ⌜ r ≡ goesBy (now (here .entry)) (now (moves .entry)) state a ⌝ }
 {
-    if sets::next_in(here, 0, a, a + 1) != a {
-        return state;
+    if sets::has(here, 0, a) {
+        let number = state as u64 + moves[3 * a] - moves[3 * a + 1];
+        return (number - freed(here, moves[3 * a + 2])) as usize;
     }
-    let number = state as u64 + moves[3 * a] - moves[3 * a + 1];
-    (number - freed(here, moves[3 * a + 2])) as usize
+    state
 }
 
 // The step by the first action of the state from `from` on, or by the last action of all.

@@ -6,14 +6,8 @@ use borrow.Author.Needs.{needs}
 use Rattle.search.proofs.first_plan.next_state.Statement.{statement}
 use Rattle.search.proofs.first_plan.next_state.Tie as tie
 
-add-next-in : tie.Need-add-next-in
-add-next-in c = search needs
-
-next-in-requires : tie.Need-next-in-requires
-next-in-requires c κs = search needs
-
-returns : tie.Need-returns
-returns c = goes-still (now (c .before .before .before .args .here)) (now (c .before .before .before .args .moves)) _ _ _ (c .before .next-in .ensures) (c .if1 .taken)
+has-requires : tie.Need-has-requires
+has-requires c κs = search needs
 
 mul-number : tie.Need-mul-number
 mul-number c = search needs
@@ -42,7 +36,7 @@ element-copy-out-number-2 c = search needs
 sub-number : tie.Need-sub-number
 sub-number c =
     let s = c .before .before .before .before .before in
-    let enough = goes-enough (now (s .args .here)) (now (s .args .moves)) _ _ _ (c .before .before .before .next-in .ensures) (s .pre) (c .before .before .if1 .left) in
+    let enough = goes-enough (now (s .args .here)) (now (s .args .moves)) _ _ _ (c .before .before .before .has .ensures) (s .pre) (c .before .before .if1 .taken) in
     omega (arith, enough)
 
 mul-freed : tie.Need-mul-freed
@@ -60,25 +54,26 @@ element-copy-out-freed c = search needs
 freed-requires : tie.Need-freed-requires
 freed-requires c κs =
     let s = c .before .before .before .before .before .before in
-    let enough = goes-enough (now (s .args .here)) (now (s .args .moves)) _ _ _ (c .before .before .before .before .next-in .ensures) (s .pre) (c .before .before .before .if1 .left) in
+    let enough = goes-enough (now (s .args .here)) (now (s .args .moves)) _ _ _ (c .before .before .before .before .has .ensures) (s .pre) (c .before .before .before .if1 .taken) in
     omega (arith, enough, s .pre .state-few, s .pre .set-few)
 
 sub-result : tie.Need-sub-result
 sub-result c =
     let s = c .before .before .before .before .before .before .before in
-    let enough = goes-enough (now (s .args .here)) (now (s .args .moves)) _ _ _ (c .before .before .before .before .before .next-in .ensures) (s .pre) (c .before .before .before .before .if1 .left) in
+    let enough = goes-enough (now (s .args .here)) (now (s .args .moves)) _ _ _ (c .before .before .before .before .before .has .ensures) (s .pre) (c .before .before .before .before .if1 .taken) in
     omega (arith, enough, c .freed .ensures)
 
+returns : tie.Need-returns
+returns c = let s = c .before .before .before .before .before .before .before in goes-further (now (s .args .here)) (now (s .args .moves)) _ _ _ (c .before .before .before .before .before .has .ensures) (c .before .before .before .before .if1 .taken) _ (c .freed .ensures)
+
 returns-2 : tie.Need-returns-2
-returns-2 c = goes-further (now (c .before .before .before .before .before .before .before .args .here)) (now (c .before .before .before .before .before .before .before .args .moves)) _ _ _ (c .before .before .before .before .before .next-in .ensures) (c .before .before .before .before .if1 .left) _ (c .freed .ensures)
+returns-2 c = let s = c .before .before .before in goes-still (now (s .args .here)) (now (s .args .moves)) _ _ _ (c .before .has .ensures) (c .if1 .left)
 
 pub next-state-spec : {M : Type 1} → statement M
 next-state-spec =
     tie.close
     (tie.spec
-    add-next-in
-    next-in-requires
-    returns
+    has-requires
     mul-number
     mul-number-2
     element-copy-out-number
@@ -94,4 +89,5 @@ next-state-spec =
     element-copy-out-freed
     freed-requires
     sub-result
+    returns
     returns-2)
