@@ -5,14 +5,13 @@ use mathlib.Core.Bool.{Bool, true, false, _&&_}
 use mathlib.Core.List.{List}
 use native.Mathlib.Omega.{arith}
 use native.Mathlib.Numerals.{add-one}
-use lib.Bits.{bitAnd}
 use lib.Dec.{leb}
 use lib.ListN.{length, getD, set, length-set, replicate}
 use lib.Seq.{getD-set-same, getD-set-other}
 use borrow.Author.Tests.{le-leb, lt-leb}
 use Rattle.files.specs.Below.{bit, allBelow, sumOf}
 use Rattle.files.proofs.BelowLaws.{bit-true, bit-false}
-use Rattle.files.proofs.Filling.{filled-before, filled-after, below-next}
+use Rattle.files.proofs.Filling.{below-next}
 use Rattle.files.proofs.Logic.{split-le}
 use Rattle.files.proofs.LoopCounts.{sum-within}
 use Rattle.lookup.specs.FactRows.{canHave, mostFacts, leadsToFact, costsWithin, factNumber, RowsByFact, CheapRows, RowsFor, InAllRows, InCheapRows, WordHas, RowPut, VariablePut}

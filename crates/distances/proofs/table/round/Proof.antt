@@ -1,5 +1,5 @@
 -- The state is settled, the least state of its block found anew, and all steps to it offered.
-use mathlib.Core.Path.{refl, _∙_}
+use mathlib.Core.Path.{refl}
 use native.Mathlib.Omega.{arith}
 use denote.Ref.{now}
 use lib.ListN.{length-set}
