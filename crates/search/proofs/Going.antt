@@ -5,7 +5,6 @@ use mathlib.Core.Bool.{Bool, true, false, cond, _&&_}
 use mathlib.Core.List.{List, []}
 use native.Mathlib.Omega.{arith}
 use native.Mathlib.Nat.{mul-zero}
-use native.Mathlib.Numerals.{add-one}
 use lib.Dec.{eqb}
 use lib.ListN.{getD}
 use borrow.Author.Tests.{eqb-true, eqb-false, lt-ltb, le-ltb}
@@ -32,30 +31,16 @@ use Rattle.distances.proofs.Predecessors.{reachAt}
 use Rattle.distances.proofs.FactRowLaws.{all-same, reach-holds}
 
 -- what the variables in the set of a word add
-pub freed-next : (here : List ℕ) (word v x sum : ℕ) → inWord word v ≡ true → x ≡ getD here (8 + v) 0 → sum ≡ freedBy here word v → sum + x ≡ freedBy here word (v + 1)
-unfolding freedBy
-freed-next here word v x sum e is was =
-    let term : cond (inWord word v) (getD here (8 + v) 0) 0 ≡ x = rw e (sym is) in
-    omega (arith, ap (freedBy here word) (add-one v))
-
 freed-other : (here : List ℕ) (word v : ℕ) → inWord word v ≡ false → freedBy here word (suc v) ≡ freedBy here word v
 unfolding freedBy
 freed-other here word v e = let term : cond (inWord word v) (getD here (8 + v) 0) 0 ≡ 0 = rw e refl in omega (arith, term)
 
-pub freed-skip : (here : List ℕ) (word from r : ℕ) → from ≤ r → ((k : ℕ) → from ≤ k → k < r → inWord word k ≡ false) → freedBy here word r ≡ freedBy here word from
+freed-skip : (here : List ℕ) (word from r : ℕ) → from ≤ r → ((k : ℕ) → from ≤ k → k < r → inWord word k ≡ false) → freedBy here word r ≡ freedBy here word from
 freed-skip here word from zero l h = let is : from ≡ 0 = omega arith in ap (freedBy here word) (sym is)
 freed-skip here word from (suc r) l h =
     split-le from r
     (λ a. freed-other here word r (h r a (omega arith)) ∙ freed-skip here word from r a (λ k b c. h k b (omega arith)))
     (λ a. let is : from ≡ suc r = omega arith in ap (freedBy here word) (sym is))
-
-pub freed-most : (here : List ℕ) (word v n : ℕ) → v ≤ n → freedBy here word v ≤ freedBy here word n
-unfolding freedBy
-freed-most here word v zero l = let is : v ≡ 0 = omega arith in rw is (omega arith)
-freed-most here word v (suc n) l =
-    split-le v n
-    (λ a. omega (arith, freed-most here word v n a))
-    (λ a. let is : v ≡ suc n = omega arith in rw is (omega arith))
 
 -- what a step does to the number, variable by variable
 module _ (sizes conditions effects : List ℕ) (base : ℕ) (s : State) where

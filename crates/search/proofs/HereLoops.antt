@@ -1,13 +1,19 @@
 -- What reading off needs of a state, variable by variable; and the number of the state that an action leads to, from its parts.
-use Prim.Native.Nat.{ℕ, _+_, _-_, _*_, _≤_, _<_}
+use Prim.Native.Nat.{ℕ, zero, suc, _+_, _-_, _*_, _^_, _≤_, _<_}
 use mathlib.Core.Path.{_≡_, refl, sym, ap, subst, _∙_}
-use mathlib.Core.Bool.{Bool, true, false, _&&_}
+use mathlib.Core.Bool.{Bool, true, false, not, cond, _&&_, and-true}
 use mathlib.Core.List.{List, []}
 use native.Mathlib.Omega.{arith}
+use native.Mathlib.Nat.{zero-add}
+use lib.Bits.{bitAnd, and-le-r}
+use lib.Count.{trailingZeros}
+use lib.Dec.{eqb}
 use lib.ListN.{length, length-set, getD, set}
 use lib.Seq.{getD-set-same, getD-set-other}
+use borrow.Author.Tests.{eq-eqb, ne-eqb}
 use Rattle.files.specs.Below.{allBelow}
 use Rattle.files.proofs.Logic.{split-le}
+use Rattle.marking.proofs.RoundCount.{sum-alike, sum-zero}
 use Rattle.plans.specs.State.{State}
 use Rattle.plans.specs.Tally.{listState}
 use Rattle.distances.specs.States.{stateAt}
@@ -18,8 +24,8 @@ use Rattle.lookup.specs.FactRows.{mostFacts, factNumber, RowsFor, CheapRowsFor,
 use Rattle.search.specs.ReadOff.{HereOf, CanKnow, Begun, freedBy, takenBy, goesBy, CanGo}
 use Rattle.distances.proofs.StateLoops.{weight-first, weight-next}
 use Rattle.distances.proofs.OneChange.{state-inside}
-use Rattle.bits.proofs.BitLaws.{in-row-before}
-use Rattle.search.proofs.Going.{freed-next, freed-skip, freed-most}
+use Rattle.bits.proofs.BitLaws.{in-none, in-row-before, there-at}
+use Rattle.search.proofs.FirstBits.{zeros-below, cleared}
 
 module _ (n : ℕ) (sizes : List ℕ) (s : ℕ) where
   -- a list that begins as another, and what the variables before v add
@@ -74,29 +80,57 @@ module _ (n : ℕ) (sizes rows : List ℕ) (s : ℕ) (values : List ℕ) (state 
         added = λ w h. c .added w (omega arith);
       }
 
--- what the variables in a word add, from each to the next
-module _ (here : List ℕ) (word : ℕ) where
-  pub record Freeing (sum v : ℕ) : Type 0 where
-    pub sum-is : sum ≡ freedBy here word v
-    pub within : v ≤ 64
-    pub there : v < 64 → inWord word v ≡ true
+-- what the variables in a word add: those in an empty one nothing, and the first in another what it adds beside the others
+freed-none : (here : List ℕ) (n : ℕ) → freedBy here 0 n ≡ 0
+unfolding freedBy
+freed-none here n = sum-zero n (λ v. cond (inWord 0 v) (getD here (8 + v) 0) 0) (λ v h. rw (in-none v) refl)
 
-  pub free-begin : (r : ℕ) → FirstFrom (inWord word) 64 0 r → Freeing 0 r
+module _ (here : List ℕ) (w rest v : ℕ) (there : inWord w v ≡ true) (others : (k : ℕ) → inWord rest k ≡ inWord w k && not (eqb k v)) where
+  freed-apart : (n : ℕ) → v < n → getD here (8 + v) 0 + freedBy here rest n ≡ freedBy here w n
   unfolding freedBy
-  free-begin r f = record { sum-is = sym (freed-skip here word 0 r (omega arith) (f .skipped)); within = f .last; there = f .there }
+  freed-apart zero h = absurd (omega arith)
+  freed-apart (suc n) h =
+      split-le n v
+      (λ l.
+      let last : n ≡ v = omega arith in
+      let alike : freedBy here rest n ≡ freedBy here w n =
+      sum-alike n (λ k. cond (inWord rest k) (getD here (8 + k) 0) 0) (λ k. cond (inWord w k) (getD here (8 + k) 0) 0)
+      (λ k b. ap (λ (t : Bool). cond t (getD here (8 + k) 0) 0) (kept k (λ e. omega arith))) in
+      let own : cond (inWord w n) (getD here (8 + n) 0) 0 ≡ getD here (8 + v) 0 = rw (last, there) refl in
+      let gone : cond (inWord rest n) (getD here (8 + n) 0) 0 ≡ 0 = rw (others n, last, there, eq-eqb v v refl) refl in
+      omega (arith, alike, own, gone))
+      (λ l.
+      let same : cond (inWord rest n) (getD here (8 + n) 0) 0 ≡ cond (inWord w n) (getD here (8 + n) 0) 0 =
+      ap (λ (t : Bool). cond t (getD here (8 + n) 0) 0) (kept n (λ e. omega arith)) in
+      omega (arith, freed-apart n l, same))
+    where
+      kept : (k : ℕ) → (k ≡ v → ⊥) → inWord rest k ≡ inWord w k
+      kept k d = others k ∙ ap (λ (t : Bool). inWord w k && not t) (ne-eqb k v d) ∙ and-true (inWord w k)
 
-  module _ (sum v : ℕ) (c : Freeing sum v) (h : v < 64) where
-    next-sum : sum + getD here (8 + v) 0 ≡ freedBy here word (v + 1)
-    next-sum = freed-next here word v (getD here (8 + v) 0) sum (c .there h) refl (c .sum-is)
+-- a word of which the variables in `rest` are still to be added
+module _ (here : List ℕ) (word : ℕ) where
+  pub record Freeing (sum rest : ℕ) : Type 0 where
+    pub sum-is : sum + freedBy here rest 64 ≡ freedBy here word 64
+    pub few : rest < 2 ^ 64
 
-    pub free-few : freedBy here word 64 ≤ 1000000 → sum + getD here (8 + v) 0 ≤ 1000000
-    free-few few = omega (arith, next-sum, freed-most here word (v + 1) 64 (omega arith))
+  pub free-begin : word < 2 ^ 64 → Freeing 0 word
+  free-begin few = record { sum-is = zero-add (freedBy here word 64); few = few }
 
-    pub free-next : (r : ℕ) → FirstFrom (inWord word) 64 (v + 1) r → Freeing (sum + getD here (8 + v) 0) r
-    free-next r f = record { sum-is = next-sum ∙ sym (freed-skip here word (v + 1) r (f .first) (f .skipped)); within = f .last; there = f .there }
+  module _ (sum rest : ℕ) (c : Freeing sum rest) (h : 0 < rest) where
+    below : trailingZeros 64 rest < 64
+    below = zeros-below 64 rest h (c .few)
 
-  pub free-end : (sum v : ℕ) → Freeing sum v → 64 ≤ v → sum ≡ freedBy here word 64
-  free-end sum v c l = let last : v ≡ 64 = omega (arith, c .within) in c .sum-is ∙ ap (freedBy here word) last
+    next-sum : sum + getD here (8 + trailingZeros 64 rest) 0 + freedBy here (bitAnd rest (rest - 1)) 64 ≡ freedBy here word 64
+    next-sum = omega (arith, c .sum-is, freed-apart here rest (bitAnd rest (rest - 1)) (trailingZeros 64 rest) (there-at 64 rest below) (cleared 64 rest below) 64 below)
+
+    pub free-few : freedBy here word 64 ≤ 1000000 → sum + getD here (8 + trailingZeros 64 rest) 0 ≤ 1000000
+    free-few few = omega (arith, next-sum)
+
+    pub free-next : Freeing (sum + getD here (8 + trailingZeros 64 rest) 0) (bitAnd rest (rest - 1))
+    free-next = record { sum-is = next-sum; few = omega (arith, and-le-r rest (rest - 1), c .few) }
+
+  pub free-end : (sum rest : ℕ) → Freeing sum rest → rest ≤ 0 → sum ≡ freedBy here word 64
+  free-end sum rest c l = let none : rest ≡ 0 = omega arith in omega (arith, c .sum-is, ap (λ (w : ℕ). freedBy here w 64) none, freed-none here 64)
 
 -- the state that an action leads to
 module _ (here moves : List ℕ) (s a : ℕ) (b : Bool) (is : b ≡ inWords here 0 a) where

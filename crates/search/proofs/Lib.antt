@@ -12,6 +12,7 @@ pub mod Hand
 pub mod EntrySlices
 pub mod Spelled
 pub mod TableFilling
+pub mod FirstBits
 pub mod Going
 pub mod HereLoops
 pub mod Leading

@@ -53,16 +53,17 @@ pub fn here(sizes: &[u8; 64], rows: &[u64; 1192], variables: usize, state: usize
     here
 }
 
-// What the values of the variables in a word add to the number of the state.
+// What the values of the variables in a word add to the number of the state. `rest & (rest - 1)` is
+// the rest without its first variable.
 fn freed(here: &[u64; 72], word: u64) -> u64
     requires { ⌜ freedBy (now here) word 64 ≤ 1000000 ⌝ }
     ensures { λ r. ⌜ r ≡ freedBy (now (here .entry)) word 64 ⌝ }
 {
     let mut sum: u64 = 0;
-    let mut v = sets::first_in(word, 0, 64);
-    while v < 64 {
-        sum = sum + here[8 + v];
-        v = sets::first_in(word, v + 1, 64);
+    let mut rest = word;
+    while 0 < rest {
+        sum = sum + here[8 + u64::trailing_zeros(rest) as usize];
+        rest = rest & (rest - 1);
     }
     sum
 }
