@@ -19,7 +19,7 @@ use Rattle.plans.specs.Tally.{listState}
 use Rattle.distances.specs.States.{stateAt}
 use Rattle.distances.specs.Rows.{rowVariables, rowState}
 use Rattle.lookup.specs.Moves.{rowWeight}
-use Rattle.bits.specs.Sets.{inWord, inWords, FirstFrom}
+use Rattle.bits.specs.Sets.{inWord, inWords}
 use Rattle.lookup.specs.FactRows.{mostFacts, factNumber, RowsFor, CheapRowsFor, InCheapRows}
 use Rattle.search.specs.ReadOff.{HereOf, CanKnow, Begun, freedBy, takenBy, goesBy, CanGo}
 use Rattle.distances.proofs.StateLoops.{weight-first, weight-next}

@@ -1,6 +1,6 @@
 //! Looks for tasks that take the planner long: shapes of tasks by chance, and
 //! small changes of the slowest so far. Prints each that is slower than all
-//! before. So many seconds are spent, 60 if none are given.
+//! before. Takes seconds to spend, 60 if none are given, and a seed.
 
 use std::time::{Duration, Instant};
 
@@ -8,6 +8,9 @@ use shortest::lent;
 use shortest_check::buffers::Buffers;
 use shortest_check::reference::files::{Action, Fact, Task, MOST_ACTIONS, MOST_COST};
 use shortest_check::reference::generate::{counter_of, task_file, Random};
+
+/// So many of the slowest are changed further.
+const KEPT: usize = 20;
 
 /// Sizes of variables whose product is 4,096 or little less.
 const SIZES: [&[u16]; 8] = [
@@ -134,16 +137,18 @@ fn time(lent: &mut Buffers, file: &[u8]) -> Duration {
 }
 
 fn main() {
-    let given = std::env::args().nth(1).map(|text| text.parse());
-    let seconds = given.unwrap_or(Ok(60)).expect("a number of seconds");
-    let end = Instant::now() + Duration::from_secs(seconds);
-    let random = &mut Random::new(9);
+    let given = |place: usize, other: u64| match std::env::args().nth(place) {
+        Some(text) => text.parse().expect("a number"),
+        None => other,
+    };
+    let end = Instant::now() + Duration::from_secs(given(1, 60));
+    let random = &mut Random::new(given(2, 1));
     let lent = &mut Buffers::long();
     let mut slowest: Vec<(Duration, Shape)> = Vec::new();
     let mut tried = 0;
     while Instant::now() < end {
         let shape = match slowest.len() {
-            5 if random.chance(70) => slowest[random.below(5)].1.changed(random),
+            KEPT if random.chance(80) => slowest[random.below(KEPT)].1.changed(random),
             _ => Shape::any(random),
         };
         let time = time(lent, &task_file(&shape.task()));
@@ -153,7 +158,7 @@ fn main() {
         }
         slowest.push((time, shape));
         slowest.sort_by_key(|(time, _)| std::cmp::Reverse(*time));
-        slowest.truncate(5);
+        slowest.truncate(KEPT);
     }
     println!("{tried} tasks");
 }
