@@ -4,7 +4,7 @@
  * Every call takes arbitrary bytes and buffers of any length, and refuses what does not serve.
  * A buffer is a pointer and the number of its elements. The pointer is not null, also where the
  * number is 0, and is aligned for its elements. A buffer that is written overlaps no other buffer
- * and not `out`. The calls keep nothing between them, allocate nothing, and use up to about 575 KiB
+ * and not `out`. The calls keep nothing between them, allocate nothing, and use up to about 375 KiB
  * of the stack.
  *
  * The answer of a call is written to `out`, all of its eighteen numbers at every call; a number
