@@ -225,11 +225,10 @@ step-other a e =
     let totals : entryTotal (afterStep a e) ≡ entryTotal e = cc in
     omega (arith, step-more a e, ap (λ (x : Total). x .steps) totals)))
 
--- by way of none there is no entry
-pub far-not-same : (a : Action) (x y : Entry) (d e : Distance) → x ≡ entryOf d → isNone x ≡ true → e ≡ some (entryTotal y) → Near y
+-- where no distance with a step more has an entry's minutes, there is no way to the entry
+pub minutes-not-same : (a : Action) (y : Entry) (d e : Distance) → e ≡ some (entryTotal y) → ((total : Total) → d ≡ some total → addStep a total .minutes ≡ minutesOf y → ⊥)
     → false ≡ same (stepTo a d) e
-unfolding isNone
-far-not-same a x y d e p far q near =
+minutes-not-same a y d e q apart =
     not-same (stepTo a d) e
     (λ z.
     split-option d
@@ -237,7 +236,16 @@ far-not-same a x y d e p far q near =
     (λ total w.
     let here : some (addStep a total) ≡ some (entryTotal y) = sym (stepTo-some a total) ∙ sym (ap (stepTo a) w) ∙ z ∙ q in
     let totals : addStep a total ≡ entryTotal y = cc in
-    omega (arith, near, eqb-true (minutesOf x) (minutesOf noEntry) far, ap (λ (t : Total). t .minutes) totals, addStep-minutes a total, ap (λ (t : Total). t .minutes) (total-is x d total p w))))
+    apart total w (ap (λ (t : Total). t .minutes) totals)))
+
+-- by way of none there is no entry
+pub far-not-same : (a : Action) (x y : Entry) (d e : Distance) → x ≡ entryOf d → isNone x ≡ true → e ≡ some (entryTotal y) → Near y
+    → false ≡ same (stepTo a d) e
+unfolding isNone
+far-not-same a x y d e p far q near =
+    minutes-not-same a y d e q
+    (λ total w m.
+    omega (arith, near, m, eqb-true (minutesOf x) (minutesOf noEntry) far, addStep-minutes a total, ap (λ (t : Total). t .minutes) (total-is x d total p w)))
 
 -- an entry in a list of numbers
 pub entry-read : (entries : List ℕ) (s : ℕ) → entry (getD entries (2 * s) 0) (getD entries (2 * s + 1) 0 % 65536) ≡ entryIn entries s

@@ -10,8 +10,7 @@ use lib.ListN.{getD}
 use borrow.Author.Tests.{leb-false, ltb-true, ltb-false, lt-ltb, le-ltb, not-true}
 use Rattle.files.specs.Dense.{rowAction}
 use Rattle.files.specs.Task.{Action, Task, actionOf, actionCount}
-use Rattle.files.proofs.Logic.{clash, split, split-le, split-option, and-split, and-join}
-use Rattle.plans.specs.Plan.{Total, addStep}
+use Rattle.files.proofs.Logic.{clash, split, split-le, and-split, and-join}
 use Rattle.plans.specs.State.{applicable}
 use Rattle.distances.specs.States.{stateAt}
 use Rattle.distances.specs.Table.{Distance, minutesOf, same, stepTo, nextState, through, distances, entryOf}
@@ -25,22 +24,14 @@ use Rattle.search.specs.declared.first_plan.Step.{Step}
 use Rattle.search.specs.declared.stages.Searched.{Searched}
 use Rattle.search.specs.ReadOff.{goesBy, CanStepFrom, StepFrom, hasBy, CanCompare, HasBy, LooksOn, CanLead, Leads, FirstLed}
 use Rattle.search.proofs.Going.{goes-below, goes-nowhere, applies-is, goes-is}
-use Rattle.distances.proofs.DistanceLaws.{some-none, stepTo-none, stepTo-some, addStep-minutes}
+use Rattle.distances.proofs.DistanceLaws.{some-none, addStep-minutes}
 use Rattle.distances.proofs.Distances.{through-applicable, through-not}
-use Rattle.distances.proofs.EntryLaws.{low-near, some-distance, not-same, same-step, step-other, far-not-same}
+use Rattle.distances.proofs.EntryLaws.{low-near, some-distance, not-same, same-step, step-other, minutes-not-same, far-not-same}
 use Rattle.search.proofs.ReadOff.{tight, first-tight}
 
 -- by way of an action that costs more than an entry has minutes there is none
 dear-not-same : (a : Action) (y : Entry) (d e : Distance) → e ≡ some (entryTotal y) → minutesOf y < a .cost → false ≡ same (stepTo a d) e
-dear-not-same a y d e q dear =
-    not-same (stepTo a d) e
-    (λ z.
-    split-option d
-    (λ w. some-none (entryTotal y) (sym q ∙ sym z ∙ ap (stepTo a) w ∙ stepTo-none a))
-    (λ total w.
-    let here : some (addStep a total) ≡ some (entryTotal y) = sym (stepTo-some a total) ∙ sym (ap (stepTo a) w) ∙ z ∙ q in
-    let totals : addStep a total ≡ entryTotal y = cc in
-    omega (arith, dear, ap (λ (t : Total). t .minutes) totals, addStep-minutes a total)))
+dear-not-same a y d e q dear = minutes-not-same a y d e q (λ total w m. omega (arith, dear, m, addStep-minutes a total))
 
 -- whether a state has its entry by way of an action, as the code finds it
 module _ (t : Task) (look : ℕ → Entry) (searched : Searched) (s : ℕ) (here costs moves : List ℕ) (k : Leads t look searched s here costs moves) where
