@@ -7,7 +7,7 @@ use mathlib.Core.Logic.{_↔_}
 use lib.ListN.{length, getD}
 use Rattle.files.specs.Bytes.{Octets}
 use Rattle.files.specs.Outcome.{done}
-use Rattle.files.specs.Task.{Task}
+use Rattle.files.specs.Task.{Task, actionCount}
 use Rattle.files.specs.TaskFile.{checkTask, taskOf}
 use Rattle.files.specs.OriginFile.{originOf}
 use Rattle.files.specs.Reading.{readTask, readOrigin, under}
@@ -43,6 +43,8 @@ pub record FilesPreserve (task : List ℕ) (level signer : ℕ) : Type 0 where
   -- the reduced file is accepted, and reads as the reduced task under the signer; likewise the origin file
   pub reduced-reads : readTask (reducedFile (taskOf task) level signer) ≡ under (reducedTask (taskOf task) level) signer
   pub origin-reads : readOrigin (originsFile (taskOf task) level signer) ≡ under (originsAt (taskOf task) level) signer
+  -- the reduced file has as many actions as kind 7 has numbers
+  pub as-many : length (originOf (originsFile (taskOf task) level signer) .actions) ≡ actionCount (taskOf (reducedFile (taskOf task) level signer))
   -- it is no longer than the file that it came from
   pub no-longer : length (reducedFile (taskOf task) level signer) ≤ length task
   -- plans of the one file's task and of the other's, by the numbers in the origin file

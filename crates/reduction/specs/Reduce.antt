@@ -1,5 +1,6 @@
 -- Reduction called alone: the row of check, marking and reduction, with what each lent buffer holds after every outcome.
 use Prim.Native.Nat.{ℕ}
+use mathlib.Core.Bool.{Bool, _&&_}
 use mathlib.Core.List.{List, [], _∷_}
 use lib.Dec.{leb}
 use lib.ListN.{length}
@@ -10,8 +11,8 @@ use Rattle.files.specs.Task.{Task, actionCount, factCount}
 use Rattle.files.specs.TaskFile.{checkTask, taskOf, taskFile}
 use Rattle.files.specs.OriginFile.{Origin, originFile}
 use Rattle.marking.specs.Rounds.{marking}
-use Rattle.marking.specs.Mark.{validLevel, marksFit, actionMarksOf, factMarksOf}
-use Rattle.reduction.specs.Task.{reducedTask, originsAt}
+use Rattle.marking.specs.Mark.{marksFit, actionMarksOf, factMarksOf}
+use Rattle.reduction.specs.Task.{markLevel, reducedTask, originsAt, turnCount}
 use Rattle.reduction.specs.declared.Reduced.{Reduced}
 
 -- the files of the reduced task and its origins under a signer
@@ -42,24 +43,28 @@ buffers actions facts reduced origin = record { actions = actions; facts = facts
 abbrev pub withMarks : Task → ℕ → Buffers → Buffers
 withMarks t level b =
     buffers
-    (overwrite (b .actions) (actionMarksOf t level))
-    (overwrite (b .facts) (factMarksOf t level))
+    (overwrite (b .actions) (actionMarksOf t (markLevel level)))
+    (overwrite (b .facts) (factMarksOf t (markLevel level)))
     (b .reduced)
     (b .origin)
 
 abbrev pub withFiles : Task → ℕ → ℕ → Buffers → Buffers
 withFiles t level signer b =
     buffers
-    (overwrite (b .actions) (actionMarksOf t level))
-    (overwrite (b .facts) (factMarksOf t level))
+    (overwrite (b .actions) (actionMarksOf t (markLevel level)))
+    (overwrite (b .facts) (factMarksOf t (markLevel level)))
     (overwrite (b .reduced) (reducedFile t level signer))
     (overwrite (b .origin) (originsFile t level signer))
+
+-- reduction takes the levels 1 to 5
+unfoldable pub validReduction : ℕ → Bool
+validReduction level = leb 1 level && leb level 5
 
 -- the file, the level and the signer that are given
 unfoldable pub reduceInput : List ℕ → ℕ → ℕ → Outcome
 reduceInput task level signer =
     andThen (checkTask task)
-    (guard (validLevel level) 8 0
+    (guard (validReduction level) 8 0
     (guard (leb 1 signer) 7 0
     done))
 
@@ -70,7 +75,7 @@ reduceStages input t level signer b =
     ∷ stage (filesFit (reducedTask t level) (originsAt t level) signer (length (b .reduced)) (length (b .origin))) (withFiles t level signer b)
     ∷ []
 
--- the four lengths and the round count
+-- the four lengths, the round count and the turn count
 abbrev pub reduceWhole : Task → ℕ → ℕ → Reduced
 reduceWhole t level signer =
     record {
@@ -79,12 +84,13 @@ reduceWhole t level signer =
       «fact_marks» = factCount t;
       reduced = length (reducedFile t level signer);
       origin = length (originsFile t level signer);
-      rounds = marking t level .rounds;
+      rounds = marking t (markLevel level) .rounds;
+      turns = turnCount t level;
     }
 
--- beside a refusal there are no lengths and no rounds
+-- beside a refusal there are no lengths, rounds and turns
 abbrev pub noFiles : Outcome → Reduced
-noFiles o = record { outcome = o; «action_marks» = 0; «fact_marks» = 0; reduced = 0; origin = 0; rounds = 0 }
+noFiles o = record { outcome = o; «action_marks» = 0; «fact_marks» = 0; reduced = 0; origin = 0; rounds = 0; turns = 0 }
 
 -- reduction of a task, after what is given: what it answers, and what the buffers hold now
 abbrev pub ReducesTask : Outcome → Task → ℕ → ℕ → Buffers → Reduced → Buffers → Type 0

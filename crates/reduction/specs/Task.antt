@@ -1,64 +1,34 @@
--- The reduced task, its origins, and lists of its actions by original numbers.
+-- The reduced task at a level, its origins, its turn count, and lists of its actions by original numbers.
 use Prim.Native.Nat.{ℕ}
-use mathlib.Core.Bool.{Bool, cond}
-use mathlib.Core.List.{List, [], _∷_, map}
+use mathlib.Core.Bool.{cond}
+use mathlib.Core.List.{List, map}
+use lib.Dec.{eqb}
 use lib.ListN.{getD}
-use Rattle.files.specs.Below.{tabulate, chosenBelow}
-use Rattle.files.specs.Task.{Pair, Variable, Action, Task, pair, variable, action, variableCount, actionCount, actionOf, sizeOf, startOf}
+use Rattle.files.specs.Task.{Task}
 use Rattle.files.specs.OriginFile.{Origin}
-use Rattle.marking.specs.Marks.{kept}
-use Rattle.marking.specs.Rounds.{marking}
-use Rattle.reduction.specs.Named.{keptVariable}
-use Rattle.reduction.specs.Renumber.{newVariable, newValue, newSize}
+use Rattle.reduction.specs.ReducedBy.{reducedBy, originBy, keptAt}
+use Rattle.reduction.specs.Turns.{turning}
 
--- kept variables and kept actions by their original numbers, in order
-unfoldable pub keptVariables : Task → (ℕ → Bool) → List ℕ
-keptVariables t A = chosenBelow (variableCount t) (keptVariable t A)
+-- at level 5 marks and round count are the first turn's, at level 4
+unfoldable pub markLevel : ℕ → ℕ
+markLevel level = cond (eqb level 5) 4 level
 
-unfoldable pub keptActions : Task → (ℕ → Bool) → List ℕ
-keptActions t A = chosenBelow (actionCount t) A
-
--- pairs of dropped variables go with them
-unfoldable pub reducedPairs : Task → (ℕ → Bool) → List Pair → List Pair
-reducedPairs t A [] = []
-reducedPairs t A (p ∷ ps) =
-    cond
-    (keptVariable t A (p .variable))
-    (pair (newVariable t A (p .variable)) (newValue t A (p .variable) (p .value)) ∷ reducedPairs t A ps)
-    (reducedPairs t A ps)
-
-unfoldable pub reducedVariable : Task → (ℕ → Bool) → ℕ → Variable
-reducedVariable t A v = variable (newSize t A v) (newValue t A v (startOf t v))
-
-unfoldable pub reducedAction : Task → (ℕ → Bool) → Action → Action
-reducedAction t A a = action (a .cost) (reducedPairs t A (a .conditions)) (reducedPairs t A (a .effects))
-
-unfoldable pub reducedBy : Task → (ℕ → Bool) → Task
-reducedBy t A =
-    record {
-      variables = map (reducedVariable t A) (keptVariables t A);
-      goal = reducedPairs t A (t .goal);
-      actions = map (λ a. reducedAction t A (actionOf t a)) (keptActions t A);
-    }
-
--- a variable origin for each kept variable, and the kept actions
-unfoldable pub originBy : Task → (ℕ → Bool) → Origin
-originBy t A =
-    record {
-      variables = map (λ v. record { variable = v; values = tabulate (sizeOf t v) (newValue t A v) }) (keptVariables t A);
-      actions = keptActions t A;
-    }
-
--- the actions kept at a level
-unfoldable pub keptAt : Task → ℕ → ℕ → Bool
-keptAt t level = kept (marking t level .marks)
-
--- the reduced task at a level (01)
+-- the reduced task at a level (01); at level 5 what the turns leave (02)
 unfoldable pub reducedTask : Task → ℕ → Task
-reducedTask t level = reducedBy t (keptAt t level)
+reducedTask t level =
+    let turned = turning t .task in
+    let reduced = reducedBy t (keptAt t level) in
+    cond (eqb level 5) turned reduced
 
 unfoldable pub originsAt : Task → ℕ → Origin
-originsAt t level = originBy t (keptAt t level)
+originsAt t level =
+    let turned = turning t .origin in
+    let reduced = originBy t (keptAt t level) in
+    cond (eqb level 5) turned reduced
+
+-- the turn count, 0 at other levels
+unfoldable pub turnCount : Task → ℕ → ℕ
+turnCount t level = let turned = turning t .turns in cond (eqb level 5) turned 0
 
 -- a list of the reduced task's actions by original numbers (01)
 unfoldable pub byOriginal : Task → ℕ → List ℕ → List ℕ
