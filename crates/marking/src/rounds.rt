@@ -23,16 +23,16 @@ pub struct Scope {
 }
 
 // The marks after the last round: kept actions, relevant facts, and of those the unlinked ones.
-struct Marks {
-    kept: [u8; 512],
-    facts: [u8; 2048],
-    unlinked: [u8; 2048],
-    rounds: usize,
+pub struct Marks {
+    pub kept: [u8; 512],
+    pub facts: [u8; 2048],
+    pub unlinked: [u8; 2048],
+    pub rounds: usize,
 }
 
 // The rounds up to the first that changes nothing. Each looks at the actions kept and the facts
 // unlinked since the one before. `coverers` has what covered each action when it was last sought.
-fn run(
+pub fn run(
     scope: Scope,
     sizes: &[u8; 64],
     starts: &[u8; 64],
