@@ -16,10 +16,10 @@ use Rattle.files.proofs.Listed.{listed-done, listed-front, listed-behind, liste
 use Rattle.files.proofs.Guards.{guard-passes}
 use Rattle.files.proofs.Logic.{and-split}
 use Rattle.files.proofs.Stages.{fits-in}
-use Rattle.marking.specs.Mark.{validLevel, marksFit}
+use Rattle.marking.specs.Mark.{marksFit}
 use Rattle.marking.proofs.Answers.{marks-listed}
 use Rattle.reduction.specs.Answers.{reduceRefusals, ReduceAnswers, LongEnough}
-use Rattle.reduction.specs.Reduce.{Buffers, withFiles, reducedFile, originsFile, filesFit, reduceInput, reduceStages, reduceFileStages, reduceWhole, reduce, reduceAfter}
+use Rattle.reduction.specs.Reduce.{Buffers, withFiles, reducedFile, originsFile, filesFit, validReduction, reduceInput, reduceStages, reduceFileStages, reduceWhole, reduce, reduceAfter}
 use Rattle.reduction.specs.Task.{reducedTask, originsAt}
 
 module _ (task : List ℕ) (level signer : ℕ) (b : Buffers) where
@@ -80,7 +80,7 @@ module _ (task : List ℕ) (level signer : ℕ) (b : Buffers) where
   reduce-answers = record { outcome = stages-listed; numbers = refl; buffers = refl }
 
 -- long enough buffers, an accepted task, a valid level and signer: nothing is refused
-module _ (task : List ℕ) (level signer : ℕ) (b : Buffers) (e : checkTask task ≡ done) (v : validLevel level ≡ true) (s : validSigner signer ≡ true) (long : LongEnough task level signer b) where
+module _ (task : List ℕ) (level signer : ℕ) (b : Buffers) (e : checkTask task ≡ done) (v : validReduction level ≡ true) (s : validSigner signer ≡ true) (long : LongEnough task level signer b) where
   pub marks-fit : marksFit (taskOf task) (length (b .actions)) (length (b .facts)) ≡ done
   unfolding marksFit
   marks-fit = fits-in (actionCount (taskOf task)) (length (b .actions)) _ (long .actions) ∙ fits-in (factCount (taskOf task)) (length (b .facts)) done (long .facts)
@@ -89,7 +89,7 @@ module _ (task : List ℕ) (level signer : ℕ) (b : Buffers) (e : checkTask tas
   unfolding reduceInput andThen isDone validSigner
   input-passes =
       let signed = and-split (leb 1 signer) (ltb signer 4294967296) s .0 in
-      rw e (sym (guard-passes (validLevel level) 8 0 _ done v (guard-passes (leb 1 signer) 7 0 _ done signed refl)))
+      rw e (sym (guard-passes (validReduction level) 8 0 _ done v (guard-passes (leb 1 signer) 7 0 _ done signed refl)))
 
   files-fit : filesFit (reducedTask (taskOf task) level) (originsAt (taskOf task) level) signer (length (b .reduced)) (length (b .origin)) ≡ done
   unfolding filesFit reducedFile originsFile

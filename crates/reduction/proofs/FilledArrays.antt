@@ -18,7 +18,7 @@ use Rattle.reduction.specs.Contracts.{ChosenAre, Numbered}
 use Rattle.reduction.specs.Dense.{namedAt, changedAt, namedValue, keepsAt, newValueAt, newSizeAt, mappedCell}
 use Rattle.reduction.specs.Named.{named, keptVariable}
 use Rattle.reduction.specs.Renumber.{newValue}
-use Rattle.reduction.specs.Task.{reducedBy, originBy}
+use Rattle.reduction.specs.ReducedBy.{reducedBy, originBy}
 use Rattle.reduction.proofs.NamedHeld.{named-held, changed-held, keeps-held, newValue-held, newSize-held}
 use Rattle.reduction.proofs.ReducedHeld.{chosen-alike, number-known, reduced-held, origin-held}
 

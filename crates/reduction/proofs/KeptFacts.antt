@@ -20,7 +20,7 @@ use Rattle.marking.proofs.LinkLaws.{unthreatened-effect}
 use Rattle.marking.specs.Links.{threatened}
 use Rattle.reduction.specs.Named.{named, hasNamed, settled, keptVariable}
 use Rattle.reduction.specs.Renumber.{newVariable, namedCount, newValue}
-use Rattle.reduction.specs.Task.{reducedPairs}
+use Rattle.reduction.specs.ReducedBy.{reducedPairs}
 
 module _ (t : Task) (A : ℕ → Bool) where
   -- a settled variable: its named facts are its start fact, and it is unthreatened

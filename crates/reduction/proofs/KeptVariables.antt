@@ -9,7 +9,7 @@ use Rattle.files.specs.Task.{Variable, Task, variable, variableCount, variableO
 use Rattle.files.proofs.BelowLaws.{count-strict, chosen-length, chosen-at, map-entry}
 use Rattle.reduction.specs.Named.{keptVariable}
 use Rattle.reduction.specs.Renumber.{newVariable, newValue, newSize}
-use Rattle.reduction.specs.Task.{keptVariables, reducedVariable, reducedBy}
+use Rattle.reduction.specs.ReducedBy.{keptVariables, reducedVariable, reducedBy}
 
 module _ (t : Task) (A : ℕ → Bool) where
   pub reduced-variables : variableCount (reducedBy t A) ≡ countBelow (variableCount t) (keptVariable t A)
@@ -20,7 +20,7 @@ module _ (t : Task) (A : ℕ → Bool) where
   unfolding newVariable
   newVariable-known v known kept = omega (arith, reduced-variables, count-strict (keptVariable t A) (variableCount t) v known kept)
 
-  reduced-variable : (v : ℕ) → v < variableCount t → keptVariable t A v ≡ true → variableOf (reducedBy t A) (newVariable t A v) ≡ reducedVariable t A v
+  pub reduced-variable : (v : ℕ) → v < variableCount t → keptVariable t A v ≡ true → variableOf (reducedBy t A) (newVariable t A v) ≡ reducedVariable t A v
   unfolding reducedBy keptVariables newVariable
   reduced-variable v known kept =
       let K = keptVariable t A in

@@ -36,7 +36,7 @@ not-empty n h = ap (λ (k : ℕ). not (eqb k 0)) (marked-bit n h) ∙ ap not (bi
     twice false = refl
 
 -- counts that agree, and counts up to a smaller bound
-count-alike : (n : ℕ) (f g : ℕ → Bool) → ((i : ℕ) → i < n → f i ≡ g i) → countBelow n f ≡ countBelow n g
+pub count-alike : (n : ℕ) (f g : ℕ → Bool) → ((i : ℕ) → i < n → f i ≡ g i) → countBelow n f ≡ countBelow n g
 count-alike zero f g h = refl
 count-alike (suc n) f g h = ap₂ (λ (b : Bool) (k : ℕ). bit b + k) (h n (omega arith)) (count-alike n f g (λ i l. h i (omega arith)))
 

@@ -21,11 +21,18 @@ use Rattle.files.proofs.HeldTask.{variables-held, actions-held, size-held, star
 use Rattle.reduction.specs.Dense.{mappedCell}
 use Rattle.reduction.specs.Named.{named, keptVariable}
 use Rattle.reduction.specs.Renumber.{newVariable, namedCount, newValue, newSize}
-use Rattle.reduction.specs.Task.{keptVariables, keptActions, reducedPairs, reducedVariable, reducedAction, reducedBy, originBy}
+use Rattle.reduction.specs.ReducedBy.{keptVariables, keptActions, reducedPairs, reducedVariable, reducedAction, reducedBy, originBy}
 
 pub chosen-alike : (n : ℕ) (f g : ℕ → Bool) → ((i : ℕ) → i < n → f i ≡ g i) → chosenBelow n f ≡ chosenBelow n g
 chosen-alike zero f g h = refl
 chosen-alike (suc n) f g h = ap₂ (λ (l : List ℕ) (b : Bool). l ++ cond b (n ∷ []) []) (chosen-alike n f g (λ i l. h i (omega arith))) (h n (omega arith))
+
+-- a cell that has a value
+pub mapped-known : (values : List ℕ) (v e : ℕ) → e < 32 → mappedCell values v e ≡ getD values (32 * v + e) 0
+unfolding mappedCell
+mapped-known values v e h =
+    let rest : e % 32 ≡ e = omega arith in
+    ap (λ (b : Bool). cond b 255 (getD values (32 * v + e % 32) 0)) (ne-eqb e 255 (λ q. omega arith)) ∙ ap (λ (n : ℕ). getD values (32 * v + n) 0) rest
 
 -- numbers that stand in an array
 module _ (K : ℕ → Bool) (n : ℕ) (numbers : List ℕ) (count : ℕ) (are : rowNumbers numbers 0 count ≡ chosenBelow n K) where
@@ -74,12 +81,7 @@ module _ (d : Arrays) (ok : Valid (held d)) (A : ℕ → Bool) where
       (value : (v e : ℕ) → v < d .variables → e < sizeOf (held d) v → getD values (32 * v + e) 0 ≡ newValue (held d) A v e)
       (are : rowNumbers numbers 0 count ≡ chosenBelow (d .variables) K) where
     mapped-value : (v e : ℕ) → v < d .variables → e < sizeOf (held d) v → mappedCell values v e ≡ newValue (held d) A v e
-    unfolding mappedCell
-    mapped-value v e h k =
-        let rest : e % 32 ≡ e = omega (arith, ok .size-most v) in
-        ap (λ (b : Bool). cond b 255 (getD values (32 * v + e % 32) 0)) (ne-eqb e 255 (λ q. omega (arith, ok .size-most v)))
-        ∙ ap (λ (n : ℕ). getD values (32 * v + n) 0) rest
-        ∙ value v e h k
+    mapped-value v e h k = mapped-known values v e (omega (arith, ok .size-most v)) ∙ value v e h k
 
     none : (v x : ℕ) → eqb x 255 ≡ true → mappedCell values v x ≡ 255
     unfolding mappedCell

@@ -14,9 +14,9 @@ use Rattle.files.proofs.Lengths.{record-bytes-length, signed-length, action-bod
 use Rattle.files.proofs.CountOrder.{count-most}
 use Rattle.reduction.specs.Named.{keptVariable}
 use Rattle.reduction.specs.Renumber.{newVariable, newValue}
-use Rattle.reduction.specs.Task.{keptActions, reducedPairs, reducedAction, reducedBy}
+use Rattle.reduction.specs.ReducedBy.{keptActions, reducedPairs, reducedAction, reducedBy}
 use Rattle.reduction.proofs.KeptVariables.{reduced-variables}
-use Rattle.reduction.proofs.KeptActions.{reduced-count}
+use Rattle.reduction.proofs.KeptActions.{reduced-chooses, chosen-count}
 
 -- sums below a bound
 sum-first : (f : ℕ → ℕ) (n : ℕ) → sumBelow (suc n) f ≡ f 0 + sumBelow n (λ i. f (suc i))
@@ -35,13 +35,13 @@ actions-first : (a : Action) (rest : List Action) → length (actionBytes (a ∷
 unfolding actionBytes
 actions-first a rest = length-append (recordBytes 4 (actionBody a)) (actionBytes rest)
 
-actions-sum : (actions : List Action) → length (actionBytes actions) ≡ sumBelow (length actions) (λ i. recordLength (getD actions i (action 0 [] [])))
+pub actions-sum : (actions : List Action) → length (actionBytes actions) ≡ sumBelow (length actions) (λ i. recordLength (getD actions i (action 0 [] [])))
 unfolding actionBytes
 actions-sum [] = refl
 actions-sum (a ∷ rest) =
     omega (arith, actions-first a rest, actions-sum rest, sum-first (λ i. recordLength (getD (a ∷ rest) i (action 0 [] []))) (length rest))
 
-chosen-sum : (f : ℕ → Action) (K : ℕ → Bool) (n : ℕ) → length (actionBytes (map f (chosenBelow n K))) ≤ sumBelow n (λ i. recordLength (f i))
+pub chosen-sum : (f : ℕ → Action) (K : ℕ → Bool) (n : ℕ) → length (actionBytes (map f (chosenBelow n K))) ≤ sumBelow n (λ i. recordLength (f i))
 unfolding actionBytes
 chosen-sum f K zero = omega arith
 chosen-sum f K (suc n) =
@@ -62,7 +62,7 @@ module _ (t : Task) (A : ℕ → Bool) where
   reduced-variables-few = omega (arith, reduced-variables t A, count-most (variableCount t) (keptVariable t A))
 
   pub reduced-actions-few : actionCount (reducedBy t A) ≤ actionCount t
-  reduced-actions-few = omega (arith, reduced-count t A, count-most (actionCount t) A)
+  reduced-actions-few = omega (arith, chosen-count (reduced-chooses t A), count-most (actionCount t) A)
 
   pub reduced-pairs-few : (ps : List Pair) → length (reducedPairs t A ps) ≤ length ps
   unfolding reducedPairs

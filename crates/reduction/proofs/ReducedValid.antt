@@ -21,20 +21,20 @@ use Rattle.marking.specs.Links.{setsOther, threatened}
 use Rattle.files.proofs.CountOrder.{count-most}
 use Rattle.reduction.specs.Named.{named, hasNamed, settled, keptVariable}
 use Rattle.reduction.specs.Renumber.{newVariable, namedCount, newValue, newSize}
-use Rattle.reduction.specs.Task.{reducedPairs, reducedAction, reducedBy}
+use Rattle.reduction.specs.ReducedBy.{reducedPairs, reducedAction, reducedBy}
 use Rattle.reduction.proofs.KeptVariables.{reduced-variables, newVariable-known, reduced-size, reduced-start}
-use Rattle.reduction.proofs.KeptActions.{originalOf, reduced-action}
+use Rattle.reduction.proofs.KeptActions.{originalOf, reduced-chooses, chosen-action}
 use Rattle.reduction.proofs.ReducedLength.{reduced-variables-few, reduced-actions-few, reduced-pairs-few, reduced-goal-few, reduced-file-length}
 
 -- how many numbers below a bound pass: all of them where none fails, fewer where one does
-count-all : (K : ℕ → Bool) (n : ℕ) → anyBelow n (λ i. not (K i)) ≡ false → countBelow n K ≡ n
+pub count-all : (K : ℕ → Bool) (n : ℕ) → anyBelow n (λ i. not (K i)) ≡ false → countBelow n K ≡ n
 count-all K zero e = refl
 count-all K (suc n) e =
     split (K n)
     (λ k. let rest : anyBelow n (λ i. not (K i)) ≡ false = rw k at e in omega (arith, bit-true (K n) k, count-all K n rest))
     (λ k. clash (let here : anyBelow (suc n) (λ i. not (K i)) ≡ true = rw k in here) e)
 
-count-fewer : (K : ℕ → Bool) (n : ℕ) → anyBelow n (λ i. not (K i)) ≡ true → countBelow n K < n
+pub count-fewer : (K : ℕ → Bool) (n : ℕ) → anyBelow n (λ i. not (K i)) ≡ true → countBelow n K < n
 count-fewer K zero e = clash e refl
 count-fewer K (suc n) e =
     split (K n)
@@ -42,7 +42,7 @@ count-fewer K (suc n) e =
     (λ k. omega (arith, bit-false (K n) k, count-most n K))
 
 -- every entry passes where each place's does
-all-places : {X : Type 0} (f : X → Bool) (xs : List X) (d : X) → ((i : ℕ) → i < length xs → f (getD xs i d) ≡ true) → allOf f xs ≡ true
+pub all-places : {X : Type 0} (f : X → Bool) (xs : List X) (d : X) → ((i : ℕ) → i < length xs → f (getD xs i d) ≡ true) → allOf f xs ≡ true
 all-places f [] d h = refl
 all-places f (x ∷ xs) d h = and-join (h 0 (omega arith)) (all-places f xs d (λ i l. h (suc i) (omega arith)))
 
@@ -185,7 +185,7 @@ module _ (t : Task) (A : ℕ → Bool) where
     reduced-actions-valid =
         all-places (validAction (reducedBy t A)) (reducedBy t A .actions) (action 0 [] [])
         (λ i l.
-        subst⁻¹ (λ (a : Action). validAction (reducedBy t A) a ≡ true) (reduced-action t A i l) (reducedAction-valid (originalOf t A i)))
+        subst⁻¹ (λ (a : Action). validAction (reducedBy t A) a ≡ true) (chosen-action (reduced-chooses t A) i l) (reducedAction-valid (originalOf t A i)))
 
     reduced-goal-valid : validPairs (reducedBy t A) 0 (reducedBy t A .goal) ≡ true
     unfolding reducedBy

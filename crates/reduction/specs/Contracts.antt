@@ -1,11 +1,14 @@
 -- Names for the parts of what functions ask and ensure.
 use Prim.Native.Nat.{ℕ, _+_, _≤_, _<_}
 use mathlib.Core.Path.{_≡_}
-use mathlib.Core.Bool.{Bool, cond}
+use mathlib.Core.Bool.{Bool, true, false, cond}
 use mathlib.Core.List.{List}
+use lib.Dec.{eqb}
 use lib.ListN.{length, getD, set}
+use Rattle.files.specs.Accepted.{acceptedTask}
 use Rattle.files.specs.Below.{bit, chosenBelow}
 use Rattle.files.specs.Dense.{rowNumbers}
+use Rattle.files.specs.Task.{Task}
 use Rattle.files.specs.TaskFile.{checkTask, actionsIn}
 
 -- the marks of the actions of a task
@@ -13,10 +16,10 @@ pub record MarksWithin (marks : List ℕ) (actions : ℕ) : Type 0 where
   pub few : actions ≤ 512
   pub within : actions ≤ length marks
 
--- a number below a limit that comes after `count` smaller ones, and room for as many as the limit
+-- a number below a limit that comes after `count` others, fewer than the limit, and room for as many as that
 pub record Pushable (numbers : List ℕ) (count n limit : ℕ) : Type 0 where
   pub known : n < limit
-  pub few : count ≤ n
+  pub few : count < limit
   pub room : limit ≤ length numbers
 
 -- a number comes after `count` ones where a test passes
@@ -44,6 +47,11 @@ pub record KeptNumbered (numbers : List ℕ) (variableCount : ℕ) (originals : 
   pub variables : Numbered numbers variableCount 64
   pub actions : Numbered originals actionCount 512
 
+-- the number of a kept variable, and its place among those kept
+pub record PlaceOf (number place : ℕ) : Type 0 where
+  pub known : number < 64
+  pub few : place < 64
+
 -- the first `count` cells of the row at `to` are set, and the cells before them are as they were
 pub record RowSet (before after : List ℕ) (to count : ℕ) (cell : ℕ → ℕ) : Type 0 where
   pub same : length after ≡ length before
@@ -54,3 +62,13 @@ pub record RowSet (before after : List ℕ) (to count : ℕ) (cell : ℕ → ℕ
 pub record HasAction (file : List ℕ) (action : ℕ) : Type 0 where
   pub accepted : checkTask file .number ≡ 0
   pub below : action < actionsIn file
+
+-- an accepted task, and a level that has no turns
+pub record ReducedOnce (t : Task) (level : ℕ) : Type 0 where
+  pub accepted : acceptedTask t ≡ true
+  pub other : eqb level 5 ≡ false
+
+-- an accepted task, and the level at which each turn marks
+pub record ReducedInTurns (t : Task) (level : ℕ) : Type 0 where
+  pub accepted : acceptedTask t ≡ true
+  pub fourth : level ≡ 4

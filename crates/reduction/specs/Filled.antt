@@ -1,18 +1,19 @@
 -- The reduced task and its origins as arrays, and their files as they are written.
-use Prim.Native.Nat.{ℕ, _<_}
+use Prim.Native.Nat.{ℕ, _≤_, _<_}
 use mathlib.Core.Path.{_≡_}
 use mathlib.Core.Bool.{Bool}
 use mathlib.Core.List.{List}
 use lib.ListN.{length, getD}
-use Rattle.files.specs.Below.{bit}
+use Rattle.files.specs.Below.{bit, chosenBelow}
 use Rattle.files.specs.Contracts.{OriginWithin}
-use Rattle.files.specs.Dense.{Arrays, OriginArrays, held, heldOrigin}
+use Rattle.files.specs.Dense.{Arrays, OriginArrays, rowNumbers, held, heldOrigin, arrays}
 use Rattle.files.specs.OriginFile.{Origin, originFile}
 use Rattle.files.specs.Outcome.{after}
 use Rattle.files.specs.Task.{Task}
 use Rattle.files.specs.TaskFile.{taskFile}
 use Rattle.reduction.specs.Reduce.{filesFit}
-use Rattle.reduction.specs.Task.{reducedBy, originBy}
+use Rattle.reduction.specs.ReducedBy.{reducedBy, originBy}
+use Rattle.reduction.specs.Turns.{struckTo}
 use Rattle.reduction.specs.declared.arrays.Written.{Written}
 
 -- a list has the marks of the actions of A, of which there are `count` at most
@@ -37,3 +38,9 @@ pub record Writes (t : Task) (origins : Origin) (signer : ℕ) (reduced₀ origi
 abbrev pub WritesReduced : Task → List ℕ → ℕ → ℕ → List ℕ → List ℕ → Written → List ℕ → List ℕ → Type 0
 WritesReduced t kept count signer reduced₀ origin₀ w reduced₁ origin₁ =
     (A : ℕ → Bool) → Marks kept count A → Writes (reducedBy t A) (originBy t A) signer reduced₀ origin₀ w reduced₁ origin₁
+
+-- arrays with the chosen actions of a task hold it with those actions alone
+abbrev pub ArraysChosen : List ℕ → ℕ → List ℕ → List ℕ → List ℕ → List ℕ → List ℕ → List ℕ → Type 0
+ArraysChosen chosen count costs conditions effects costs′ conditions′ effects′ =
+    (variables actions : ℕ) (sizes starts goal : List ℕ) (R : ℕ → Bool) → variables ≤ 64 → rowNumbers chosen 0 count ≡ chosenBelow actions R
+    → held (arrays variables count sizes starts goal costs′ conditions′ effects′) ≡ struckTo (held (arrays variables actions sizes starts goal costs conditions effects)) R

@@ -11,14 +11,14 @@ use files::outcomes;
 use marking::rounds::Scope;
 
 // How many variables and actions the reduced task has.
-struct Counts {
-    variables: usize,
-    actions: usize,
+pub struct Counts {
+    pub variables: usize,
+    pub actions: usize,
 }
 
 // Fills arrays with the reduced task and its origins: `numbers` has the kept variables' numbers,
 // `old_sizes` their domain sizes as they were, `new_values` a row of new values for each.
-fn fill(
+pub fn fill(
     scope: Scope,
     sizes: &[u8; 64],
     starts: &[u8; 64],
@@ -84,7 +84,7 @@ pub struct Written {
 }
 
 // Writes the files of a task and its origins that arrays hold, where both buffers are long enough.
-fn write(
+pub fn write(
     counts: Counts,
     sizes: &[u8; 64],
     starts: &[u8; 64],

@@ -1,10 +1,14 @@
 // Reduction: the reduced task and its origins, and the condition pairs of an action.
 // The calls open to callers are reduce and conditions.
 mod arrays;
+mod chosen;
 mod named;
+mod origins;
+mod reach;
 mod renumber;
 mod stages;
 mod stretch;
+mod turns;
 
 ghost use Rattle.reduction.specs.Reduce.{buffers, Reduces};
 ghost use Rattle.reduction.specs.Stretch.{lentOutcome, Stretches};
@@ -12,7 +16,11 @@ use files::outcomes;
 use plans::OriginalAction;
 use plans::ReducedAction;
 
-// What reduction answers: the four lengths written and the round count, 0 beside a refusal.
+// The level of turns.
+const IN_TURNS: u32 = 5;
+
+// What reduction answers: the four lengths written, the round count and the turn count, 0 beside a
+// refusal.
 pub struct Reduced {
     pub outcome: files::Outcome,
     pub action_marks: usize,
@@ -20,6 +28,7 @@ pub struct Reduced {
     pub reduced: usize,
     pub origin: usize,
     pub rounds: usize,
+    pub turns: usize,
 }
 
 // Marks the task of a task file at a level, and writes the files of its reduced task and of its
@@ -53,16 +62,39 @@ pub fn reduce(
     if read.number != 0 {
         return stages::refused(read);
     }
-    if !marking::rounds::valid_level(level) {
+    if !stages::valid_level(level) {
         return stages::refused(outcomes::refuse(outcomes::UNKNOWN_LEVEL, 0));
     }
     if signer < 1 {
         return stages::refused(outcomes::refuse(outcomes::WRONG_SIGN_OFF, 0));
     }
+    let variables = files::task::variables_in(task);
+    let actions_in = files::task::actions_in(task);
+    if level == IN_TURNS {
+        let scope = marking::rounds::Scope {
+            level: turns::LEVEL,
+            variables: variables,
+            actions: actions_in,
+        };
+        return stages::reduce_in_turns(
+            scope,
+            &mut sizes,
+            &mut starts,
+            &mut goal,
+            &mut costs,
+            &mut conditions,
+            &mut effects,
+            signer,
+            actions,
+            facts,
+            reduced,
+            origin,
+        );
+    }
     let scope = marking::rounds::Scope {
         level: level,
-        variables: files::task::variables_in(task),
-        actions: files::task::actions_in(task),
+        variables: variables,
+        actions: actions_in,
     };
     stages::reduce_task(
         scope,

@@ -155,7 +155,12 @@ pub fn originals(numbers: &mut [u16], kept: &[u8; 512], actions: usize) -> usize
 }
 
 // Appends an action's number where the test passes.
-fn push_action(numbers: &mut [u16], count: usize, action: OriginalAction, test: bool) -> usize
+pub(crate) fn push_action(
+    numbers: &mut [u16],
+    count: usize,
+    action: OriginalAction,
+    test: bool,
+) -> usize
     requires { ⌜ Pushable (now numbers) count (action .0) 512 ⌝ }
     ensures { λ r. ⌜ Pushed (now (numbers .entry)) (now (numbers .exit)) count (action .0) test r ⌝ }
 {

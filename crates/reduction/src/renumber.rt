@@ -62,7 +62,7 @@ fn new_size(named: &[u8; 2048], v: usize, size: u8) -> u8
 }
 
 // A cell of a row by new values.
-fn mapped(values: &[u8; 2048], v: usize, cell: u8) -> u8
+pub fn mapped(values: &[u8; 2048], v: usize, cell: u8) -> u8
     requires { ⌜ v < 64 ⌝ }
     ensures { λ r. ⌜ r ≡ mappedCell (now (values .entry)) v cell ⌝ }
 {
@@ -94,7 +94,7 @@ pub fn map_row(
 }
 
 // The number in the full task of an action of the reduced task.
-fn original(originals: &[u16; 512], action: ReducedAction) -> OriginalAction
+pub fn original(originals: &[u16; 512], action: ReducedAction) -> OriginalAction
     requires { ⌜ action .0 < 512 ⌝ }
     ensures { λ r. ⌜ r .0 ≡ getD (now (originals .entry)) (action .0) 0 ⌝ }
 {
@@ -189,19 +189,20 @@ pub fn value_rows(rows: &mut [u8], values: &[u8; 2048], numbers: &[u8; 64], coun
             limits::MOST_VALUES * i,
             values,
             limits::MOST_VALUES * numbers[i] as usize,
+            limits::MOST_VALUES,
         );
         i += 1;
     }
 }
 
-// Copies 32 cells.
-fn copy_row(row: &mut [u8], to: usize, old: &[u8], from: usize)
-    requires { ⌜ Writable (from + 32 ≤ length (now old)) (to + 32) (now row) ⌝ }
-    ensures { λ r. ⌜ RowSet (now (row .entry)) (now (row .exit)) to 32 (λ d. getD (now (old .entry)) (from + d) 0) ⌝ }
+// Copies `count` cells to the row at `to`, from the row at `from`.
+pub fn copy_row(row: &mut [u8], to: usize, old: &[u8], from: usize, count: usize)
+    requires { ⌜ Writable (from + count ≤ length (now old)) (to + count) (now row) ⌝ }
+    ensures { λ r. ⌜ RowSet (now (row .entry)) (now (row .exit)) to count (λ i. getD (now (old .entry)) (from + i) 0) ⌝ }
 {
-    let mut d: usize = 0;
-    while d < limits::MOST_VALUES {
-        row[to + d] = old[from + d];
-        d += 1;
+    let mut i: usize = 0;
+    while i < count {
+        row[to + i] = old[from + i];
+        i += 1;
     }
 }

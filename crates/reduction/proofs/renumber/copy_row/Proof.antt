@@ -1,4 +1,4 @@
--- The loop's invariant: the entries before `d` are copied, and those below `to` are as they were.
+-- The loop's invariant: the entries before `i` are copied, and those below `to` are as they were.
 use Prim.Native.Nat.{ℕ, _+_, _-_, _≤_, _<_}
 use mathlib.Core.Path.{_≡_, refl, _∙_}
 use native.Mathlib.Omega.{arith}
@@ -11,14 +11,14 @@ use Rattle.reduction.proofs.renumber.copy_row.Statement.{statement}
 use Rattle.reduction.proofs.renumber.copy_row.Tie as tie
 
 abbrev Inv-loop : tie.InvT-loop
-Inv-loop row₀ to old from d₀ row d =
+Inv-loop row₀ to old from count i₀ row i =
     (length row ≡ length row₀)
-    × ((j : ℕ) → j < d → getD row (to + j) 0 ≡ getD old (from + j) 0)
+    × ((j : ℕ) → j < i → getD row (to + j) 0 ≡ getD old (from + j) 0)
     × ((j : ℕ) → j < to → getD row j 0 ≡ getD row₀ j 0)
-    × (d ≤ 32)
+    × (i ≤ count)
 
 abbrev μ-loop : tie.MeasureT-loop
-μ-loop row₀ to old from d₀ row d = 32 - d
+μ-loop row₀ to old from count i₀ row i = count - i
 
 loop-holds : tie.Need-loop-holds Inv-loop μ-loop
 loop-holds c = (refl, λ j h. absurd (omega arith), λ j h. refl, omega arith)
@@ -35,8 +35,8 @@ add-row-2 c = search needs
 slice-write-row : tie.Need-slice-write-row Inv-loop μ-loop
 slice-write-row c = search needs
 
-add-d : tie.Need-add-d Inv-loop μ-loop
-add-d c = search needs
+add-i : tie.Need-add-i Inv-loop μ-loop
+add-i c = search needs
 
 loop-less : tie.Need-loop-less Inv-loop μ-loop
 loop-less c = search needs
@@ -46,8 +46,8 @@ loop-again c =
     let l = c .before .before .loop in
     let a = c .before .before .before .args in (
       length-set (l .row) _ _ ∙ l .inv .0,
-      row-next (λ j. getD (now (a .old)) (a .from + j) 0) (l .row) (a .to) (l .d) _ (omega arith) (l .inv .1) refl,
-      below-next (now (a .row)) (l .row) (a .to) (l .d) _ (l .inv .2),
+      row-next (λ j. getD (now (a .old)) (a .from + j) 0) (l .row) (a .to) (l .i) _ (omega arith) (l .inv .1) refl,
+      below-next (now (a .row)) (l .row) (a .to) (l .i) _ (l .inv .2),
       omega arith,
     )
 
@@ -57,7 +57,7 @@ same-length c = c .before .loop .inv .0
 returns : tie.Need-returns Inv-loop μ-loop
 returns c =
     let l = c .before .loop in
-    record { same = l .inv .0; row = λ d h. l .inv .1 d (omega arith); earlier = l .inv .2 }
+    record { same = l .inv .0; row = λ i h. l .inv .1 i (omega arith); earlier = l .inv .2 }
 
 pub copy-row-spec : {M : Type 1} → statement M
 copy-row-spec =
@@ -70,7 +70,7 @@ copy-row-spec =
     shared-slice-read-row
     add-row-2
     slice-write-row
-    add-d
+    add-i
     loop-less
     loop-again
     same-length

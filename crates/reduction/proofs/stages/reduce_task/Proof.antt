@@ -1,8 +1,10 @@
 -- Marking, then reduction: a stage that is refused ends the row.
 use Prim.Native.Nat.{ℕ, _≤_, _<_}
-use mathlib.Core.Path.{_≡_, ap, _∙_}
+use mathlib.Core.Path.{_≡_, sym, ap, _∙_}
+use mathlib.Core.Bool.{false}
 use native.Mathlib.Omega.{arith}
 use denote.Ref.{now}
+use lib.Dec.{eqb}
 use lib.ListN.{getD}
 use Rattle.files.specs.Below.{bit}
 use Rattle.files.specs.Dense.{Arrays, held, arrays}
@@ -10,8 +12,9 @@ use Rattle.files.proofs.Valid.{Valid, task-valid}
 use Rattle.marking.specs.Mark.{MarkBuffers}
 use Rattle.files.proofs.HeldTask.{actions-held}
 use Rattle.marking.proofs.MarkRow.{marks-left}
-use Rattle.reduction.specs.Task.{keptAt}
-use Rattle.reduction.proofs.ReduceStages.{kept-bits, marks-room, marks-refused, files-refused, files-written}
+use Rattle.reduction.specs.ReducedBy.{keptAt}
+use Rattle.reduction.proofs.Levels.{other-turns}
+use Rattle.reduction.proofs.ReduceStages.{kept-bits, marks-room, marks-at, reduced-writes, marks-refused, files-refused, files-written}
 use borrow.Author.Needs.{needs}
 use Rattle.reduction.proofs.stages.reduce_task.Statement.{statement}
 use Rattle.reduction.proofs.stages.reduce_task.Tie as tie
@@ -30,7 +33,7 @@ abbrev task : tie.Start → Arrays
 task s = arrays (s .args .scope .variables) (s .args .scope .actions) (now (s .args .sizes)) (now (s .args .starts)) (now (s .args .goal)) (now (s .args .costs)) (now (s .args .conditions)) (now (s .args .effects))
 
 valid : (s : tie.Start) → Valid (held (task s))
-valid s = task-valid (held (task s)) (s .pre)
+valid s = task-valid (held (task s)) (s .pre .accepted)
 
 actions-few : (s : tie.Start) → s .args .scope .actions ≤ 512
 actions-few s = omega (arith, valid s .actions-few, actions-held (task s))
@@ -44,8 +47,12 @@ kept-marks k z a l =
     k .kept-actions .ensures a l
     ∙ kept-bits (task s) (valid s) (s .args .scope .level) _ _ (ap (λ (b : MarkBuffers). b .actions) (marks-left _ _ _ _ _ (m .mark-task .ensures) z)) a (omega (arith, actions-held (task s)))
 
+-- the level has no turns
+other : (s : tie.Start) → eqb (s .args .scope .level) 5 ≡ false
+other s = s .pre .other
+
 mark-task-requires : tie.Need-mark-task-requires
-mark-task-requires c κs = search needs
+mark-task-requires c κs = c .before .before .before .before .before .before .pre .accepted
 
 refused-requires : tie.Need-refused-requires
 refused-requires c κs = search needs
@@ -60,7 +67,7 @@ returns : tie.Need-returns
 returns c =
     let m = c .before .before .before .before .before .before .before .before in
     let s = to-start m in
-    marks-refused (held (task s)) _ _ _ _ _ _ (m .mark-task .ensures) (c .before .if1 .taken) _ (c .refused .ensures)
+    marks-refused (held (task s)) _ _ _ _ _ _ (marks-at (held (task s)) _ (other s) (m .mark-task .ensures)) (c .before .if1 .taken) _ (c .refused .ensures)
 
 kept-actions-requires : tie.Need-kept-actions-requires
 kept-actions-requires c κs =
@@ -72,7 +79,7 @@ kept-actions-requires c κs =
     }
 
 write-reduced-requires : tie.Need-write-reduced-requires
-write-reduced-requires c κs = to-start (to-mark (c .before .before .before)) .pre
+write-reduced-requires c κs = to-start (to-mark (c .before .before .before)) .pre .accepted
 
 refused-requires-2 : tie.Need-refused-requires-2
 refused-requires-2 c κs = search needs
@@ -96,7 +103,7 @@ returns-2 c =
     let m = to-mark k in
     let s = to-start m in
     let passes = k .before .before .if1 .left in
-    files-refused (held (task s)) _ _ _ _ _ _ (m .mark-task .ensures) passes _ _ _ (w .write-reduced .ensures _ (kept-marks k passes)) (c .before .if2 .taken) _ (c .refused2 .ensures)
+    files-refused (held (task s)) _ _ _ _ _ _ (marks-at (held (task s)) _ (other s) (m .mark-task .ensures)) passes _ _ _ (reduced-writes (held (task s)) _ (other s) (w .write-reduced .ensures _ (kept-marks k passes))) (c .before .if2 .taken) _ (c .refused2 .ensures)
 
 done-requires : tie.Need-done-requires
 done-requires c κs = search needs
@@ -120,7 +127,7 @@ returns-3 c =
     let m = to-mark k in
     let s = to-start m in
     let passes = k .before .before .if1 .left in
-    files-written (held (task s)) _ _ _ _ _ _ (m .mark-task .ensures) passes _ _ _ (w .write-reduced .ensures _ (kept-marks k passes)) (c .before .if2 .left) _ (c .done .ensures)
+    files-written (held (task s)) _ _ _ _ _ _ (marks-at (held (task s)) _ (other s) (m .mark-task .ensures)) passes _ _ _ (reduced-writes (held (task s)) _ (other s) (w .write-reduced .ensures _ (kept-marks k passes))) (c .before .if2 .left) _ (c .done .ensures) 0 (sym (other-turns (held (task s)) _ (other s)))
 
 pub reduce-task-spec : {M : Type 1} → statement M
 reduce-task-spec =
