@@ -6,7 +6,7 @@ use mathlib.Core.List.{List, [], _∷_, map}
 use mathlib.Core.Option.{Option, none, some, Option·map}
 use native.Mathlib.Omega.{arith}
 use lib.Dec.{leb}
-use lib.ListN.{length, getD, take, drop, length-append, length-map}
+use lib.ListN.{length, getD, take, drop, length-append}
 use lib.Seq.{take-append-seam}
 use borrow.Author.Tests.{le-leb}
 use Rattle.files.specs.Accepted.{validSigner, acceptedTask}
@@ -26,18 +26,17 @@ use Rattle.files.proofs.TaskRoundTrip.{task-read-as}
 use Rattle.files.proofs.Listed.{task-check-done}
 use Rattle.files.proofs.Valid.{Valid, task-valid}
 use Rattle.plans.specs.Plan.{IsPlan, totalOf}
-use Rattle.marking.specs.Mark.{validLevel}
 use Rattle.reduction.specs.declared.Reduced.{Reduced}
-use Rattle.reduction.specs.Task.{keptActions, keptAt, reducedBy, originBy, reducedTask, originsAt, byOriginal}
-use Rattle.reduction.specs.Reduce.{Buffers, withFiles, reducedFile, originsFile, reduceInput, reduceStages, reduceFileStages, reduceWhole, Reduces}
+use Rattle.reduction.specs.Task.{reducedTask, originsAt, byOriginal}
+use Rattle.reduction.specs.Reduce.{Buffers, withFiles, reducedFile, originsFile, validReduction, reduceInput, reduceStages, reduceFileStages, reduceWhole, Reduces}
 use Rattle.reduction.specs.Preserved.{FilesPreserve, byOriginFile}
 use Rattle.reduction.proofs.FilesPreserved.{reduction-of-files}
-use Rattle.reduction.proofs.Preservation.{reduction-preserves, reduction-accepted}
+use Rattle.reduction.proofs.Levels.{reduction-preserves, reduction-accepted}
 use Rattle.search.specs.declared.Planned.{Planned}
 use Rattle.search.specs.declared.stages.Found.{Found}
 use Rattle.search.specs.FirstPlan.{firstPlan, foundPlan}
 use Rattle.search.specs.Least.{PlanFirst}
-use Rattle.search.specs.Planner.{planLevel, searched, searchedStates, planFound, planMade, statesFit, planFits, SearchBuffers, searchStages, lent, unplanned, planWhole, planStages, Plans}
+use Rattle.search.specs.Planner.{takenLevel, searched, searchedStates, planFound, planMade, statesFit, planFits, SearchBuffers, searchStages, lent, unplanned, planWhole, planStages, Plans}
 use Rattle.search.specs.Found.{foundStates, foundWhole, notFound, Searches, FilesWritten, CanSearchFiles, SearchesFiles, bothTogether}
 use Rattle.search.proofs.FoundLaws.{plan-is}
 use Rattle.search.proofs.LeastPlans.{search-least}
@@ -58,6 +57,7 @@ module _ (first : Reduced) (found : Found) where
         table = found .states;
         plan = found .plan;
         rounds = first .rounds;
+        turns = first .turns;
         cost = found .cost;
         steps = found .steps;
       }
@@ -66,15 +66,18 @@ module _ (first : Reduced) (found : Found) where
   unfolding bothTogether
   together-done z = rw (is-done (found .outcome) z) refl
 
-module _ (task : List ℕ) (signer : ℕ) (before : Buffers) (first : Reduced) (after : Buffers) (k : Reduces task planLevel signer before first after) where
+module _ (task : List ℕ) (level signer : ℕ) (before : Buffers) (first : Reduced) (after : Buffers) (k : Reduces task (takenLevel level) signer before first after) where
   abbrev t : Task
   t = taskOf task
 
+  abbrev taken : ℕ
+  taken = takenLevel level
+
   abbrev u : Task
-  u = searched task
+  u = searched task taken
 
   abbrev files-row : List (Stage Buffers)
-  files-row = reduceFileStages task planLevel signer before
+  files-row = reduceFileStages task taken signer before
 
   row-refused : (first .outcome .number ≡ 0 → ⊥) → isDone (outcomeOf files-row) ≡ false
   row-refused d = split (isDone (outcomeOf files-row)) (λ y. absurd (d (ap (λ (x : Reduced). x .outcome .number) (given-whole k y)))) (λ n. n)
@@ -87,13 +90,13 @@ module _ (task : List ℕ) (signer : ℕ) (before : Buffers) (first : Reduced) (
 
   -- reduction refuses
   plans-early : (first .outcome .number ≡ 0 → ⊥) → (b now : SearchBuffers) (found : Found) → found ≡ notFound 0 (first .outcome) → now ≡ b
-      → (p : Planned) → p ≡ bothTogether first found → Plans task signer (lent before (b .table) (b .plan)) p (lent after (now .table) (now .plan))
+      → (p : Planned) → p ≡ bothTogether first found → Plans task level signer (lent before (b .table) (b .plan)) p (lent after (now .table) (now .plan))
   unfolding planStages bothTogether
   plans-early d b now found f same p q =
       let n = row-refused d in
       let is : first .outcome ≡ outcomeOf files-row = ap (λ (x : Reduced). x .outcome) (given-refused k n) in
       let no : isDone (found .outcome) ≡ false = ap (λ (x : Found). isDone (x .outcome)) f ∙ is-refused (first .outcome) d in
-      by-first files-row (searchStages u (planFound task) signer b) _ _ before n
+      by-first files-row (searchStages u (planFound task taken) signer b) _ _ before n
       (q ∙ rw no refl ∙ ap unplanned (ap (λ (x : Found). x .outcome) f ∙ is))
       (λ i. lent (k .buffers i) (same i .table) (same i .plan))
 
@@ -103,10 +106,10 @@ module _ (task : List ℕ) (signer : ℕ) (before : Buffers) (first : Reduced) (
     unfolding reduceStages reduceInput
     checked =
         let marks = both-done _ _ (done-number (outcomeOf files-row) (row-done z)) .0 in
-        let input = both-done (reduceInput task planLevel signer) _ marks .0 in
+        let input = both-done (reduceInput task taken signer) _ marks .0 in
         let read = both-done (checkTask task) _ input in
-        let level = passed (validLevel planLevel) 8 0 _ (omega arith) (read .1) in
-        (read .0, passed (leb 1 signer) 7 0 _ (omega arith) (level .1) .0)
+        let valid = passed (validReduction taken) 8 0 _ (omega arith) (read .1) in
+        (read .0, passed (leb 1 signer) 7 0 _ (omega arith) (valid .1) .0)
 
     accepted : acceptedTask t ≡ true
     accepted = task-accepted task octets (checked .0)
@@ -115,31 +118,31 @@ module _ (task : List ℕ) (signer : ℕ) (before : Buffers) (first : Reduced) (
     unfolding validSigner
     signed = and-join (checked .1) (le-leb _ _ small)
 
-    files : FilesPreserve task planLevel signer
-    files = reduction-of-files task planLevel signer octets (task-check-done task (checked .0)) signed
+    files : FilesPreserve task taken signer
+    files = reduction-of-files task taken signer octets (task-check-done task (checked .0)) signed
 
     abbrev reduced-bytes : List ℕ
-    reduced-bytes = reducedFile t planLevel signer
+    reduced-bytes = reducedFile t taken signer
 
     abbrev origin-bytes : List ℕ
-    origin-bytes = originsFile t planLevel signer
+    origin-bytes = originsFile t taken signer
 
     same-task : taskOf reduced-bytes ≡ u
     unfolding searched
-    same-task = task-read-as reduced-bytes (reducedTask t planLevel) signer (files .reduced-reads) .1
+    same-task = task-read-as reduced-bytes (reducedTask t taken) signer (files .reduced-reads) .1
 
-    same-origin : originOf origin-bytes ≡ originsAt t planLevel
-    same-origin = origin-read-as origin-bytes (originsAt t planLevel) signer (files .origin-reads) .1
+    same-origin : originOf origin-bytes ≡ originsAt t taken
+    same-origin = origin-read-as origin-bytes (originsAt t taken) signer (files .origin-reads) .1
 
-    same-numbers : byOriginFile origin-bytes ≡ byOriginal t planLevel
+    same-numbers : byOriginFile origin-bytes ≡ byOriginal t taken
     unfolding byOriginal byOriginFile
     same-numbers = ap (λ (o : Origin). λ plan. map (λ n. getD (o .actions) n 0) plan) same-origin
 
     -- the numbers of reduction, and what its buffers hold
-    numbers : first ≡ reduceWhole t planLevel signer
+    numbers : first ≡ reduceWhole t taken signer
     numbers = given-whole k (row-done z)
 
-    filled : after ≡ withFiles t planLevel signer before
+    filled : after ≡ withFiles t taken signer before
     unfolding reduceStages
     filled = k .buffers ∙ left-last (_ ∷ []) _ before (row-done z)
 
@@ -166,59 +169,56 @@ module _ (task : List ℕ) (signer : ℕ) (before : Buffers) (first : Reduced) (
 
     -- what the search asks of the files
     enough-numbers : actionCount (taskOf file) ≤ length (originOf origins .actions)
-    unfolding searched reducedTask reducedBy originsAt originBy
     enough-numbers =
-        let actions : length (taskOf file .actions) ≡ length (keptActions t (keptAt t planLevel)) =
-        ap (λ (x : List ℕ). length (taskOf x .actions)) f ∙ ap (λ (x : Task). length (x .actions)) same-task ∙ length-map (keptActions t (keptAt t planLevel)) _ in
-        let numbers : length (originOf origins .actions) ≡ length (keptActions t (keptAt t planLevel)) =
-        ap (λ (x : List ℕ). length (originOf x .actions)) g ∙ ap (λ (x : Origin). length (x .actions)) same-origin in
-        omega arith
+        let actions : actionCount (taskOf file) ≡ actionCount (taskOf reduced-bytes) = ap (λ (x : List ℕ). actionCount (taskOf x)) f in
+        let numbers : length (originOf origins .actions) ≡ length (originOf origin-bytes .actions) = ap (λ (x : List ℕ). length (originOf x .actions)) g in
+        omega (arith, files .as-many)
 
     files-written : FilesWritten first (after .reduced) (after .origin)
     files-written =
         record {
           reduced-fits = room-for (first .reduced) reduced-bytes (after .reduced) (before .reduced) (ap (λ (x : Reduced). x .reduced) numbers) (ap (λ (x : Buffers). x .reduced) filled);
           origin-fits = room-for (first .origin) origin-bytes (after .origin) (before .origin) (ap (λ (x : Reduced). x .origin) numbers) (ap (λ (x : Buffers). x .origin) filled);
-          checked = ap checkTask f ∙ task-read-as reduced-bytes (reducedTask t planLevel) signer (files .reduced-reads) .0;
+          checked = ap checkTask f ∙ task-read-as reduced-bytes (reducedTask t taken) signer (files .reduced-reads) .0;
           numbers = enough-numbers;
         }
 
     -- the search of the reduced task, by original numbers
     module _ (b now : SearchBuffers) (found : Found) (w : Searches (taskOf file) (byOriginFile origins) signer b found now) where
-      searches : Searches u (byOriginal t planLevel) signer b found now
+      searches : Searches u (byOriginal t taken) signer b found now
       searches =
           subst (λ (h : List ℕ → List ℕ). Searches u h signer b found now) (ap byOriginFile g ∙ same-numbers)
           (subst (λ (x : Task). Searches x (byOriginFile origins) signer b found now) (ap taskOf f ∙ same-task) w)
 
       abbrev search-row : List (Stage SearchBuffers)
-      search-row = searchStages u (planFound task) signer b
+      search-row = searchStages u (planFound task taken) signer b
 
       -- the plan by original numbers
-      made : planMade task ≡ byOriginal t planLevel (foundPlan u)
+      made : planMade task taken ≡ byOriginal t taken (foundPlan u)
       unfolding planMade planFound foundPlan byOriginal
       made = split-option (firstPlan u) (λ e. rw e refl) (λ p e. rw e refl)
 
       -- where all is done
       module _ (y : isDone (outcomeOf search-row) ≡ true) where
-        stages : (statesFit u (length (b .table)) .number ≡ 0) × (planFits (planFound task) signer (length (b .plan)) .number ≡ 0)
+        stages : (statesFit u (length (b .table)) .number ≡ 0) × (planFits (planFound task taken) signer (length (b .plan)) .number ≡ 0)
         unfolding searchStages
         stages =
             let both = both-done (statesFit u (length (b .table))) _ (done-number _ y) in
-            (both .0, both-done (planFits (planFound task) signer (length (b .plan))) _ (both .1) .0)
+            (both .0, both-done (planFits (planFound task taken) signer (length (b .plan))) _ (both .1) .0)
 
         plan-there : (plan : List ℕ) × (firstPlan u ≡ some plan)
         unfolding planFits planFound
         plan-there =
             split-option (firstPlan u)
             (λ e.
-            let q : planFits (Option·map (byOriginal t planLevel) none) signer (length (b .plan)) .number ≡ 0 =
-            ap (λ (p : Option (List ℕ)). planFits (Option·map (byOriginal t planLevel) p) signer (length (b .plan)) .number) (sym e) ∙ stages .1 in
+            let q : planFits (Option·map (byOriginal t taken) none) signer (length (b .plan)) .number ≡ 0 =
+            ap (λ (p : Option (List ℕ)). planFits (Option·map (byOriginal t taken) p) signer (length (b .plan)) .number) (sym e) ∙ stages .1 in
             absurd (let k : _≡_ {A = ℕ} 24 0 = q in omega arith))
             (λ p e. (p, e))
 
         valid : Valid u
         unfolding searched
-        valid = task-valid (reducedTask t planLevel) (reduction-accepted t planLevel accepted)
+        valid = task-valid (reducedTask t taken) (reduction-accepted t taken accepted)
 
         found-plan : IsPlan u (foundPlan u)
         found-plan =
@@ -227,27 +227,28 @@ module _ (task : List ℕ) (signer : ℕ) (before : Buffers) (first : Reduced) (
             let w : PlanFirst u (some p) = subst (PlanFirst u) e (search-least u valid .plan) in
             subst (IsPlan u) (sym (plan-is u p e)) (w .0 .best .isPlan)
 
-        totals : totalOf u (foundPlan u) ≡ totalOf t (planMade task)
+        totals : totalOf u (foundPlan u) ≡ totalOf t (planMade task taken)
         unfolding searched
-        totals = sym (ap (totalOf t) made ∙ reduction-preserves t planLevel accepted .plan-back (foundPlan u) found-plan .1)
+        totals = sym (ap (totalOf t) made ∙ reduction-preserves t taken accepted .plan-back (foundPlan u) found-plan .1)
 
-        whole-is : bothTogether (reduceWhole t planLevel signer) (foundWhole u (byOriginal t planLevel) signer) ≡ planWhole task signer
+        whole-is : bothTogether (reduceWhole t taken signer) (foundWhole u (byOriginal t taken) signer) ≡ planWhole task taken signer
         unfolding bothTogether isDone searchedStates
         whole-is =
             λ i. record {
               outcome = done;
-              «action_marks» = planWhole task signer .«action_marks»;
-              «fact_marks» = planWhole task signer .«fact_marks»;
-              reduced = planWhole task signer .reduced;
-              origin = planWhole task signer .origin;
-              table = planWhole task signer .table;
+              «action_marks» = planWhole task taken signer .«action_marks»;
+              «fact_marks» = planWhole task taken signer .«fact_marks»;
+              reduced = planWhole task taken signer .reduced;
+              origin = planWhole task taken signer .origin;
+              table = planWhole task taken signer .table;
               plan = ap (λ (p : List ℕ). length (planFile p signer)) (sym made) i;
-              rounds = planWhole task signer .rounds;
+              rounds = planWhole task taken signer .rounds;
+              turns = planWhole task taken signer .turns;
               cost = record { 0 = totals i .minutes };
               steps = record { 0 = totals i .steps };
             }
 
-      search-whole : isDone (outcomeOf search-row) ≡ true → found ≡ foundWhole u (byOriginal t planLevel) signer
+      search-whole : isDone (outcomeOf search-row) ≡ true → found ≡ foundWhole u (byOriginal t taken) signer
       unfolding planFound
       search-whole y = given-whole searches y
 
@@ -255,7 +256,7 @@ module _ (task : List ℕ) (signer : ℕ) (before : Buffers) (first : Reduced) (
       unfolding planFound
       search-refused n = given-refused searches n
 
-      answer-is : (p : Planned) → p ≡ bothTogether first found → p ≡ answerBy search-row (planWhole task signer) unplanned
+      answer-is : (p : Planned) → p ≡ bothTogether first found → p ≡ answerBy search-row (planWhole task taken signer) unplanned
       unfolding bothTogether
       answer-is p q =
           split (isDone (outcomeOf search-row))
@@ -268,7 +269,7 @@ module _ (task : List ℕ) (signer : ℕ) (before : Buffers) (first : Reduced) (
       unfolding planFound
       search-buffers = searches .buffers
 
-      plans-late : (p : Planned) → p ≡ bothTogether first found → Plans task signer (lent before (b .table) (b .plan)) p (lent after (now .table) (now .plan))
+      plans-late : (p : Planned) → p ≡ bothTogether first found → Plans task level signer (lent before (b .table) (b .plan)) p (lent after (now .table) (now .plan))
       unfolding planStages
       plans-late p q =
           by-second files-row search-row _ _ before (row-done z) b now
@@ -281,7 +282,7 @@ module _ (task : List ℕ) (signer : ℕ) (before : Buffers) (first : Reduced) (
     can-search-files z = files-written z octets small
 
     pub plans-both : (b now : SearchBuffers) (found : Found) → SearchesFiles first (after .reduced) (after .origin) signer b found now
-        → (p : Planned) → p ≡ bothTogether first found → Plans task signer (lent before (b .table) (b .plan)) p (lent after (now .table) (now .plan))
+        → (p : Planned) → p ≡ bothTogether first found → Plans task level signer (lent before (b .table) (b .plan)) p (lent after (now .table) (now .plan))
     plans-both b now found w p q =
         split (isDone (first .outcome))
         (λ y. let z = done-number (first .outcome) y in plans-late z octets small b now found (w .searches z) p q)

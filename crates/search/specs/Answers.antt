@@ -8,23 +8,24 @@ use Rattle.files.specs.Stages.{Answers}
 use Rattle.files.specs.Task.{actionCount, factCount}
 use Rattle.files.specs.TaskFile.{taskOf}
 use Rattle.reduction.specs.Reduce.{reducedFile, originsFile}
-use Rattle.search.specs.Planner.{planLevel, searchedStates, planMade, Lent, planStages, planWhole, unplanned, planAnswer, planAfter}
+use Rattle.search.specs.Planner.{takenLevel, searchedStates, planMade, Lent, planStages, planWhole, unplanned, planAnswer, planAfter}
 
-abbrev pub planRefusals : List ℕ → ℕ → List Refusal
-planRefusals task signer =
+abbrev pub planRefusals : List ℕ → ℕ → ℕ → List Refusal
+planRefusals task level signer =
     fileRefusals 0 task
-    ++ (refusedAt 7 0
+    ++ (refusedAt 8 0
+    ∷ refusedAt 7 0
     ∷ short (actionCount (taskOf task))
     ∷ short (factCount (taskOf task))
-    ∷ short (length (reducedFile (taskOf task) planLevel signer))
-    ∷ short (length (originsFile (taskOf task) planLevel signer))
+    ∷ short (length (reducedFile (taskOf task) level signer))
+    ∷ short (length (originsFile (taskOf task) level signer))
     ∷ refusedAt 25 0
-    ∷ short (searchedStates task)
+    ∷ short (searchedStates task level)
     ∷ refusedAt 24 0
-    ∷ short (length (planFile (planMade task) signer))
+    ∷ short (length (planFile (planMade task level) signer))
     ∷ [])
 
-abbrev pub PlanAnswers : List ℕ → ℕ → Lent → Type 0
-PlanAnswers task signer b =
-    Answers (planRefusals task signer) (planStages task signer b) (planWhole task signer) unplanned
-    b (planAnswer task signer b) (planAfter task signer b)
+abbrev pub PlanAnswers : List ℕ → ℕ → ℕ → Lent → Type 0
+PlanAnswers task level signer b =
+    Answers (planRefusals task (takenLevel level) signer) (planStages task (takenLevel level) signer b) (planWhole task (takenLevel level) signer) unplanned
+    b (planAnswer task level signer b) (planAfter task level signer b)

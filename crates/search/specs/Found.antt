@@ -158,6 +158,7 @@ bothTogether first found =
       table = found .states;
       plan = found .plan;
       rounds = first .rounds;
+      turns = first .turns;
       cost = found .cost;
       steps = found .steps;
     }
@@ -165,8 +166,8 @@ bothTogether first found =
     cond (isDone (found .outcome)) planned (unplanned (found .outcome))
 
 -- the planner with a table of its own of 4,096 entries, as with any other that is lent
-pub record PlansAlone (task : List ℕ) (signer : ℕ) (before : Buffers) (plan : List ℕ) (answer : Planned) (after : Buffers) (now : List ℕ) : Type 0 where
+pub record PlansAlone (task : List ℕ) (level signer : ℕ) (before : Buffers) (plan : List ℕ) (answer : Planned) (after : Buffers) (now : List ℕ) : Type 0 where
   pub table : List Entry
   pub long : length table ≡ 4096
   pub left : List Entry
-  pub plans : Plans task signer (lent before table plan) answer (lent after left now)
+  pub plans : Plans task level signer (lent before table plan) answer (lent after left now)

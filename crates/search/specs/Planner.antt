@@ -1,8 +1,9 @@
 -- The planner by its stages: what it answers, and what each lent buffer holds after every outcome.
 use Prim.Native.Nat.{ℕ}
+use mathlib.Core.Bool.{Bool, cond, _||_}
 use mathlib.Core.List.{List, [], _∷_, _++_, map}
 use mathlib.Core.Option.{Option, none, some, Option·map, Option·getD}
-use lib.Dec.{leb}
+use lib.Dec.{eqb, leb}
 use lib.ListN.{length}
 use Rattle.files.specs.declared.Outcome.{Outcome}
 use Rattle.files.specs.Outcome.{done, refusal, guard, fits, overwrite}
@@ -12,7 +13,7 @@ use Rattle.files.specs.TaskFile.{taskOf}
 use Rattle.files.specs.PlanFile.{planFile}
 use Rattle.plans.specs.Plan.{totalOf}
 use Rattle.marking.specs.Rounds.{marking}
-use Rattle.reduction.specs.Task.{reducedTask, byOriginal}
+use Rattle.reduction.specs.Task.{markLevel, reducedTask, turnCount, byOriginal}
 use Rattle.reduction.specs.Reduce.{Buffers, buffers, withFiles, reducedFile, originsFile, reduceFileStages}
 use Rattle.distances.specs.States.{stateCount}
 use Rattle.distances.specs.Table.{tableOf}
@@ -20,20 +21,24 @@ use Rattle.search.specs.FirstPlan.{firstPlan}
 use Rattle.distances.specs.declared.Entry.{Entry}
 use Rattle.search.specs.declared.Planned.{Planned}
 
--- the planner marks and reduces at level 4
-abbrev pub planLevel : ℕ
-planLevel = 4
+-- the levels that the planner takes
+unfoldable pub validPlanning : ℕ → Bool
+validPlanning level = eqb level 4 || eqb level 5
+
+-- the level given where the planner takes it, else 0, which reduction refuses with 8
+unfoldable pub takenLevel : ℕ → ℕ
+takenLevel level = cond (validPlanning level) level 0
 
 -- the task that is searched, and the count of its states
-unfoldable pub searched : List ℕ → Task
-searched task = reducedTask (taskOf task) planLevel
+unfoldable pub searched : List ℕ → ℕ → Task
+searched task level = reducedTask (taskOf task) level
 
-unfoldable pub searchedStates : List ℕ → ℕ
-searchedStates task = stateCount (searched task .variables)
+unfoldable pub searchedStates : List ℕ → ℕ → ℕ
+searchedStates task level = stateCount (searched task level .variables)
 
 -- the plan found, by original numbers
-unfoldable pub planFound : List ℕ → Option (List ℕ)
-planFound task = Option·map (byOriginal (taskOf task) planLevel) (firstPlan (searched task))
+unfoldable pub planFound : List ℕ → ℕ → Option (List ℕ)
+planFound task level = Option·map (byOriginal (taskOf task) level) (firstPlan (searched task level))
 
 -- the six lent buffers
 pub record Lent : Type 0 where
@@ -79,10 +84,10 @@ searchStages t found signer b =
     ∷ []
 
 -- the plan, where the row is done
-unfoldable pub planMade : List ℕ → List ℕ
-planMade task = Option·getD (planFound task) []
+unfoldable pub planMade : List ℕ → ℕ → List ℕ
+planMade task level = Option·getD (planFound task level) []
 
--- beside a refusal there are no lengths, rounds, cost and steps
+-- beside a refusal there are no lengths, rounds, turns, cost and steps
 abbrev pub unplanned : Outcome → Planned
 unplanned o =
     record {
@@ -94,38 +99,40 @@ unplanned o =
       table = 0;
       plan = 0;
       rounds = 0;
+      turns = 0;
       cost = record { 0 = 0 };
       steps = record { 0 = 0 };
     }
 
--- the six lengths, the round count, and cost and steps of the plan
-abbrev pub planWhole : List ℕ → ℕ → Planned
-planWhole task signer =
+-- the six lengths, the round count and the turn count, and cost and steps of the plan
+abbrev pub planWhole : List ℕ → ℕ → ℕ → Planned
+planWhole task level signer =
     record {
       outcome = done;
       «action_marks» = actionCount (taskOf task);
       «fact_marks» = factCount (taskOf task);
-      reduced = length (reducedFile (taskOf task) planLevel signer);
-      origin = length (originsFile (taskOf task) planLevel signer);
-      table = searchedStates task;
-      plan = length (planFile (planMade task) signer);
-      rounds = marking (taskOf task) planLevel .rounds;
-      cost = record { 0 = totalOf (taskOf task) (planMade task) .minutes };
-      steps = record { 0 = totalOf (taskOf task) (planMade task) .steps };
+      reduced = length (reducedFile (taskOf task) level signer);
+      origin = length (originsFile (taskOf task) level signer);
+      table = searchedStates task level;
+      plan = length (planFile (planMade task level) signer);
+      rounds = marking (taskOf task) (markLevel level) .rounds;
+      turns = turnCount (taskOf task) level;
+      cost = record { 0 = totalOf (taskOf task) (planMade task level) .minutes };
+      steps = record { 0 = totalOf (taskOf task) (planMade task level) .steps };
     }
 
--- the stages of reduction at level 4, beside the table and the plan; then those of the search, beside the files
-unfoldable pub planStages : List ℕ → ℕ → Lent → List (Stage Lent)
-planStages task signer b =
-    map (beside (λ (x : Buffers). lent x (b .table) (b .plan))) (reduceFileStages task planLevel signer (b .buffers))
-    ++ map (beside (λ (x : SearchBuffers). lent (withFiles (taskOf task) planLevel signer (b .buffers)) (x .table) (x .plan))) (searchStages (searched task) (planFound task) signer (searchBuffers (b .table) (b .plan)))
+-- the stages of reduction at the level, beside the table and the plan; then those of the search, beside the files
+unfoldable pub planStages : List ℕ → ℕ → ℕ → Lent → List (Stage Lent)
+planStages task level signer b =
+    map (beside (λ (x : Buffers). lent x (b .table) (b .plan))) (reduceFileStages task level signer (b .buffers))
+    ++ map (beside (λ (x : SearchBuffers). lent (withFiles (taskOf task) level signer (b .buffers)) (x .table) (x .plan))) (searchStages (searched task level) (planFound task level) signer (searchBuffers (b .table) (b .plan)))
 
--- the planner: what it answers, and what the buffers hold now
-abbrev pub Plans : List ℕ → ℕ → Lent → Planned → Lent → Type 0
-Plans task signer b answer now = ByStages (planStages task signer b) (planWhole task signer) unplanned b answer now
+-- the planner, at the level that it takes: what it answers, and what the buffers hold now
+abbrev pub Plans : List ℕ → ℕ → ℕ → Lent → Planned → Lent → Type 0
+Plans task level signer b answer now = ByStages (planStages task (takenLevel level) signer b) (planWhole task (takenLevel level) signer) unplanned b answer now
 
-abbrev pub planAnswer : List ℕ → ℕ → Lent → Planned
-planAnswer task signer b = answerBy (planStages task signer b) (planWhole task signer) unplanned
+abbrev pub planAnswer : List ℕ → ℕ → ℕ → Lent → Planned
+planAnswer task level signer b = answerBy (planStages task (takenLevel level) signer b) (planWhole task (takenLevel level) signer) unplanned
 
-abbrev pub planAfter : List ℕ → ℕ → Lent → Lent
-planAfter task signer b = leftBy (planStages task signer b) b
+abbrev pub planAfter : List ℕ → ℕ → ℕ → Lent → Lent
+planAfter task level signer b = leftBy (planStages task (takenLevel level) signer b) b

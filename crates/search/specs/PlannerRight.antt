@@ -19,14 +19,14 @@ use Rattle.reduction.specs.Answers.{LongEnough}
 use Rattle.distances.specs.States.{stateCount}
 use Rattle.distances.specs.Table.{minutesOf, stepsOf, entryOf}
 use Rattle.search.specs.Least.{startedAt}
-use Rattle.search.specs.Planner.{planLevel, Lent, Plans, planAnswer}
+use Rattle.search.specs.Planner.{validPlanning, Lent, Plans, planAnswer}
 use Rattle.distances.specs.declared.Entry.{Entry}
 use Rattle.search.specs.declared.Planned.{Planned}
 
 -- the buffers are long enough for the planner: where no plan exists, every plan buffer is
-pub record PlanLongEnough (task : List ℕ) (signer : ℕ) (b : Lent) : Type 0 where
-  pub buffers : LongEnough task planLevel signer (b .buffers)
-  pub table : stateCount (reducedTask (taskOf task) planLevel .variables) ≤ length (b .table)
+pub record PlanLongEnough (task : List ℕ) (level signer : ℕ) (b : Lent) : Type 0 where
+  pub buffers : LongEnough task level signer (b .buffers)
+  pub table : stateCount (reducedTask (taskOf task) level .variables) ≤ length (b .table)
   pub plan : (plan : List ℕ) → Best (taskOf task) plan → length (planFile plan signer) ≤ length (b .plan)
 
 -- a plan of the full task: the one in the plan file, of which the numbers handed back are
@@ -48,26 +48,27 @@ pub record EntryRight (t : Task) (e : Entry) : Type 0 where
   pub no-plan : (e ≡ entryOf none) ↔ ((plan : List ℕ) → IsPlan t plan → ⊥)
   pub otherwise : (e ≡ entryOf none → ⊥) → (plan : List ℕ) × Best t plan × (minutesOf e ≡ totalOf t plan .minutes) × (stepsOf e ≡ length plan)
 
-pub record PlannerRight (task : List ℕ) (signer : ℕ) (answer : Planned) (now : Lent) : Type 0 where
+pub record PlannerRight (task : List ℕ) (level signer : ℕ) (answer : Planned) (now : Lent) : Type 0 where
   -- "no plan" is given exactly when the full task has none
   pub no-plan : (answer .outcome ≡ refusal 24 0) ↔ ((plan : List ℕ) → IsPlan (taskOf task) plan → ⊥)
   pub otherwise : (answer .outcome ≡ refusal 24 0 → ⊥) → HandedBack (taskOf task) signer answer (now .plan)
-  -- each entry of the table is that of the level 4 reduced task from its state on, after 24 too
-  pub entries : (n : ℕ) → n < stateCount (reducedTask (taskOf task) planLevel .variables)
-      → EntryRight (startedAt (reducedTask (taskOf task) planLevel) n) (getD (now .table) n (entryOf none))
+  -- each entry of the table is that of the level's reduced task from its state on, after 24 too
+  pub entries : (n : ℕ) → n < stateCount (reducedTask (taskOf task) level .variables)
+      → EntryRight (startedAt (reducedTask (taskOf task) level) n) (getD (now .table) n (entryOf none))
 
--- the planner is right for every accepted task: what it answers, and what the buffers that it is lent hold now
-abbrev pub PlannerPromise : List ℕ → ℕ → Lent → Planned → Lent → Type 0
-PlannerPromise task signer b answer now =
-    Octets task → checkTask task ≡ done → validSigner signer ≡ true
-    → stateCount (reducedTask (taskOf task) planLevel .variables) ≤ 4096
-    → PlanLongEnough task signer b
-    → PlannerRight task signer answer now
+-- the planner is right for every accepted task, at every level that it takes: what it answers, and what the buffers that it is
+-- lent hold now
+abbrev pub PlannerPromise : List ℕ → ℕ → ℕ → Lent → Planned → Lent → Type 0
+PlannerPromise task level signer b answer now =
+    Octets task → checkTask task ≡ done → validPlanning level ≡ true → validSigner signer ≡ true
+    → stateCount (reducedTask (taskOf task) level .variables) ≤ 4096
+    → PlanLongEnough task level signer b
+    → PlannerRight task level signer answer now
 
 -- the planner's call: by its stages, and right
-pub record PlansRight (task : List ℕ) (signer : ℕ) (b : Lent) (answer : Planned) (now : Lent) : Type 0 where
-  pub stages : Plans task signer b answer now
-  pub right : PlannerPromise task signer b answer now
+pub record PlansRight (task : List ℕ) (level signer : ℕ) (b : Lent) (answer : Planned) (now : Lent) : Type 0 where
+  pub stages : Plans task level signer b answer now
+  pub right : PlannerPromise task level signer b answer now
 
 -- buffers of the header's largest lengths
 pub record Ample (b : Lent) : Type 0 where
@@ -78,12 +79,12 @@ pub record Ample (b : Lent) : Type 0 where
   pub table : length (b .table) ≡ 4096
   pub plan : length (b .plan) ≡ 8206
 
--- they are long enough for every accepted task that is searched
+-- they are long enough for every accepted task that is searched, at every level
 abbrev pub AmpleSuffices : Type 0
-AmpleSuffices = (task : List ℕ) (signer : ℕ) (b : Lent) → Octets task → checkTask task ≡ done
-    → stateCount (reducedTask (taskOf task) planLevel .variables) ≤ 4096
-    → Ample b → PlanLongEnough task signer b
+AmpleSuffices = (task : List ℕ) (level signer : ℕ) (b : Lent) → Octets task → checkTask task ≡ done
+    → stateCount (reducedTask (taskOf task) level .variables) ≤ 4096
+    → Ample b → PlanLongEnough task level signer b
 
 -- and with them no file is refused with 21
 abbrev pub NeverShort : Type 0
-NeverShort = (task : List ℕ) (signer : ℕ) (b : Lent) → Octets task → Ample b → planAnswer task signer b .outcome .number ≡ 21 → ⊥
+NeverShort = (task : List ℕ) (level signer : ℕ) (b : Lent) → Octets task → Ample b → planAnswer task level signer b .outcome .number ≡ 21 → ⊥

@@ -1,6 +1,7 @@
 // Search over the states of the reduced task, and the planner.
 // The call open to callers is plan; the module own_table serves the programs.
 mod first_plan;
+mod levels;
 pub mod own_table;
 mod stages;
 mod work_table;
@@ -8,8 +9,8 @@ mod work_table;
 ghost use Rattle.search.specs.Planner.{lentOf};
 ghost use Rattle.search.specs.PlannerRight.{PlansRight};
 
-// What the planner answers: the six lengths written, the round count, cost and steps, 0 beside a
-// refusal.
+// What the planner answers: the six lengths written, the round count, the turn count, cost and
+// steps, 0 beside a refusal.
 pub struct Planned {
     pub outcome: files::Outcome,
     pub action_marks: usize,
@@ -19,14 +20,16 @@ pub struct Planned {
     pub table: usize,
     pub plan: usize,
     pub rounds: usize,
+    pub turns: usize,
     pub cost: plans::Minutes,
     pub steps: plans::Steps,
 }
 
-// Plans the task of a task file: marks it at level 4, reduces it, searches its states, and writes
+// Plans the task of a task file: marks and reduces it at a level, searches its states, and writes
 // the first of its cheapest plans of fewest steps by original numbers, under a signer.
 pub fn plan(
     task: &[u8],
+    level: u32,
     signer: u32,
     actions: &mut [u8],
     facts: &mut [u8],
@@ -35,9 +38,9 @@ pub fn plan(
     table: &mut [distances::Entry],
     plan: &mut [u8],
 ) -> Planned
-    ensures { λ r. ⌜ PlansRight (now (task .entry)) signer (lentOf (now (actions .entry)) (now (facts .entry)) (now (reduced .entry)) (now (origin .entry)) (now (table .entry)) (now (plan .entry))) r (lentOf (now (actions .exit)) (now (facts .exit)) (now (reduced .exit)) (now (origin .exit)) (now (table .exit)) (now (plan .exit))) ⌝ }
+    ensures { λ r. ⌜ PlansRight (now (task .entry)) level signer (lentOf (now (actions .entry)) (now (facts .entry)) (now (reduced .entry)) (now (origin .entry)) (now (table .entry)) (now (plan .entry))) r (lentOf (now (actions .exit)) (now (facts .exit)) (now (reduced .exit)) (now (origin .exit)) (now (table .exit)) (now (plan .exit))) ⌝ }
 {
-    let first = reduction::reduce(task, stages::LEVEL, signer, actions, facts, reduced, origin);
+    let first = levels::reduce_taken(task, level, signer, actions, facts, reduced, origin);
     let found = work_table::search(first, signer, reduced, origin, table, plan);
     stages::together(first, found)
 }

@@ -20,9 +20,6 @@ use lookup::moves;
 use plans::Minutes;
 use plans::Steps;
 
-// The planner marks and reduces at this level.
-pub const LEVEL: u32 = 4;
-
 // What the search of a task comes to before its plan is read off: how many entries are filled, the
 // number of the start state, the sizes of the task, the length of the origin file, and where the
 // record of its actions stands. All 0 beside a refusal.
@@ -256,7 +253,7 @@ pub fn finish(plan: &mut [u8], signer: u32, begun: Found) -> Found
     begun
 }
 
-// Beside a refusal there are no lengths, rounds, cost and steps.
+// Beside a refusal there are no lengths, rounds, turns, cost and steps.
 fn refused(outcome: files::Outcome) -> Planned
     ensures { λ r. ⌜ r ≡ unplanned outcome ⌝ }
 {
@@ -269,6 +266,7 @@ fn refused(outcome: files::Outcome) -> Planned
         table: 0,
         plan: 0,
         rounds: 0,
+        turns: 0,
         cost: Minutes(0),
         steps: Steps(0),
     }
@@ -293,6 +291,7 @@ pub fn together(first: reduction::Reduced, found: Found) -> Planned
         table: found.states,
         plan: found.plan,
         rounds: first.rounds,
+        turns: first.turns,
         cost: cost,
         steps: steps,
     }
