@@ -9,7 +9,7 @@ use Rattle.files.specs.Task.{Task}
 use Rattle.files.proofs.Logic.{split-option}
 use Rattle.plans.specs.Plan.{IsPlan, Best}
 use Rattle.reduction.proofs.FilesPreserved.{reduction-of-files}
-use Rattle.reduction.proofs.Preservation.{reduction-preserves}
+use Rattle.reduction.proofs.Levels.{reduction-preserves}
 use Rattle.search.specs.FirstPlan.{firstPlan}
 use Rattle.search.specs.Least.{PlanFirst}
 use Rattle.search.proofs.Ample.{ample-suffices, never-short}

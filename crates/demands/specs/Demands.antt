@@ -20,7 +20,9 @@ use Rattle.marking.specs.Mark.{validLevel, MarkBuffers, markedBuffers, markWhol
 use Rattle.marking.specs.Rounds.{nextMarks, marking}
 use Rattle.reduction.specs.Answers.{ReduceAnswers, LongEnough, StretchAnswers, StretchLength}
 use Rattle.reduction.specs.Preserved.{ReductionPreserves, ReductionOfFiles}
-use Rattle.reduction.specs.Reduce.{Buffers, withFiles, reduceWhole, reduce, reduceAfter}
+use Rattle.reduction.specs.Reduce.{Buffers, withFiles, validReduction, reduceWhole, reduce, reduceAfter}
+use Rattle.reduction.specs.Task.{markLevel, turnCount}
+use Rattle.reduction.specs.TurnsRight.{ReachedRight, TurnsRight}
 use Rattle.search.specs.Answers.{PlanAnswers}
 use Rattle.search.specs.Least.{SearchIsLeast}
 use Rattle.search.specs.Planner.{Lent, planAnswer, planAfter}
@@ -37,29 +39,35 @@ pub record Demand1 : Type 0 where
   pub mark : (task : List ℕ) (level : ℕ) (b : MarkBuffers) → MarkAnswers task level b
   pub reduce : (task : List ℕ) (level signer : ℕ) (b : Buffers) → ReduceAnswers task level signer b
   pub conditions : (full reduced : List ℕ) (side action : ℕ) → Octets full → Octets reduced → StretchAnswers full reduced side action
-  pub plan : (task : List ℕ) (signer : ℕ) (b : Lent) → PlanAnswers task signer b
+  pub plan : (task : List ℕ) (level signer : ℕ) (b : Lent) → PlanAnswers task level signer b
   pub sheet : (task plan page : List ℕ) → SheetAnswers task plan page
   pub translate : (text : List ℕ) (signer : ℕ) (file : List ℕ) → TranslateAnswers text signer file
 
 -- Demand 2: the plan checker, the marks and the reduced file, and the files.
 
--- where nothing is refused, the answers and the buffers are what 01's steps define
+-- where nothing is refused, the answers and the buffers are what 01's steps define; marking alone takes fewer levels
 pub record StepsRight (task : List ℕ) (level signer : ℕ) (b : Buffers) : Type 0 where
-  pub marks : mark task level (record { actions = b .actions; facts = b .facts }) ≡ markWhole (taskOf task) level
-  pub marked : markAfter task level (record { actions = b .actions; facts = b .facts }) ≡ markedBuffers (taskOf task) level (record { actions = b .actions; facts = b .facts })
+  pub marks : validLevel level ≡ true → mark task level (record { actions = b .actions; facts = b .facts }) ≡ markWhole (taskOf task) level
+  pub marked : validLevel level ≡ true → markAfter task level (record { actions = b .actions; facts = b .facts }) ≡ markedBuffers (taskOf task) level (record { actions = b .actions; facts = b .facts })
   pub reduced : reduce task level signer b ≡ reduceWhole (taskOf task) level signer
   pub buffers : reduceAfter task level signer b ≡ withFiles (taskOf task) level signer b
   -- the round that ends it changes nothing, and there are at most facts plus actions plus 1
-  pub last : nextMarks (taskOf task) level (marking (taskOf task) level .marks) ≡ marking (taskOf task) level .marks
-  pub rounds : marking (taskOf task) level .rounds ≤ factCount (taskOf task) + actionCount (taskOf task) + 1
+  pub last : nextMarks (taskOf task) (markLevel level) (marking (taskOf task) (markLevel level) .marks) ≡ marking (taskOf task) (markLevel level) .marks
+  pub rounds : marking (taskOf task) (markLevel level) .rounds ≤ factCount (taskOf task) + actionCount (taskOf task) + 1
+  -- turns are at most actions plus facts plus 1 (02), and there are none at other levels than 5
+  pub turns : turnCount (taskOf task) level ≤ actionCount (taskOf task) + factCount (taskOf task) + 1
+  pub no-turns : (level ≡ 5 → ⊥) → turnCount (taskOf task) level ≡ 0
 
 pub record Demand2 : Type 0 where
   -- the plan checker says yes exactly when the list is a plan, and gives its cost
   pub checker : (task plan : List ℕ) → CheckerRight task plan
   pub lists : (t : Task) (plan : List ℕ) → ListRight t plan
   -- marks, round count and reduced file at each level are those that 01's steps define
-  pub steps : (task : List ℕ) (level signer : ℕ) (b : Buffers) → Octets task → checkTask task ≡ done → validLevel level ≡ true → validSigner signer ≡ true
+  pub steps : (task : List ℕ) (level signer : ℕ) (b : Buffers) → Octets task → checkTask task ≡ done → validReduction level ≡ true → validSigner signer ≡ true
       → LongEnough task level signer b → StepsRight task level signer b
+  -- only what follows is reached, and plans use reached actions alone; turns end with a task that one more leaves as it found it
+  pub reach : (t : Task) → acceptedTask t ≡ true → ReachedRight t
+  pub turns : (t : Task) → acceptedTask t ≡ true → TurnsRight t
   -- a written file reads back as the same task, and one task under one signer has one file; so do origins and plans
   pub tasks : KindRight checkTask taskOf acceptedTask taskFile
   pub origins : KindRight checkOrigin originOf acceptedOrigin originFile
@@ -78,8 +86,9 @@ pub record Demand3 : Type 0 where
   pub best : (t : Task) → acceptedTask t ≡ true → (plan : List ℕ) → IsPlan t plan → (other : List ℕ) × Best t other
   -- each entry of a table is least over all lists of any length, and the plan read off it is the first of the best
   pub search : SearchIsLeast
-  -- "no plan" exactly where there is none; otherwise the plan file holds a best plan of the full task, with its cost and steps
-  pub planner : (task : List ℕ) (signer : ℕ) (b : Lent) → PlannerPromise task signer b (planAnswer task signer b) (planAfter task signer b)
+  -- at every level that the planner takes, "no plan" exactly where there is none; otherwise the plan file holds a best plan of the
+  -- full task, with its cost and steps
+  pub planner : (task : List ℕ) (level signer : ℕ) (b : Lent) → PlannerPromise task level signer b (planAnswer task level signer b) (planAfter task level signer b)
   -- buffers that are long enough exist: with the header's largest lengths 21 is never met
   pub ample : AmpleSuffices
   pub never-short : NeverShort

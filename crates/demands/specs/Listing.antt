@@ -22,12 +22,16 @@ unfoldable pub printedSteps : List ℕ → List ℕ
 printedSteps [] = []
 printedSteps (a ∷ steps) = ascii "step " ++ decimal a ++ ascii "\n" ++ printedSteps steps
 
+-- it plans at this level
+abbrev pub ownLevel : ℕ
+ownLevel = 4
+
 -- counts of variables and actions, those of the kept, the steps, cost and steps
 unfoldable pub planLines : List ℕ → Planned → List ℕ
 planLines task p =
     line "task " (variableCount (taskOf task)) " " (actionCount (taskOf task))
-    ++ line "kept " (variableCount (searched task)) " " (actionCount (searched task))
-    ++ printedSteps (planMade task)
+    ++ line "kept " (variableCount (searched task ownLevel)) " " (actionCount (searched task ownLevel))
+    ++ printedSteps (planMade task ownLevel)
     ++ line "cost " (p .cost .0) " steps " (p .steps .0)
 
 -- the program's buffers, of the largest lengths (`Ample`)
@@ -37,6 +41,6 @@ ownBuffers = lentOf (replicate 512 0) (replicate 2048 0) (replicate 65536 0) (re
 -- planned under the file's signer; after a refusal just one line
 unfoldable pub listing : List ℕ → List ℕ
 listing task =
-    let p = planAnswer task (signerOf task) ownBuffers in
+    let p = planAnswer task ownLevel (signerOf task) ownBuffers in
     let lines = planLines task p in
     cond (isDone (p .outcome)) lines (line "refused " (p .outcome .number) " at " (p .outcome .place))
