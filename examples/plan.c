@@ -8,7 +8,7 @@ static struct shortest_entry table[SHORTEST_MOST_ENTRIES];
 int main(void) {
     uint64_t out[SHORTEST_NUMBERS];
     size_t length = fread(task, 1, sizeof task, stdin);
-    shortest_plan(task, length, 1, actions, sizeof actions, facts, sizeof facts, reduced, sizeof reduced,
+    shortest_plan(task, length, 4, 1, actions, sizeof actions, facts, sizeof facts, reduced, sizeof reduced,
                   origin, sizeof origin, table, SHORTEST_MOST_ENTRIES, plan, sizeof plan, out);
     for (uint64_t i = 0; i < out[SHORTEST_STEPS]; i++)
         printf("step %d\n", plan[4 + 2 * i] + 256 * plan[5 + 2 * i]);

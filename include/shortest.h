@@ -4,7 +4,7 @@
  * Every call takes arbitrary bytes and buffers of any length, and refuses what does not serve.
  * A buffer is a pointer and the number of its elements. The pointer is not null, also where the
  * number is 0, and is aligned for its elements. A buffer that is written overlaps no other buffer
- * and not `out`. The calls keep nothing between them, allocate nothing, and use up to about 375 KiB
+ * and not `out`. The calls keep nothing between them, allocate nothing, and use up to about 500 KiB
  * of the stack.
  *
  * The answer of a call is written to `out`, all of its eighteen numbers at every call; a number
@@ -25,7 +25,7 @@
  *   11  bytes of the plan file written
  *   12  bytes of the page written
  *   13  bytes of the task file written
- *   14  reserved: turns
+ *   14  turns of level 5, else 0
  *   15  reserved: elements of a list written
  *   16  reserved: 1 where the goal holds, else 0
  *   17  reserved: entries
@@ -46,7 +46,8 @@
 extern "C" {
 #endif
 
-/* The places of `out`, and how many they are. No call has a number behind SHORTEST_TASK yet. */
+/* The places of `out`, and how many they are. No call has a number behind SHORTEST_TURNS
+   yet. */
 enum {
     SHORTEST_NUMBER,
     SHORTEST_FILE,
@@ -105,19 +106,25 @@ void shortest_mark(const uint8_t *task, size_t task_length, uint32_t level,
                    uint8_t *actions, size_t actions_length,
                    uint8_t *facts, size_t facts_length, uint64_t out[SHORTEST_NUMBERS]);
 
-/* Marks as shortest_mark does, and reduces the task: `reduced` holds the file of the reduced task
-   and `origin` the file of its origins, both under the signer, which is not 0. The reduced file is
-   no longer than the task file. */
+/* Marks as shortest_mark does, and reduces the task at a level, 1 to 5: `reduced` holds the file of
+   the reduced task and `origin` the file of its origins, both under the signer, which is not 0. The
+   reduced file is no longer than the task file. Level 5 takes turns, each of which reduces at level
+   4 and then strikes the actions that are not reached, until one leaves the task as it found it: a
+   fact is reached if it is a start fact or the effect of a reached action, and an action if all its
+   conditions are. Its marks and rounds are the first turn's; its origins are those of the last, in
+   the numbers of the task file. */
 void shortest_reduce(const uint8_t *task, size_t task_length, uint32_t level, uint32_t signer,
                      uint8_t *actions, size_t actions_length,
                      uint8_t *facts, size_t facts_length,
                      uint8_t *reduced, size_t reduced_length,
                      uint8_t *origin, size_t origin_length, uint64_t out[SHORTEST_NUMBERS]);
 
-/* Plans: reduces at level 4 as shortest_reduce does, fills the table with an entry for each state
-   of the reduced task, by its number, and writes to `plan` the plan file of the first of the
-   cheapest plans of fewest steps, in the action numbers of the task file, under the signer. */
-void shortest_plan(const uint8_t *task, size_t task_length, uint32_t signer,
+/* Plans: reduces at a level, 4 or 5, as shortest_reduce does, fills the table with an entry for each
+   state of the reduced task, by its number, and writes to `plan` the plan file of the first of the
+   cheapest plans of fewest steps, in the action numbers of the task file, under the signer. Any
+   other level is refused with 8. A plan is the same at both levels; level 5 may leave fewer states
+   to search. */
+void shortest_plan(const uint8_t *task, size_t task_length, uint32_t level, uint32_t signer,
                    uint8_t *actions, size_t actions_length,
                    uint8_t *facts, size_t facts_length,
                    uint8_t *reduced, size_t reduced_length,

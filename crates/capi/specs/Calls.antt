@@ -5,7 +5,7 @@ use Rattle.files.specs.Stages.{ByStages}
 use Rattle.files.specs.TaskFile.{taskOf}
 use Rattle.marking.specs.Mark.{MarkBuffers, markFileStages, markWhole, noMarks}
 use Rattle.reduction.specs.Reduce.{Buffers, reduceFileStages, reduceWhole, noFiles}
-use Rattle.search.specs.Planner.{Lent, planStages, planWhole, unplanned}
+use Rattle.search.specs.Planner.{takenLevel, Lent, planStages, planWhole, unplanned}
 use Rattle.sheets.specs.Sheet.{sheetStages, sheetWhole, noSheet}
 use Rattle.translator.specs.Translate.{translateStages, translateWhole, noFile}
 use Rattle.capi.specs.Numbers.{markedNumbers, reducedNumbers, plannedNumbers, laidNumbers, translatedNumbers}
@@ -18,9 +18,9 @@ abbrev pub ReducesNumbers : List ℕ → ℕ → ℕ → Buffers → List ℕ �
 ReducesNumbers task level signer b out now =
     ByStages (reduceFileStages task level signer b) (reducedNumbers (reduceWhole (taskOf task) level signer)) (λ o. reducedNumbers (noFiles o)) b out now
 
-abbrev pub PlansNumbers : List ℕ → ℕ → Lent → List ℕ → Lent → Type 0
-PlansNumbers task signer b out now =
-    ByStages (planStages task signer b) (plannedNumbers (planWhole task signer)) (λ o. plannedNumbers (unplanned o)) b out now
+abbrev pub PlansNumbers : List ℕ → ℕ → ℕ → Lent → List ℕ → Lent → Type 0
+PlansNumbers task level signer b out now =
+    ByStages (planStages task (takenLevel level) signer b) (plannedNumbers (planWhole task (takenLevel level) signer)) (λ o. plannedNumbers (unplanned o)) b out now
 
 abbrev pub LaysNumbers : List ℕ → List ℕ → List ℕ → List ℕ → List ℕ → Type 0
 LaysNumbers task plan page out now =

@@ -28,7 +28,7 @@ markedNumbers m = at 3 (m .rounds) (at 6 (m .«action_marks») (at 7 (m .«fact_
 unfoldable pub reducedNumbers : Reduced → List ℕ
 reducedNumbers r =
     at 3 (r .rounds)
-    (at 6 (r .«action_marks») (at 7 (r .«fact_marks») (at 8 (r .reduced) (at 9 (r .origin) (outcomeNumbers (r .outcome))))))
+    (at 6 (r .«action_marks») (at 7 (r .«fact_marks») (at 8 (r .reduced) (at 9 (r .origin) (at 14 (r .turns) (outcomeNumbers (r .outcome)))))))
 
 unfoldable pub plannedNumbers : Planned → List ℕ
 plannedNumbers p =
@@ -38,7 +38,7 @@ plannedNumbers p =
     (at 6 (p .«action_marks»)
     (at 7 (p .«fact_marks»)
     (at 8 (p .reduced)
-    (at 9 (p .origin) (at 10 (p .table) (at 11 (p .plan) (outcomeNumbers (p .outcome))))))))))
+    (at 9 (p .origin) (at 10 (p .table) (at 11 (p .plan) (at 14 (p .turns) (outcomeNumbers (p .outcome)))))))))))
 
 unfoldable pub laidNumbers : Laid → List ℕ
 laidNumbers l = at 4 (l .cost .0) (at 5 (l .steps .0) (at 12 (l .page) (outcomeNumbers (l .outcome))))

@@ -69,11 +69,12 @@ pub extern "C" fn shortest_reduce(
     numbers::write_reduced(answer, out);
 }
 
-// Plans the task of a task file: marks it at level 4, reduces it, searches its states, and writes
+// Plans the task of a task file: marks and reduces it at a level, searches its states, and writes
 // the first of its cheapest plans of fewest steps by original numbers, under a signer.
 #[no_mangle]
 pub extern "C" fn shortest_plan(
     task: &[u8],
+    level: u32,
     signer: u32,
     actions: &mut [u8],
     facts: &mut [u8],
@@ -83,9 +84,19 @@ pub extern "C" fn shortest_plan(
     plan: &mut [u8],
     out: &mut [u64; 18],
 )
-    ensures { λ r. ⌜ PlansNumbers (now (task .entry)) signer (lentOf (now (actions .entry)) (now (facts .entry)) (now (reduced .entry)) (now (origin .entry)) (now (table .entry)) (now (plan .entry))) (now (out .exit)) (lentOf (now (actions .exit)) (now (facts .exit)) (now (reduced .exit)) (now (origin .exit)) (now (table .exit)) (now (plan .exit))) ⌝ }
+    ensures { λ r. ⌜ PlansNumbers (now (task .entry)) level signer (lentOf (now (actions .entry)) (now (facts .entry)) (now (reduced .entry)) (now (origin .entry)) (now (table .entry)) (now (plan .entry))) (now (out .exit)) (lentOf (now (actions .exit)) (now (facts .exit)) (now (reduced .exit)) (now (origin .exit)) (now (table .exit)) (now (plan .exit))) ⌝ }
 {
-    let answer = search::plan(task, signer, actions, facts, reduced, origin, table, plan);
+    let answer = search::plan(
+        task,
+        level,
+        signer,
+        actions,
+        facts,
+        reduced,
+        origin,
+        table,
+        plan,
+    );
     numbers::write_planned(answer, out);
 }
 

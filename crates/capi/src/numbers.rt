@@ -4,7 +4,7 @@ ghost use Rattle.capi.specs.Numbers.{listed, outcomeNumbers, checkedNumb
 
 // The numbers of an answer by name, in the order of their places: the outcome's three, rounds, cost,
 // steps; the elements written: action marks, fact marks, reduced file, origin file, table, plan file,
-// page, task file. The four behind, from place 14 on, are for calls to come.
+// page, task file; turns. The three behind, from place 15 on, are for calls to come.
 struct Numbers {
     outcome: files::Outcome,
     rounds: usize,
@@ -112,6 +112,7 @@ pub fn write_reduced(reduced: reduction::Reduced, out: &mut [u64; 18])
     let mut numbers = NONE;
     numbers.outcome = outcome;
     numbers.rounds = reduced.rounds;
+    numbers.turns = reduced.turns;
     numbers.action_marks = reduced.action_marks;
     numbers.fact_marks = reduced.fact_marks;
     numbers.reduced = reduced.reduced;
@@ -126,6 +127,7 @@ pub fn write_planned(planned: search::Planned, out: &mut [u64; 18])
     let mut numbers = NONE;
     numbers.outcome = outcome;
     numbers.rounds = planned.rounds;
+    numbers.turns = planned.turns;
     numbers.cost = planned.cost.0;
     numbers.steps = planned.steps.0;
     numbers.action_marks = planned.action_marks;
