@@ -44,6 +44,14 @@ pub fn print_next(n: usize) {
     print_number(n);
 }
 
+// Prints the turns, unless there are none: all levels but 5.
+pub fn print_turns(turns: usize) {
+    if 0 < turns {
+        io::write_all(1, b" turns ");
+        print_number(turns);
+    }
+}
+
 // Prints an outcome: number, file, place.
 pub fn print_outcome(o: files::Outcome) {
     print_number(o.number as usize);

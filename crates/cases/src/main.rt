@@ -14,7 +14,7 @@ ghost use Prim.Native.Nat.{_≤_};
 ghost use lib.ListN.{length};
 
 fn main() {
-    let mut text = [0u8; 524288];
+    let mut text = [0u8; 655360];
     let read = io::read_full(0, &mut text);
     let mut file = [0u8; 70000];
     let mut written = [0u8; 70000];

@@ -10,11 +10,11 @@ pub fn plan_file(file: &[u8]) {
     let mut plan = [9u8; 1000];
     plan_into(
         file,
-        lines::part(&mut actions, files::bytes::u16_at(file, 4)),
-        lines::part(&mut facts, files::bytes::u16_at(file, 6)),
-        lines::part(&mut reduced, files::bytes::u16_at(file, 8)),
-        lines::part(&mut origin, files::bytes::u16_at(file, 10)),
-        lines::part(&mut plan, files::bytes::u16_at(file, 12)),
+        lines::part(&mut actions, files::bytes::u16_at(file, 5)),
+        lines::part(&mut facts, files::bytes::u16_at(file, 7)),
+        lines::part(&mut reduced, files::bytes::u16_at(file, 9)),
+        lines::part(&mut origin, files::bytes::u16_at(file, 11)),
+        lines::part(&mut plan, files::bytes::u16_at(file, 13)),
     );
 }
 
@@ -27,12 +27,14 @@ fn plan_into(
     origin: &mut [u8],
     plan: &mut [u8],
 ) {
-    if file.len() < 14 {
+    if file.len() < 15 {
         return;
     }
-    let signer = files::bytes::u32_at(file, 0) as u32;
+    let level = files::bytes::byte_at(file, 0) as u32;
+    let signer = files::bytes::u32_at(file, 1) as u32;
     let answer = search::own_table::plan(
-        &file[14..],
+        &file[15..],
+        level,
         signer,
         actions,
         facts,
@@ -53,7 +55,8 @@ fn plan_into(
     lines::print_hex(plan);
 }
 
-// Prints the outcome, the six lengths, the rounds, the cost and the steps.
+// Prints the outcome, the six lengths, the rounds, the turns if there are any, the cost and the
+// steps.
 fn print_answer(answer: search::Planned) {
     let outcome = answer.outcome;
     let cost = answer.cost;
@@ -66,6 +69,7 @@ fn print_answer(answer: search::Planned) {
     lines::print_next(answer.table);
     lines::print_next(answer.plan);
     lines::print_next(answer.rounds);
+    lines::print_turns(answer.turns);
     lines::print_byte(b' ');
     lines::print_minutes(cost);
     lines::print_next(steps.0 as usize);

@@ -62,7 +62,7 @@ fn reduce_into(
     lines::print_hex(origin);
 }
 
-// Prints the outcome, the four lengths and the rounds.
+// Prints the outcome, the four lengths, the rounds, and the turns if there are any.
 fn print_answer(answer: reduction::Reduced) {
     let outcome = answer.outcome;
     lines::print_outcome(outcome);
@@ -71,6 +71,7 @@ fn print_answer(answer: reduction::Reduced) {
     lines::print_next(answer.reduced);
     lines::print_next(answer.origin);
     lines::print_next(answer.rounds);
+    lines::print_turns(answer.turns);
 }
 
 // Prints the outcome of the call for condition pairs, and the pairs.

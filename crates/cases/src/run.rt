@@ -16,9 +16,9 @@ use crate::translated;
 // which hold 9s.
 // s: the condition pairs of an action; the first byte is the side, then two bytes for the action,
 // and two that say how many of the others are the first file.
-// P: the planner; the first four bytes are the signer, then two bytes each for the lengths of the
-// buffers for action marks, fact marks, the reduced file, the origin file and the plan file, which
-// hold 9s.
+// P: the planner; the first byte is the level, then four bytes for the signer and two bytes each for
+// the lengths of the buffers for action marks, fact marks, the reduced file, the origin file and the
+// plan file, which hold 9s.
 // S: the sheet; the first four bytes are the length of the page buffer, which holds 9s, and the next
 // four say how many of the others are the task file.
 // T: a translator text; the first four bytes are the signer, then two bytes for the length of the

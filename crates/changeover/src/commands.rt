@@ -10,6 +10,9 @@ use crate::usage::Command;
 use crate::words::Words;
 use files::limits;
 
+// `plan` plans at this level where no word says another.
+const PLAN_LEVEL: u32 = 4;
+
 // Runs the command of a line or of the arguments.
 pub fn run(out: Printer, text: &[u8], given: Words) -> Printer {
     let command = usage::named(given.at(text, 0));
@@ -42,7 +45,7 @@ fn run_on_file(out: Printer, command: Command, file: &[u8], text: &[u8], given: 
         Command::Show => show(out, file),
         Command::Mark => mark(out, file, given.number(text, 2)),
         Command::Reduce => reduce(out, file, text, given),
-        Command::Plan => plan(out, file, given.number(text, 2), given.at(text, 3)),
+        Command::Plan => plan(out, file, text, given),
         Command::Translate => translate(out, file, given.number(text, 2), given.at(text, 3)),
         _ => run_on_task(out, command, file, text, given),
     }
@@ -149,12 +152,21 @@ fn write_reduced(
 
 fn put_reduced(out: Printer, reduced: reduction::Reduced) -> Printer {
     let next = out.labelled(b"done rounds ", reduced.rounds);
-    next.labelled(b" reduced ", reduced.reduced)
+    put_turns(next, reduced.turns)
+        .labelled(b" reduced ", reduced.reduced)
         .labelled(b" origin ", reduced.origin)
         .end()
 }
 
-fn plan(out: Printer, file: &[u8], signer: u32, name: &[u8]) -> Printer {
+// The level that the words of `plan` name.
+fn plan_level(text: &[u8], given: Words) -> u32 {
+    if given.are(5) {
+        return given.number(text, 4);
+    }
+    PLAN_LEVEL
+}
+
+fn plan(out: Printer, file: &[u8], text: &[u8], given: Words) -> Printer {
     let mut actions = [0u8; limits::MOST_ACTIONS];
     let mut facts = [0u8; limits::MOST_FACTS];
     let mut reduced = [0u8; limits::MOST_BYTES];
@@ -162,7 +174,8 @@ fn plan(out: Printer, file: &[u8], signer: u32, name: &[u8]) -> Printer {
     let mut plan = [0u8; limits::MOST_PLAN_BYTES];
     let planned = search::own_table::plan(
         file,
-        signer,
+        plan_level(text, given),
+        given.number(text, 2),
         &mut actions,
         &mut facts,
         &mut reduced,
@@ -173,10 +186,11 @@ fn plan(out: Printer, file: &[u8], signer: u32, name: &[u8]) -> Printer {
     if outcome.number != 0 {
         return out.refused(outcome, b"");
     }
+    let name = given.at(text, 3);
     if !output::write(name, &plan, planned.plan) {
         return out.failed(name);
     }
-    put_total(out, planned.cost, planned.steps).end()
+    put_turns(put_total(out, planned.cost, planned.steps), planned.turns).end()
 }
 
 fn translate(out: Printer, text: &[u8], signer: u32, name: &[u8]) -> Printer {
@@ -219,4 +233,12 @@ fn sheet(out: Printer, task: &[u8], plan: &[u8], plan_name: &[u8], name: &[u8]) 
 fn put_total(out: Printer, cost: plans::Minutes, steps: plans::Steps) -> Printer {
     out.labelled(b"done cost ", cost.0 as usize)
         .labelled(b" steps ", steps.0 as usize)
+}
+
+// The turns, unless there are none: all levels but 5.
+fn put_turns(out: Printer, turns: usize) -> Printer {
+    if turns == 0 {
+        return out;
+    }
+    out.labelled(b" turns ", turns)
 }

@@ -57,13 +57,18 @@ pub fn fits(command: Command, text: &[u8], given: Words) -> bool {
         Command::Reduce => {
             given.are(6) && given.has_number(text, 2) && given.has_number(text, 3)
         }
-        Command::Plan => given.are(4) && given.has_number(text, 2),
+        Command::Plan => given.has_number(text, 2) && fits_plan(text, given),
         Command::CheckPlan => given.are(3),
         Command::Sheet => given.are(4),
         Command::Translate => given.are(4) && given.has_number(text, 2),
         Command::Lines => given.are(1),
         Command::Unknown => false,
     }
+}
+
+// `plan` can take a level behind its other words.
+fn fits_plan(text: &[u8], given: Words) -> bool {
+    given.are(4) || given.are(5) && given.has_number(text, 4)
 }
 
 // A line with the words of a command behind a label.
@@ -74,7 +79,7 @@ fn put_usage(out: Printer, label: &[u8], command: Command) -> Printer {
         Command::Show => next.text(b"show FILE\n"),
         Command::Mark => next.text(b"mark TASK LEVEL\n"),
         Command::Reduce => next.text(b"reduce TASK LEVEL SIGNER REDUCED ORIGIN\n"),
-        Command::Plan => next.text(b"plan TASK SIGNER PLAN\n"),
+        Command::Plan => next.text(b"plan TASK SIGNER PLAN [LEVEL]\n"),
         Command::CheckPlan => next.text(b"check-plan TASK PLAN\n"),
         Command::Sheet => next.text(b"sheet TASK PLAN PAGE\n"),
         Command::Translate => next.text(b"translate TEXT SIGNER TASK\n"),

@@ -1,6 +1,8 @@
 // Compares what the library answers and writes with what the enumerator finds.
+use crate::bytes::number;
 use crate::bytes::same;
 use crate::enumerate::Found;
+use crate::generate::size_in;
 
 // The first `count` bytes of a buffer, or all where it has fewer.
 pub fn part(buffer: &[u8], count: usize) -> &[u8] {
@@ -29,11 +31,12 @@ fn is_found(cost: plans::Minutes, steps: plans::Steps, found: Found) -> bool {
     steps.0 as usize == found.steps
 }
 
-// Whether the planner gives another answer for the first bytes of a file than is found, or leaves another
-// byte anywhere in the plan buffer.
+// Whether the planner at a level gives another answer for the first bytes of a file than is found, or
+// leaves another byte anywhere in the plan buffer.
 pub fn planner_differs(
     file: &[u8; 512],
     count: usize,
+    level: u32,
     signer: u32,
     found: Found,
     plan: &[u8; 512],
@@ -45,6 +48,7 @@ pub fn planner_differs(
     let mut lent = [171u8; 512];
     let answer = search::own_table::plan(
         part(file, count),
+        level,
         signer,
         &mut actions,
         &mut facts,
@@ -73,18 +77,18 @@ pub fn checker_differs(file: &[u8; 512], count: usize, found: Found, plan: &[u8;
     !is_found(answer.cost, answer.steps, found)
 }
 
-// Whether a file is not reduced at a level.
-pub fn reducer_differs(
+// Reduces a file at a level.
+pub fn reduce(
     file: &[u8; 512],
     count: usize,
     level: u32,
     signer: u32,
     reduced: &mut [u8; 512],
-) -> bool {
+) -> reduction::Reduced {
     let mut actions = [0u8; 10];
     let mut facts = [0u8; 16];
     let mut origin = [0u8; 512];
-    let answer = reduction::reduce(
+    reduction::reduce(
         part(file, count),
         level,
         signer,
@@ -92,8 +96,34 @@ pub fn reducer_differs(
         &mut facts,
         reduced,
         &mut origin,
-    );
-    !is_outcome(answer.outcome, 0)
+    )
+}
+
+// Whether a file is not reduced at a level, or has turns at another level than 5.
+pub fn reducer_differs(answer: reduction::Reduced, level: u32) -> bool {
+    let turns = answer.turns;
+    if !is_outcome(answer.outcome, 0) {
+        return true;
+    }
+    (0 < turns) != (level == 5)
+}
+
+// Whether the tasks of two files have as many variables, values of each and actions.
+pub fn same_counts(one: &[u8; 512], other: &[u8; 512]) -> bool {
+    if number(one, 4) != number(other, 4) {
+        return false;
+    }
+    if number(one, 6) != number(other, 6) {
+        return false;
+    }
+    same_size(one, other, 0)
+        && same_size(one, other, 1)
+        && same_size(one, other, 2)
+        && same_size(one, other, 3)
+}
+
+fn same_size(one: &[u8; 512], other: &[u8; 512], variable: usize) -> bool {
+    size_in(one, variable) == size_in(other, variable)
 }
 
 // Whether what is found in two tasks has another number, cost or number of steps.

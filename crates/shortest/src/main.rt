@@ -5,6 +5,9 @@ mod printer;
 
 use printer::Printer;
 
+// It plans at this level.
+const LEVEL: u32 = 4;
+
 fn main() {
     // one byte more than a file may have, so that a file over the limit is told from one at it
     let mut input = [0u8; 65537];
@@ -21,6 +24,7 @@ fn print_plan(file: &[u8]) {
     let mut plan = [0u8; 8206];
     let planned = search::own_table::plan(
         file,
+        LEVEL,
         signer(file),
         &mut actions,
         &mut facts,
