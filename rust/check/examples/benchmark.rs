@@ -11,6 +11,7 @@ use shortest_check::reference;
 use shortest_check::reference::files::{self, Action, Task};
 use shortest_check::reference::generate::{self, plan_file, task_file, Random};
 use shortest_check::reference::search::state_count;
+use shortest_check::turning::{long_ladder, wide_ladder};
 
 fn main() {
     println!("library, reference and optimised search in microseconds,");
@@ -23,6 +24,8 @@ fn main() {
         measure(name, &task_file(&task));
     }
     measure_level_4("coverers lost", &task_file(&generate::coverers_lost()));
+    measure_level_5("long ladder", &task_file(&long_ladder()));
+    measure_level_5("wide ladder", &task_file(&wide_ladder()));
     measure_sheet();
     let random = &mut Random::new(4);
     let task = generate::crowded(random);
@@ -77,7 +80,7 @@ fn hard_tasks(random: &mut Random) -> Vec<(&'static str, Task)> {
 fn with_plan(random: &mut Random, family: impl Fn(&mut Random) -> Task) -> Task {
     loop {
         let task = family(random);
-        let planned = Buffers::long().plan(library::plan, &task_file(&task), 1);
+        let planned = Buffers::long().plan(library::plan, &task_file(&task), 4, 1);
         if planned.steps > 1 {
             return task;
         }
@@ -117,11 +120,12 @@ impl Calls {
 
 fn measure(name: &str, file: &[u8]) {
     let lent = &mut Buffers::long();
-    let planned = lent.plan(library::plan, file, 1);
+    let planned = lent.plan(library::plan, file, 4, 1);
+    let turns = lent.reduce(library::reduce, file, 5, 1).turns;
     let reduction = lent.reduce(library::reduce, file, 4, 1);
     let reduced = files::read_task(&lent.reduced[..reduction.reduced]).unwrap();
     println!(
-        "\n{name}: {} bytes, {} rounds, {} actions kept, outcome {}, {} states, {} steps",
+        "\n{name}: {} bytes, {} rounds, {turns} turns, {} actions kept, outcome {}, {} states, {} steps",
         file.len(),
         reduction.rounds,
         reduced.actions.len(),
@@ -136,12 +140,10 @@ fn measure(name: &str, file: &[u8]) {
     for level in 1..=4 {
         measure_mark(file, level);
     }
-    let reduce = pair(|calls| {
-        black_box(lent.reduce(calls.reduce, black_box(file), 4, 1));
-    });
-    print("reduce", &reduce);
+    let reduce = measure_reduce(file, 4);
+    measure_reduce(file, 5);
     let plan = pair(|calls| {
-        black_box(lent.plan(calls.plan, black_box(file), 1));
+        black_box(lent.plan(calls.plan, black_box(file), 4, 1));
     });
     if state_count(&reduced).is_some() {
         let [library, reference] = [0, 1].map(|side| plan[side].saturating_sub(reduce[side]));
@@ -159,6 +161,36 @@ fn measure_mark(file: &[u8], level: u32) {
         black_box(lent.mark(calls.mark, black_box(file), level));
     });
     print(&format!("mark, level {level}"), &mark);
+}
+
+fn measure_reduce(file: &[u8], level: u32) -> [Duration; 2] {
+    let lent = &mut Buffers::long();
+    let reduce = pair(|calls| {
+        black_box(lent.reduce(calls.reduce, black_box(file), level, 1));
+    });
+    print(&format!("reduce, level {level}"), &reduce);
+    reduce
+}
+
+/// Reduction, and the whole row.
+fn measure_level_5(name: &str, file: &[u8]) {
+    let lent = &mut Buffers::long();
+    let planned = lent.plan(library::plan, file, 5, 1);
+    let reduced = lent.reduce(library::reduce, file, 5, 1);
+    println!(
+        "\n{name}: {} bytes, {} actions, {} turns, outcome {}, {} states, {} steps",
+        file.len(),
+        reduced.action_marks,
+        reduced.turns,
+        planned.outcome.number,
+        planned.table,
+        planned.steps
+    );
+    measure_reduce(file, 5);
+    let plan = pair(|calls| {
+        black_box(lent.plan(calls.plan, black_box(file), 5, 1));
+    });
+    print("whole row", &plan);
 }
 
 fn measure_level_4(name: &str, file: &[u8]) {
@@ -273,7 +305,7 @@ fn time(mut run: impl FnMut()) -> Duration {
 /// The times of the library and of others, and the ratios.
 fn print(call: &str, times: &[Duration]) {
     let microseconds: Vec<f64> = times.iter().map(|time| time.as_secs_f64() * 1e6).collect();
-    print!("{call:14}");
+    print!("{call:15}");
     for time in &microseconds {
         print!(" {time:10.1}");
     }

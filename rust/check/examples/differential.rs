@@ -17,8 +17,11 @@ fn main() {
         println!("{call} {number}: {count}");
     }
     let Comparison {
-        calls, differences, ..
+        calls,
+        differences,
+        many_turns,
+        ..
     } = comparison;
-    println!("{calls} calls, {differences} differences");
+    println!("{calls} calls, {many_turns} in 4 turns or more, {differences} differences");
     assert_eq!(differences, 0);
 }

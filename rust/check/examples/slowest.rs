@@ -1,6 +1,7 @@
 //! Looks for tasks that take the planner long: shapes of tasks by chance, and
 //! small changes of the slowest so far. Prints each that is slower than all
-//! before. Takes seconds to spend, 60 if none are given, and a seed.
+//! before. Takes seconds to spend, 60 if none are given, a seed, and the level,
+//! 4 if none is given.
 
 use std::time::{Duration, Instant};
 
@@ -127,10 +128,10 @@ impl Shape {
 }
 
 /// The least time of three calls.
-fn time(lent: &mut Buffers, file: &[u8]) -> Duration {
+fn time(lent: &mut Buffers, file: &[u8], level: u32) -> Duration {
     let call = |_| {
         let start = Instant::now();
-        lent.plan(lent::plan, file, 1);
+        lent.plan(lent::plan, file, level, 1);
         start.elapsed()
     };
     (0..3).map(call).min().unwrap()
@@ -143,6 +144,7 @@ fn main() {
     };
     let end = Instant::now() + Duration::from_secs(given(1, 60));
     let random = &mut Random::new(given(2, 1));
+    let level = given(3, 4) as u32;
     let lent = &mut Buffers::long();
     let mut slowest: Vec<(Duration, Shape)> = Vec::new();
     let mut tried = 0;
@@ -151,7 +153,7 @@ fn main() {
             KEPT if random.chance(80) => slowest[random.below(KEPT)].1.changed(random),
             _ => Shape::any(random),
         };
-        let time = time(lent, &task_file(&shape.task()));
+        let time = time(lent, &task_file(&shape.task()), level);
         tried += 1;
         if slowest.first().is_none_or(|(most, _)| *most < time) {
             println!("{:8.1} us {shape:?}", time.as_secs_f64() * 1e6);

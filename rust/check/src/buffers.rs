@@ -4,8 +4,17 @@ use shortest::lent::{self, Answer, Entry};
 
 pub type Mark = fn(&[u8], u32, &mut [u8], &mut [u8]) -> Answer;
 pub type Reduce = fn(&[u8], u32, u32, &mut [u8], &mut [u8], &mut [u8], &mut [u8]) -> Answer;
-pub type Plan =
-    fn(&[u8], u32, &mut [u8], &mut [u8], &mut [u8], &mut [u8], &mut [Entry], &mut [u8]) -> Answer;
+pub type Plan = fn(
+    &[u8],
+    u32,
+    u32,
+    &mut [u8],
+    &mut [u8],
+    &mut [u8],
+    &mut [u8],
+    &mut [Entry],
+    &mut [u8],
+) -> Answer;
 pub type Sheet = fn(&[u8], &[u8], &mut [u8]) -> Answer;
 pub type Translate = fn(&[u8], u32, &mut [u8]) -> Answer;
 
@@ -48,9 +57,10 @@ impl Buffers {
         )
     }
 
-    pub fn plan(&mut self, plan: Plan, task: &[u8], signer: u32) -> Answer {
+    pub fn plan(&mut self, plan: Plan, task: &[u8], level: u32, signer: u32) -> Answer {
         plan(
             task,
+            level,
             signer,
             &mut self.action_marks,
             &mut self.fact_marks,

@@ -6,3 +6,4 @@ pub mod differential;
 pub mod optimised;
 pub mod program;
 pub mod reference;
+pub mod turning;

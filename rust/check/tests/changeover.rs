@@ -3,7 +3,7 @@
 
 use std::collections::BTreeSet;
 
-use shortest::lent::MOST_PAGE;
+use shortest::lent::{Answer, MOST_PAGE};
 use shortest::Outcome;
 use shortest_check::buffers::Buffers;
 use shortest_check::program::Folder;
@@ -170,6 +170,14 @@ fn holds(folder: &Folder, name: &str, expected: &[u8]) {
     assert!(found == expected, "{name}: {found:?}, not {expected:?}");
 }
 
+/// The turns, which stand there at level 5 alone.
+fn turns(answer: &Answer) -> String {
+    match answer.turns {
+        0 => String::new(),
+        turns => format!(" turns {turns}"),
+    }
+}
+
 #[test]
 fn reduced_and_origin_files_at_every_level() {
     let folder = new_folder("reduced");
@@ -177,21 +185,24 @@ fn reduced_and_origin_files_at_every_level() {
     for_all(|random, task| {
         let file = task_file(task);
         folder.put("task", &file);
-        for level in 1..=4 {
+        for level in 1..=5 {
             let signer = random.signer();
             let answer = lent.reduce(reference::reduce, &file, level, signer);
             let [reduced, origin] = ["reduced", "origin"].map(|name| format!("{name}{level}"));
             let [level, signer] = [level, signer].map(|number| number.to_string());
             let words = ["reduce", "task", &level, &signer, &reduced, &origin];
             let last = format!(
-                "done rounds {} reduced {} origin {}\n",
-                answer.rounds, answer.reduced, answer.origin
+                "done rounds {}{} reduced {} origin {}\n",
+                answer.rounds,
+                turns(&answer),
+                answer.reduced,
+                answer.origin
             );
             assert_eq!(folder.run(&words), last);
             holds(&folder, &reduced, &lent.reduced[..answer.reduced]);
             holds(&folder, &origin, &lent.origin[..answer.origin]);
         }
-        assert_eq!(folder.names().len(), 9);
+        assert_eq!(folder.names().len(), 11);
         all_checked(&folder);
     });
 }
@@ -259,19 +270,23 @@ fn plans_and_their_sheets() {
     let mut outcomes = BTreeSet::new();
     for_all(|random, task| {
         let (file, signer) = (task_file(task), random.signer());
-        let answer = lent.plan(reference::plan, &file, signer);
-        outcomes.insert((answer.outcome.number, answer.outcome.place));
         folder.put("task", &file);
-        let run = || folder.run(&["plan", "task", &signer.to_string(), "plan"]);
-        if answer.outcome.is_done() {
-            let total = format!("done cost {} steps {}", answer.cost, answer.steps);
-            assert_eq!(run(), format!("{total}\n"));
-            holds(&folder, "plan", &lent.plan[..answer.plan]);
-            planned(&folder, &file, &lent.plan[..answer.plan], &total);
-        } else {
-            let before = folder.held();
-            assert_eq!(run(), refused(answer.outcome, ""));
-            assert_eq!(folder.held(), before);
+        let signed = signer.to_string();
+        let words = ["plan", "task", &signed, "plan"];
+        for (level, more) in [(4, &[][..]), (4, &["4"]), (5, &["5"])] {
+            let answer = lent.plan(reference::plan, &file, level, signer);
+            outcomes.insert((answer.outcome.number, answer.outcome.place));
+            let run = || folder.run(&[&words, more].concat());
+            if answer.outcome.is_done() {
+                let total = format!("done cost {} steps {}", answer.cost, answer.steps);
+                assert_eq!(run(), format!("{total}{}\n", turns(&answer)));
+                holds(&folder, "plan", &lent.plan[..answer.plan]);
+                planned(&folder, &file, &lent.plan[..answer.plan], &total);
+            } else {
+                let before = folder.held();
+                assert_eq!(run(), refused(answer.outcome, ""));
+                assert_eq!(folder.held(), before);
+            }
         }
     });
     assert_eq!(outcomes, [(0, 0), (24, 0), (25, 0)].into());
@@ -285,7 +300,7 @@ fn a_plan_refused_leaves_no_file() {
     let mut outcomes = BTreeSet::new();
     for_all(|_, task| {
         let file = task_file(task);
-        let outcome = lent.plan(reference::plan, &file, 1).outcome;
+        let outcome = lent.plan(reference::plan, &file, 4, 1).outcome;
         if !outcome.is_done() && outcomes.insert(outcome.number) {
             folder.put("task", &file);
             let last = refused(outcome, "");

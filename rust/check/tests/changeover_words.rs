@@ -16,7 +16,7 @@ const USAGE: [&str; 9] = [
     "show FILE",
     "mark TASK LEVEL",
     "reduce TASK LEVEL SIGNER REDUCED ORIGIN",
-    "plan TASK SIGNER PLAN",
+    "plan TASK SIGNER PLAN [LEVEL]",
     "check-plan TASK PLAN",
     "sheet TASK PLAN PAGE",
     "translate TEXT SIGNER TASK",
@@ -33,15 +33,22 @@ fn new_folder(name: &str) -> Folder {
     folder
 }
 
-/// The words of a command, with which it would write its files.
+/// The words of a command, with which it would write its files; the one in
+/// brackets, which it can do without, is among them.
 fn words(usage: &str) -> Vec<&str> {
     let word = |word| match word {
         "TASK" => "E.task",
         "TEXT" => "E.sas",
-        "LEVEL" | "SIGNER" => "4",
+        "LEVEL" | "[LEVEL]" | "SIGNER" => "4",
         _ => word,
     };
     usage.split(' ').map(word).collect()
+}
+
+/// How many words a command needs.
+fn needed(usage: &str) -> usize {
+    let in_brackets = |word: &&str| word.starts_with('[');
+    usage.split(' ').count() - usage.split(' ').filter(in_brackets).count()
 }
 
 fn failed(usage: &str) -> String {
@@ -69,8 +76,9 @@ fn a_word_too_few_or_too_many() {
     let folder = new_folder("count");
     for usage in USAGE {
         let right = words(usage);
-        if right.len() > 1 {
-            says(&folder, &right[..right.len() - 1], &failed(usage));
+        let needed = needed(usage);
+        if needed > 1 {
+            says(&folder, &right[..needed - 1], &failed(usage));
             says(&folder, &right[..1], &failed(usage));
         }
         for more in [1, 2, 3, 8, 20] {
@@ -121,7 +129,7 @@ fn words_that_are_no_numbers() {
     let mut tried = 0;
     for usage in USAGE {
         for (place, name) in usage.split(' ').enumerate() {
-            if !["LEVEL", "SIGNER"].contains(&name) {
+            if !["LEVEL", "[LEVEL]", "SIGNER"].contains(&name) {
                 continue;
             }
             for word in [&larger[..], &others].concat() {
@@ -134,14 +142,15 @@ fn words_that_are_no_numbers() {
             }
         }
     }
-    assert_eq!(tried, 5 * 13);
+    assert_eq!(tried, 6 * 13);
 }
 
 #[test]
 fn numbers_go_to_the_library() {
     let folder = new_folder("numbers");
-    for level in ["0", "5", "9", "4294967295"] {
-        let refused = "refused 8 at 0\n";
+    let refused = "refused 8 at 0\n";
+    says(&folder, &["mark", "E.task", "5"], refused);
+    for level in ["0", "6", "9", "4294967295"] {
         says(&folder, &["mark", "E.task", level], refused);
         says(
             &folder,
@@ -149,8 +158,20 @@ fn numbers_go_to_the_library() {
             refused,
         );
     }
+    for level in ["0", "1", "2", "3", "6", "9", "4294967295"] {
+        for signer in ["0", "7"] {
+            says(&folder, &["plan", "E.task", signer, "a", level], refused);
+        }
+    }
     let refused = "refused 7 at 0\n";
-    says(&folder, &["reduce", "E.task", "4", "0", "a", "b"], refused);
+    for level in ["4", "5"] {
+        says(
+            &folder,
+            &["reduce", "E.task", level, "0", "a", "b"],
+            refused,
+        );
+        says(&folder, &["plan", "E.task", "0", "a", level], refused);
+    }
     says(&folder, &["plan", "E.task", "0", "a"], refused);
     says(&folder, &["translate", "E.sas", "0", "a"], refused);
 
@@ -197,6 +218,12 @@ fn lines_in_turn() {
         ("check new", "done task variables 2 actions 2 signer 9"),
         ("#check new", "#check new"),
         ("check-plan E.task new", "refused 2 at 0 in new"),
+        ("plan E.task 7 new 5", "done cost 2 steps 1 turns 3"),
+        ("plan E.task 7 new 4", "done cost 2 steps 1"),
+        (
+            "reduce E.task 5 9 new org",
+            "done rounds 2 turns 3 reduced 52 origin 30",
+        ),
         ("check gone", "failed gone"),
         ("mark E.task 9", "refused 8 at 0"),
         ("translate E.sas 5 E.task", "done task 176"),

@@ -20,7 +20,7 @@ const OF_TEXTS: [u32; 8] = [0, 4, 5, 7, 21, 31, 32, 33];
 #[test]
 fn mixed_cases_with_every_outcome() {
     let comparison = for_seeds(100, cases::any);
-    assert!(comparison.calls > 100_000);
+    assert!(comparison.calls > 100_000 && comparison.many_turns > 100);
     let input = [1, 2, 3, 4, 5, 6, 7];
     for (call, others) in [
         ("check_task", &[][..]),
@@ -28,7 +28,7 @@ fn mixed_cases_with_every_outcome() {
         ("check_plan", &[22, 23]),
         ("mark", &[8, 21]),
         ("reduce", &[8, 21]),
-        ("plan", &[21, 24, 25]),
+        ("plan", &[8, 21, 24, 25]),
         ("sheet", &[21, 22, 23]),
     ] {
         let expected = [&[0], &input[..], others].concat();
@@ -66,6 +66,8 @@ fn every_byte_of_small_texts() {
 #[test]
 fn each_family_around_its_lengths() {
     let families = [
+        generate::shaken_ladder,
+        generate::waiting,
         generate::chain,
         generate::many_alike,
         generate::switches,
@@ -157,6 +159,7 @@ fn empty_slices() {
         assert_eq!(
             library::plan(
                 file,
+                4,
                 1,
                 &mut [],
                 &mut [],
@@ -167,6 +170,7 @@ fn empty_slices() {
             ),
             reference::plan(
                 file,
+                4,
                 1,
                 &mut [],
                 &mut [],

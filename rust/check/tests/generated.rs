@@ -15,10 +15,12 @@ use shortest_check::reference::search::{state_count, state_number, state_numbere
 use shortest_check::reference::translator::read_text;
 use shortest_check::reference::{check_origin, check_plan, check_task, mark, plan, reduce};
 
-const FAMILIES: [(Family, u64); 10] = [
+const FAMILIES: [(Family, u64); 12] = [
     (generate::small, 400),
     (generate::small_with_plan, 400),
     (generate::varied, 400),
+    (generate::shaken_ladder, 100),
+    (generate::waiting, 100),
     (generate::chain, 40),
     (generate::many_alike, 20),
     (generate::switches, 40),
@@ -56,6 +58,7 @@ fn planned(task: &Task, signer: u32) -> Answer {
     };
     answer.planned = plan(
         &task_file(task),
+        4,
         signer,
         &mut answer.action_marks,
         &mut vec![9; 2_048],

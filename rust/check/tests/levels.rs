@@ -33,11 +33,13 @@ fn longer_buffers() {
         let file = task_file(&task);
         for level in 1..=4 {
             comparison.mark(&file, level, LONG);
+        }
+        for level in 1..=5 {
             comparison.reduce(&file, level, SIGNER, LONG);
         }
     }
-    let all = 4 * TASKS;
-    compared(&comparison, &[(("mark", 0), all), (("reduce", 0), all)]);
+    let all = [(("mark", 0), 4 * TASKS), (("reduce", 0), 5 * TASKS)];
+    compared(&comparison, &all);
 }
 
 /// Every third task: all buffers as long as needed, then those for the reduced
@@ -47,7 +49,7 @@ fn exact_and_short_buffers() {
     let mut comparison = Comparison::default();
     for task in tasks().step_by(3) {
         let file = task_file(&task);
-        for level in 1..=4 {
+        for level in 1..=5 {
             let needed = cases::needed(&task, level);
             for [reduced, origin] in [[0, 0], [1, 0], [1, 1], [0, 1]] {
                 let mut lengths = needed;
@@ -57,7 +59,7 @@ fn exact_and_short_buffers() {
             }
         }
     }
-    let all = 4 * TASKS / 3;
+    let all = 5 * TASKS / 3;
     compared(
         &comparison,
         &[(("reduce", 0), all), (("reduce", 21), 3 * all)],

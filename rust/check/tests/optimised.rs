@@ -37,15 +37,15 @@ fn for_all(mut check: impl FnMut(&Task)) {
 
 /// Compares what both planners make of a task with the search on its reduced
 /// task. The number of the outcome.
-fn compare_planned(lent: &mut Buffers, task: &Task) -> u32 {
+fn compare_planned(lent: &mut Buffers, task: &Task, level: u32) -> u32 {
     let file = task_file(task);
-    let reduced = lent.reduce(library::reduce, &file, 4, 1);
+    let reduced = lent.reduce(library::reduce, &file, level, 1);
     let origin = read_origin(&lent.origin[..reduced.origin]).unwrap();
     let reduced = read_task(&lent.reduced[..reduced.reduced]).unwrap();
     let searched = search(&reduced);
     let outcomes = [library::plan, reference::plan].map(|plan| {
         lent.table.fill(Entry::new(7, 7));
-        let planned = lent.plan(plan, &file, 1);
+        let planned = lent.plan(plan, &file, level, 1);
         let number = planned.outcome.number;
         let Some(searched) = &searched else {
             assert_eq!(number, TOO_MANY_STATES);
@@ -71,10 +71,16 @@ fn compare_planned(lent: &mut Buffers, task: &Task) -> u32 {
 #[test]
 fn as_both_planners() {
     let lent = &mut Buffers::long();
-    let mut outcomes = BTreeMap::<u32, u64>::new();
-    for_all(|task| *outcomes.entry(compare_planned(lent, task)).or_default() += 1);
-    let expected = [(0, 3_228), (NO_PLAN, 479), (TOO_MANY_STATES, 113)];
-    assert_eq!(outcomes, BTreeMap::from(expected));
+    for (level, expected) in [(4, [3_228, 479, 113]), (5, [3_235, 480, 105])] {
+        let mut outcomes = BTreeMap::<u32, u64>::new();
+        for_all(|task| {
+            let number = compare_planned(lent, task, level);
+            *outcomes.entry(number).or_default() += 1;
+        });
+        let numbers = [0, NO_PLAN, TOO_MANY_STATES];
+        let expected = numbers.into_iter().zip(expected).collect();
+        assert_eq!(outcomes, expected, "level {level}");
+    }
 }
 
 /// Tasks as they are, with variables of one value and ones never named.
@@ -120,7 +126,7 @@ fn hard_tasks() {
         tasks.push((task, 0));
     }
     for (task, outcome) in tasks {
-        assert_eq!(compare_planned(lent, &task), outcome);
+        assert_eq!(compare_planned(lent, &task, 4), outcome);
         let kept = lent.reduce(library::reduce, &task_file(&task), 4, 1);
         let reduced = read_task(&lent.reduced[..kept.reduced]).unwrap();
         assert_eq!(reduced.actions, task.actions);

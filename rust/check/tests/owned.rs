@@ -20,6 +20,7 @@ fn reduced(lent: &Buffers, answer: &Answer) -> Reduced {
         marked: marked(lent, answer),
         file: lent.reduced[..answer.reduced].to_vec(),
         origin: lent.origin[..answer.origin].to_vec(),
+        turns: answer.turns,
     }
 }
 
@@ -60,7 +61,7 @@ fn compare(file: &[u8], plan: &[u8]) -> Outcome {
     assert_eq!(shortest::sheet(file, plan), expected);
 
     let lent = &mut Buffers::long();
-    for level in 0..=5 {
+    for level in 0..=6 {
         let expected = lent.mark(reference::mark, file, level).done();
         let expected = expected.map(|answer| marked(lent, &answer));
         assert_eq!(shortest::mark(file, level), expected);
@@ -70,12 +71,14 @@ fn compare(file: &[u8], plan: &[u8]) -> Outcome {
             assert_eq!(shortest::reduce(file, level, signer), expected);
         }
     }
-    let answer = lent.plan(reference::plan, file, 0x0403_0201);
-    let expected = answer.done().map(|answer| planned(lent, &answer));
-    assert_eq!(shortest::plan(file, 0x0403_0201), expected);
-    let refused = lent.plan(reference::plan, file, 0).outcome;
-    assert_eq!(shortest::plan(file, 0), Err(refused));
-    answer.outcome
+    for level in 3..=6 {
+        let answer = lent.plan(reference::plan, file, level, 0x0403_0201);
+        let expected = answer.done().map(|answer| planned(lent, &answer));
+        assert_eq!(shortest::plan(file, level, 0x0403_0201), expected);
+        let refused = lent.plan(reference::plan, file, level, 0).outcome;
+        assert_eq!(shortest::plan(file, level, 0), Err(refused));
+    }
+    lent.plan(reference::plan, file, 4, 1).outcome
 }
 
 #[test]
@@ -110,7 +113,7 @@ fn origins() {
 #[test]
 fn the_longest_plan() {
     let file = task_file(&generate::counter_of(&[2; 12], 1));
-    let planned = shortest::plan(&file, 1).unwrap();
+    let planned = shortest::plan(&file, 4, 1).unwrap();
     assert_eq!((planned.steps.len(), planned.cost), (4_095, 4_095));
     assert!(compare(&file, &planned.file).is_done());
     let checked = shortest::check_plan(&file, &planned.file);

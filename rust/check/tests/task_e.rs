@@ -95,8 +95,8 @@ impl Prefilled {
         self.0.reduce(reduce, &write_task(task), level, signer)
     }
 
-    fn plan(&mut self, task: &Task, signer: u32) -> Answer {
-        self.0.plan(plan, &write_task(task), signer)
+    fn plan(&mut self, task: &Task, level: u32, signer: u32) -> Answer {
+        self.0.plan(plan, &write_task(task), level, signer)
     }
 
     fn marks_untouched(&self) -> bool {
@@ -182,11 +182,12 @@ fn marks_at_each_level() {
 }
 
 #[test]
-fn levels_outside_1_to_4() {
-    for level in [0, 5, u32::MAX] {
+fn levels_not_taken() {
+    for level in [0, 6, u32::MAX] {
         let mut buffers = Prefilled::of([0; 6]);
         assert_eq!(buffers.mark(&task_e(), level).outcome, refused(8, 0));
         assert_eq!(buffers.reduce(&task_e(), level, 0).outcome, refused(8, 0));
+        assert_eq!(buffers.plan(&task_e(), level, 0).outcome, refused(8, 0));
     }
 }
 
@@ -268,7 +269,7 @@ fn the_second_file_is_named() {
 #[test]
 fn task_e_is_planned() {
     let mut buffers = Prefilled::long();
-    let planned = buffers.plan(&task_e(), 7);
+    let planned = buffers.plan(&task_e(), 4, 7);
     assert_eq!(
         planned,
         Answer {
@@ -298,7 +299,7 @@ fn no_plan_without_actions_0_and_1() {
     let mut task = task_e();
     task.actions.drain(..2);
     let mut buffers = Prefilled::of([600, 2_100, 65_600, 6_000, 4_100, 0]);
-    let planned = buffers.plan(&task, 7);
+    let planned = buffers.plan(&task, 4, 7);
     assert_eq!(planned, Answer::from(refused(24, 0)));
     // The table is filled: line alone is kept, with value 1 and the rest.
     let goal = Entry::new(0, 0);
@@ -318,7 +319,7 @@ fn goal_lamp_alone() {
     assert_eq!(buffers.action_marks[..7], [0; 7]);
     assert_eq!(buffers.fact_marks[..8], [0, 0, 0, 0, 2, 0, 0, 0]);
 
-    let planned = buffers.plan(&task, 7);
+    let planned = buffers.plan(&task, 4, 7);
     assert_eq!(planned.outcome, Outcome::DONE);
     assert_eq!((planned.cost, planned.steps, planned.table), (0, 0, 1));
     assert_eq!(buffers.plan[..planned.plan], plan_file(&[]));
@@ -341,7 +342,7 @@ fn switches(count: u16) -> Task {
 #[test]
 fn twelve_variables_are_searched() {
     let mut buffers = Prefilled::long();
-    let planned = buffers.plan(&switches(12), 7);
+    let planned = buffers.plan(&switches(12), 4, 7);
     assert_eq!(planned.outcome, Outcome::DONE);
     assert_eq!((planned.cost, planned.steps), (12, 12));
     assert_eq!(planned.table, 4_096);
@@ -352,20 +353,20 @@ fn twelve_variables_are_searched() {
 #[test]
 fn thirteen_variables_are_too_many() {
     let mut buffers = Prefilled::long();
-    let planned = buffers.plan(&switches(13), 7);
+    let planned = buffers.plan(&switches(13), 4, 7);
     assert_eq!(planned, Answer::from(refused(25, 0)));
     assert_eq!(buffers.action_marks[..13], [1; 13]);
     assert_eq!(check_task(&buffers.reduced[..8]), refused(1, 8));
     assert!(buffers.table_untouched() && buffers.plan_untouched());
     // 25 stands before the table's 21.
     buffers.0.table.clear();
-    assert_eq!(buffers.plan(&switches(13), 7).outcome, refused(25, 0));
+    assert_eq!(buffers.plan(&switches(13), 4, 7).outcome, refused(25, 0));
 }
 
 #[test]
 fn buffers_exactly_long_enough() {
     let mut buffers = Prefilled::of([7, 8, 80, 44, 4, 18]);
-    assert_eq!(buffers.plan(&task_e(), 7).outcome, Outcome::DONE);
+    assert_eq!(buffers.plan(&task_e(), 4, 7).outcome, Outcome::DONE);
     let mut buffers = Prefilled::of([7, 8, 80, 44, 0, 0]);
     assert_eq!(buffers.reduce(&task_e(), 4, 7).outcome, Outcome::DONE);
     let mut buffers = Prefilled::of([7, 8, 0, 0, 0, 0]);
@@ -379,7 +380,7 @@ fn buffers_too_short_end_the_row() {
         let mut lengths = needed;
         lengths[short] -= 1;
         let mut buffers = Prefilled::of(lengths);
-        let planned = buffers.plan(&task_e(), 7);
+        let planned = buffers.plan(&task_e(), 4, 7);
         assert_eq!(planned, Answer::from(refused(21, needed[short])));
         assert_eq!(buffers.marks_untouched(), short < 2);
         assert_eq!(buffers.files_untouched(), short < 4);
@@ -400,7 +401,7 @@ fn reduction_alone_is_a_row_too() {
 fn signer_0_given() {
     let mut buffers = Prefilled::of([0; 6]);
     assert_eq!(buffers.reduce(&task_e(), 4, 0).outcome, refused(7, 0));
-    assert_eq!(buffers.plan(&task_e(), 0).outcome, refused(7, 0));
+    assert_eq!(buffers.plan(&task_e(), 4, 0).outcome, refused(7, 0));
 }
 
 #[test]
@@ -427,7 +428,7 @@ fn unlike_effects_on_a_tracked_variable_cover_nothing() {
     let mut buffers = Prefilled::long();
     buffers.mark(&task, 4);
     assert_eq!(buffers.action_marks[..7], [1, 1, 1, 0, 1, 0, 0]);
-    let planned = buffers.plan(&task, 7);
+    let planned = buffers.plan(&task, 4, 7);
     assert_eq!((planned.cost, planned.steps), (3, 2));
     assert_eq!(buffers.plan[..planned.plan], plan_file(&[1, 4]));
 }
@@ -458,7 +459,7 @@ fn covered_at_the_same_cost_or_less() {
         assert_eq!(buffers.mark(&task, 4).rounds, rounds, "{costs:?}");
         assert_eq!(buffers.action_marks[..7], actions, "{costs:?}");
         assert_eq!(buffers.fact_marks[..8], facts, "{costs:?}");
-        let planned = buffers.plan(&task, 7);
+        let planned = buffers.plan(&task, 4, 7);
         assert_eq!((planned.cost, planned.steps), (cost, steps.len()));
         assert_eq!(buffers.plan[..planned.plan], plan_file(steps));
     }
@@ -469,7 +470,7 @@ fn equal_conditions_cover_nothing() {
     let mut task = with_costs([2, 1]);
     task.actions[0].conditions.clear();
     let mut buffers = Prefilled::long();
-    let planned = buffers.plan(&task, 7);
+    let planned = buffers.plan(&task, 4, 7);
     assert_eq!((planned.rounds, planned.table), (2, 2));
     assert_eq!(buffers.action_marks[..7], [1, 1, 0, 0, 0, 0, 0]);
     assert_eq!(buffers.plan[..planned.plan], plan_file(&[1]));
@@ -498,12 +499,12 @@ fn least_cost_before_fewest_steps() {
     let mut task = task_e();
     task.actions[1].cost = 4;
     let mut buffers = Prefilled::long();
-    let planned = buffers.plan(&task, 7);
+    let planned = buffers.plan(&task, 4, 7);
     assert_eq!((planned.cost, planned.steps), (3, 2));
     assert_eq!(buffers.plan[..planned.plan], plan_file(&[2, 0]));
     // At the same cost, fewer steps.
     task.actions[1].cost = 3;
-    let planned = buffers.plan(&task, 7);
+    let planned = buffers.plan(&task, 4, 7);
     assert_eq!((planned.cost, planned.steps), (3, 1));
     assert_eq!(buffers.plan[..planned.plan], plan_file(&[1]));
 }

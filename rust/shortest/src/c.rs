@@ -42,6 +42,7 @@ extern "C" {
     pub fn shortest_plan(
         task: *const u8,
         task_length: usize,
+        level: u32,
         signer: u32,
         action_marks: *mut u8,
         action_marks_length: usize,

@@ -23,6 +23,8 @@ pub const NUMBERS: usize = 18;
 pub struct Answer {
     pub outcome: Outcome,
     pub rounds: usize,
+    /// Of reduction and of the planner at level 5.
+    pub turns: usize,
     pub cost: u64,
     pub steps: usize,
     /// Elements written to each buffer.
@@ -35,7 +37,6 @@ pub struct Answer {
     pub page: usize,
     pub task: usize,
     /// Reserved, 0 at every call.
-    pub turns: usize,
     pub list: usize,
     pub goal: usize,
     pub entries: usize,
@@ -76,6 +77,7 @@ impl From<[u64; NUMBERS]> for Answer {
                 place: place as usize,
             },
             rounds: rounds as usize,
+            turns,
             cost,
             steps: steps as usize,
             action_marks,
@@ -86,7 +88,6 @@ impl From<[u64; NUMBERS]> for Answer {
             plan,
             page,
             task,
-            turns,
             list,
             goal,
             entries,
@@ -154,7 +155,7 @@ pub fn mark(task: &[u8], level: u32, action_marks: &mut [u8], fact_marks: &mut [
     })
 }
 
-/// Marks and reduces the task of a task file.
+/// Marks and reduces the task of a task file at a level, 1 to 5.
 pub fn reduce(
     task: &[u8],
     level: u32,
@@ -183,10 +184,11 @@ pub fn reduce(
     })
 }
 
-/// Plans the task of a task file.
+/// Plans the task of a task file, reduced at level 4 or 5.
 #[allow(clippy::too_many_arguments)]
 pub fn plan(
     task: &[u8],
+    level: u32,
     signer: u32,
     action_marks: &mut [u8],
     fact_marks: &mut [u8],
@@ -199,6 +201,7 @@ pub fn plan(
         c::shortest_plan(
             task.as_ptr(),
             task.len(),
+            level,
             signer,
             action_marks.as_mut_ptr(),
             action_marks.len(),

@@ -4,13 +4,13 @@
 //! ```
 //! // No variables, no actions and an empty goal, under signer 7.
 //! let task = [4, 0, 1, 0, 0, 0, 0, 0, 0, 0, 3, 0, 8, 0, 5, 0, 7, 0, 0, 0, 12, 0, 0, 0];
-//! let planned = shortest::plan(&task, 1)?;
+//! let planned = shortest::plan(&task, 4, 1)?;
 //! assert_eq!((planned.steps.len(), planned.cost), (0, 0));
 //! assert_eq!(shortest::check_plan(&task, &planned.file)?.cost, 0);
 //! let sheet = shortest::sheet(&task, &planned.file)?;
 //! assert_eq!(sheet.page, format!("SIGNED{:26}\n", 1));
 //!
-//! let refused = shortest::plan(&task[..20], 1).unwrap_err();
+//! let refused = shortest::plan(&task[..20], 4, 1).unwrap_err();
 //! assert_eq!((refused.number, refused.place), (1, 12));
 //!
 //! // The same task as a text of the translator.
@@ -22,7 +22,7 @@
 //! # Ok::<(), shortest::Outcome>(())
 //! ```
 //!
-//! The calls use up to about 575 KiB of the stack. [`lent`] has the same calls
+//! The calls use up to about 500 KiB of the stack. [`lent`] has the same calls
 //! on the caller's own buffers; they allocate nothing, and after a refusal the
 //! buffers hold what the stages before it gave.
 
@@ -62,23 +62,24 @@ pub fn mark(task: &[u8], level: u32) -> Result<Marked, Outcome> {
     Ok(marked.cut(&answer))
 }
 
-/// Marks the task of a task file at a level, and reduces it. Both files are
-/// under the signer, which is not 0.
+/// Marks the task of a task file at a level, 1 to 5, and reduces it. Both files
+/// are under the signer, which is not 0.
 pub fn reduce(task: &[u8], level: u32, signer: u32) -> Result<Reduced, Outcome> {
     let mut reduced = Reduced::longest();
     let Reduced {
         marked,
         file,
         origin,
+        ..
     } = &mut reduced;
     let Marked { actions, facts, .. } = marked;
     let answer = lent::reduce(task, level, signer, actions, facts, file, origin).done()?;
     Ok(reduced.cut(&answer))
 }
 
-/// Plans the task of a task file, reduced at level 4. All files are under the
-/// signer, which is not 0.
-pub fn plan(task: &[u8], signer: u32) -> Result<Planned, Outcome> {
+/// Plans the task of a task file, reduced at level 4 or 5. All files are under
+/// the signer, which is not 0.
+pub fn plan(task: &[u8], level: u32, signer: u32) -> Result<Planned, Outcome> {
     let mut planned = Planned::longest();
     let Planned {
         reduced,
@@ -90,9 +91,13 @@ pub fn plan(task: &[u8], signer: u32) -> Result<Planned, Outcome> {
         marked,
         file,
         origin,
+        ..
     } = reduced;
     let Marked { actions, facts, .. } = marked;
-    let answer = lent::plan(task, signer, actions, facts, file, origin, table, plan).done()?;
+    let answer = lent::plan(
+        task, level, signer, actions, facts, file, origin, table, plan,
+    )
+    .done()?;
     Ok(planned.cut(&answer))
 }
 

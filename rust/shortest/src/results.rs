@@ -10,7 +10,7 @@ pub struct Checked {
     pub steps: usize,
 }
 
-/// What marking finds.
+/// What marking finds; at level 5 that of the first turn.
 #[derive(Clone, Debug, PartialEq, Eq)]
 pub struct Marked {
     /// For each action 1 where it is kept, else 0.
@@ -47,6 +47,8 @@ pub struct Reduced {
     pub file: Vec<u8>,
     /// The file of its origins.
     pub origin: Vec<u8>,
+    /// 0 below level 5.
+    pub turns: usize,
 }
 
 impl Reduced {
@@ -55,6 +57,7 @@ impl Reduced {
             marked: Marked::longest(),
             file: vec![0; lent::MOST_REDUCED],
             origin: vec![0; lent::MOST_ORIGIN],
+            turns: 0,
         }
     }
 
@@ -63,6 +66,7 @@ impl Reduced {
             marked: self.marked.cut(answer),
             file: first(self.file, answer.reduced),
             origin: first(self.origin, answer.origin),
+            turns: answer.turns,
         }
     }
 }

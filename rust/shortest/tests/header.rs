@@ -3,6 +3,7 @@
 use shortest::lent::{self, Answer};
 
 const HEADER: &str = include_str!("../../../include/shortest.h");
+const IN_RUST: &str = include_str!("../src/c.rs");
 
 fn given(name: &str) -> usize {
     let lines = HEADER.lines().map(str::trim_start);
@@ -57,4 +58,31 @@ fn the_places_of_the_numbers() {
     ];
     let expected: Vec<_> = places().into_iter().zip(100..).collect();
     assert_eq!(by_name[..], expected);
+}
+
+/// The parameters of a call, by their text up to the next `)`.
+fn parameters(text: &'static str, call: &str) -> Vec<&'static str> {
+    let (_, behind) = text.split_once(call).unwrap();
+    let (all, _) = behind.split_once(')').unwrap();
+    all.split(',').map(str::trim).collect()
+}
+
+/// Two of one type stand in the same order.
+#[test]
+fn the_numbers_handed_in() {
+    for (call, numbers) in [
+        ("shortest_mark(", &["level"][..]),
+        ("shortest_reduce(", &["level", "signer"]),
+        ("shortest_plan(", &["level", "signer"]),
+        ("shortest_translate(", &["signer"]),
+    ] {
+        let in_c = parameters(HEADER, &format!("void {call}"));
+        let in_c = in_c
+            .iter()
+            .filter_map(|word| word.strip_prefix("uint32_t "));
+        assert_eq!(in_c.collect::<Vec<_>>(), numbers, "{call}");
+        let in_rust = parameters(IN_RUST, &format!("fn {call}"));
+        let in_rust = in_rust.iter().filter_map(|word| word.strip_suffix(": u32"));
+        assert_eq!(in_rust.collect::<Vec<_>>(), numbers, "{call}");
+    }
 }

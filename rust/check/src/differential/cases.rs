@@ -5,11 +5,13 @@ use crate::reference::files::{Task, MOST_COST};
 use crate::reference::generate::{self, origin_file, plan_file, task_file, Random};
 use crate::reference::marking::marking;
 use crate::reference::plan;
-use crate::reference::reduction::reduction;
+use crate::reference::reduction::reduced_at;
 use crate::reference::search::{state_count, MOST_STATES};
 use shortest::Entry;
 
-const LEVELS: [u32; 7] = [0, 1, 2, 3, 4, 5, u32::MAX];
+const LEVELS: [u32; 8] = [0, 1, 2, 3, 4, 5, 6, u32::MAX];
+/// Those that the planner takes, and now and then another.
+const PLANNED: [u32; 8] = [4, 4, 4, 5, 5, 5, 3, 6];
 pub(super) const SIGNERS: [u32; 6] = [0, 1, 4, 5, 1 << 16, u32::MAX];
 
 /// Longer than any result.
@@ -18,24 +20,25 @@ const LONG: Lengths = [520, 2_060, 65_540, 5_540, MOST_STATES + 4, 8_220];
 /// The length that each buffer needs when the task is reduced at a level and
 /// searched.
 pub fn needed(task: &Task, level: u32) -> Lengths {
-    let marking = marking(task, level);
-    let (reduced, origin) = reduction(task, &marking.kept, 1);
+    let marking = marking(task, level.min(4));
+    let reduced = reduced_at(task, level, &marking.kept, 1);
     [
         task.actions.len(),
         marking.fact_marks().len(),
-        task_file(&reduced).len(),
-        origin_file(&origin).len(),
-        state_count(&reduced).unwrap_or(0),
-        planned(task, 1).len(),
+        task_file(&reduced.task).len(),
+        origin_file(&reduced.origin).len(),
+        state_count(&reduced.task).unwrap_or(0),
+        planned(task, level.max(4), 1).len(),
     ]
 }
 
 /// The file of the plan that the search finds, empty where there is none.
-pub(super) fn planned(task: &Task, signer: u32) -> Vec<u8> {
+pub(super) fn planned(task: &Task, level: u32, signer: u32) -> Vec<u8> {
     let [mut actions, mut facts, mut reduced, mut origin, _, mut plan_file] =
         LONG.map(|length| vec![0; length]);
     let planned = plan(
         &task_file(task),
+        level,
         signer,
         &mut actions,
         &mut facts,
@@ -78,7 +81,7 @@ fn one_length_other(
     tried: impl Fn(usize) -> Vec<usize>,
 ) {
     let file = task_file(task);
-    for level in 1..=4 {
+    for level in 1..=5 {
         let needed = needed(task, level);
         for buffer in 0..6 {
             for length in tried(needed[buffer]) {
@@ -90,8 +93,8 @@ fn one_length_other(
                 if buffer < 4 {
                     comparison.reduce(&file, level, random.signer(), lengths);
                 }
-                if level == 4 {
-                    comparison.plan(&file, random.signer(), lengths);
+                if level >= 4 {
+                    comparison.plan(&file, level, random.signer(), lengths);
                 }
             }
         }
@@ -102,11 +105,12 @@ fn one_length_other(
 /// short.
 pub fn any_arguments(comparison: &mut Comparison, random: &mut Random, task: &Task, count: usize) {
     let file = task_file(task);
-    let at_level: Vec<Lengths> = (1..=4).map(|level| needed(task, level)).collect();
+    let at_level: Vec<Lengths> = (1..=5).map(|level| needed(task, level)).collect();
     for _ in 0..count {
-        let level = random.one_of(&LEVELS);
+        let call = random.below(4);
+        let level = random.one_of(if call < 3 { &LEVELS } else { &PLANNED });
         let signer = random.one_of(&SIGNERS);
-        let needed = at_level[(level.clamp(1, 4) - 1) as usize];
+        let needed = at_level[(level.clamp(1, 5) - 1) as usize];
         let short = random.below(60);
         let lengths = needed.map(|needed| {
             if random.chance(short) {
@@ -115,11 +119,11 @@ pub fn any_arguments(comparison: &mut Comparison, random: &mut Random, task: &Ta
                 needed + random.below(20)
             }
         });
-        match random.below(4) {
+        match call {
             0 => comparison.mark(&file, level, lengths),
             1 => comparison.reduce(&file, level, signer, lengths),
-            2 => comparison.plan(&file, signer, lengths),
-            _ => comparison.plan(&file, signer.max(1), lengths),
+            2 => comparison.plan(&file, level, signer, lengths),
+            _ => comparison.plan(&file, level, signer.max(1), lengths),
         }
     }
 }
@@ -141,7 +145,7 @@ pub fn task_file_as_it_is(comparison: &mut Comparison, random: &mut Random, file
     let signer = random.one_of(&SIGNERS);
     comparison.mark(file, level, lengths);
     comparison.reduce(file, level, signer, lengths);
-    comparison.plan(file, signer, lengths);
+    comparison.plan(file, random.one_of(&PLANNED), signer, lengths);
 }
 
 /// Task, origin and plan files, whole and damaged up to three times.
@@ -272,8 +276,8 @@ fn arbitrary_file(random: &mut Random) -> Vec<u8> {
 pub fn every_byte(comparison: &mut Comparison, random: &mut Random, task: &Task) {
     let file = task_file(task);
     let plan = plan_file(&generate::plan(random, task));
-    let (_, origin) = reduction(task, &marking(task, 4).kept, 1);
-    let origin = origin_file(&origin);
+    let reduced = reduced_at(task, 4, &marking(task, 4).kept, 1);
+    let origin = origin_file(&reduced.origin);
     for_every_byte(&file, |file| {
         pages::as_it_is(comparison, random, file, &plan);
         task_file_as_it_is(comparison, random, file);

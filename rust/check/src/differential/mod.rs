@@ -21,6 +21,8 @@ pub type Lengths = [usize; 6];
 #[derive(Debug, Default)]
 pub struct Comparison {
     pub calls: u64,
+    /// Reductions and plans in 4 turns or more.
+    pub many_turns: u64,
     pub differences: u64,
     /// How often each call ended with each number.
     pub outcomes: BTreeMap<(&'static str, u32), u64>,
@@ -87,6 +89,7 @@ impl Comparison {
         };
         let expected = run(reference::reduce);
         let found = run(library::reduce);
+        self.many_turns += u64::from(expected.0.turns >= 4);
         self.count("reduce", expected.0.outcome, expected == found, || {
             let answers = format!("{:?}\n{:?}", expected.0, found.0);
             let buffers = expected.1.difference(&found.1);
@@ -97,12 +100,13 @@ impl Comparison {
         });
     }
 
-    pub fn plan(&mut self, task: &[u8], signer: u32, lengths: Lengths) {
+    pub fn plan(&mut self, task: &[u8], level: u32, signer: u32, lengths: Lengths) {
         let run = |plan: Plan| {
             let mut lent = Buffers::of(lengths, 6);
             let [actions, facts, reduced, origin, plan_file] = &mut lent.bytes;
             let planned = plan(
                 task,
+                level,
                 signer,
                 actions.lend(),
                 facts.lend(),
@@ -115,11 +119,12 @@ impl Comparison {
         };
         let expected = run(reference::plan);
         let found = run(library::plan);
+        self.many_turns += u64::from(expected.0.turns >= 4);
         self.count("plan", expected.0.outcome, expected == found, || {
             let answers = format!("{:?}\n{:?}", expected.0, found.0);
             let buffers = expected.1.difference(&found.1);
             format!(
-                "{answers}\n{buffers}\nsigner {signer}, {lengths:?}\n{}",
+                "{answers}\n{buffers}\nlevel {level}, signer {signer}, {lengths:?}\n{}",
                 hex(task)
             )
         });

@@ -32,7 +32,7 @@ fn lengths(
     let mut applied = generate::plan(random, task);
     applied.steps.truncate(most_steps);
     let plans = [
-        planned(task, random.signer()),
+        planned(task, 4, random.signer()),
         plan_file(&applied),
         plan_file(&any_list(random, task, most_steps)),
     ];

@@ -1,5 +1,7 @@
 //! Marking: which actions are kept and which facts are relevant.
 
+use std::ops::RangeInclusive;
+
 use super::files::{read_task, Action, Fact, Task};
 use super::outcome::{long_enough, WRONG_LEVEL};
 use shortest::lent::Answer;
@@ -62,6 +64,15 @@ impl Marking {
             })
             .collect()
     }
+
+    pub fn answer(&self) -> Answer {
+        Answer {
+            action_marks: self.action_marks().len(),
+            fact_marks: self.fact_marks().len(),
+            rounds: self.rounds,
+            ..Answer::default()
+        }
+    }
 }
 
 pub fn mark(task: &[u8], level: u32, action_marks: &mut [u8], fact_marks: &mut [u8]) -> Answer {
@@ -75,18 +86,14 @@ fn try_mark(
     fact_marks: &mut [u8],
 ) -> Result<Answer, Outcome> {
     let task = read_task(task)?;
-    level_given(level)?;
+    level_given(level, 1..=4)?;
     let marking = mark_stage(&task, level, action_marks, fact_marks)?;
-    Ok(Answer {
-        action_marks: marking.action_marks().len(),
-        fact_marks: marking.fact_marks().len(),
-        rounds: marking.rounds,
-        ..Answer::default()
-    })
+    Ok(marking.answer())
 }
 
-pub fn level_given(level: u32) -> Result<(), Outcome> {
-    if !(1..=4).contains(&level) {
+/// Refusal 8 at place 0 for a level that the call does not take.
+pub fn level_given(level: u32, taken: RangeInclusive<u32>) -> Result<(), Outcome> {
+    if !taken.contains(&level) {
         return Err(Outcome::refused(WRONG_LEVEL, 0));
     }
     Ok(())
@@ -230,7 +237,7 @@ fn rivals(task: &Task, may_cover: fn(u32, u32) -> bool) -> Vec<Vec<Rival>> {
                 .filter(|(_, other)| proper_subset(&other.conditions, &action.conditions))
                 .map(|(number, other)| Rival {
                     action: number,
-                    differing: differing(task, action, other),
+                    differing: differing(action, other),
                 })
                 .collect()
         })
@@ -241,15 +248,13 @@ fn proper_subset(facts: &[Fact], of: &[Fact]) -> bool {
     facts.len() < of.len() && facts.iter().all(|fact| of.contains(fact))
 }
 
-fn differing(task: &Task, one: &Action, other: &Action) -> Variables {
-    let effect = |action: &Action, variable: usize| {
-        let mut effects = action.effects.iter();
-        let found = effects.find(|effect| effect.variable as usize == variable);
-        found.map(|effect| effect.value)
+/// The variables of the effects that one of the actions has and the other not.
+fn differing(one: &Action, other: &Action) -> Variables {
+    let of_one_alone = |one: &Action, other: &Action| {
+        let alone = one.effects.iter().filter(|of| !other.effects.contains(of));
+        alone.fold(0, |set, effect| set | 1 << effect.variable)
     };
-    (0..task.variables.len())
-        .filter(|&variable| effect(one, variable) != effect(other, variable))
-        .fold(0, |set, variable| set | 1 << variable)
+    of_one_alone(one, other) | of_one_alone(other, one)
 }
 
 fn covered(rivals: &[Rival], kept: &[bool], tracked: Variables) -> bool {

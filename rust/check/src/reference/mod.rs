@@ -11,6 +11,7 @@ pub mod reduction;
 pub mod search;
 pub mod sheet;
 pub mod translator;
+pub mod turns;
 
 pub use files::{check_origin, check_task};
 pub use marking::mark;

@@ -1,10 +1,13 @@
 //! Reduction: the task of the kept actions, and where it comes from.
 
+use std::ops::RangeInclusive;
+
 use super::files::{
     read_task, write_origin, write_task, Action, Fact, Origin, Task, Variable, VariableOrigin,
 };
-use super::marking::{level_given, mark_stage, Facts, Marking};
+use super::marking::{level_given, mark_stage, Facts};
 use super::outcome::{long_enough, signer_given};
+use super::turns::{turned, Turned};
 use shortest::lent::Answer;
 use shortest::Outcome;
 
@@ -26,6 +29,7 @@ pub fn reduce(
 ) -> Answer {
     reduce_stage(
         task,
+        1..=5,
         level,
         signer,
         action_marks,
@@ -37,9 +41,11 @@ pub fn reduce(
 }
 
 /// Check, marking and reduction, each written once its buffers are long
-/// enough.
+/// enough, at one of the levels taken.
+#[allow(clippy::too_many_arguments)]
 pub fn reduce_stage(
     task: &[u8],
+    taken: RangeInclusive<u32>,
     level: u32,
     signer: u32,
     action_marks: &mut [u8],
@@ -48,35 +54,42 @@ pub fn reduce_stage(
     origin: &mut [u8],
 ) -> Result<Stage, Outcome> {
     let full = read_task(task)?;
-    level_given(level)?;
+    level_given(level, taken)?;
     signer_given(signer)?;
 
-    let marking = mark_stage(&full, level, action_marks, fact_marks)?;
+    let marking = mark_stage(&full, level.min(4), action_marks, fact_marks)?;
 
-    let (task, task_origin) = reduction(&full, &marking.kept, signer);
-    let task_file = write_task(&task);
-    let origin_file = write_origin(&task_origin);
+    let turned = reduced_at(&full, level, &marking.kept, signer);
+    let task_file = write_task(&turned.task);
+    let origin_file = write_origin(&turned.origin);
     long_enough(reduced.len(), task_file.len())?;
     long_enough(origin.len(), origin_file.len())?;
     reduced[..task_file.len()].copy_from_slice(&task_file);
     origin[..origin_file.len()].copy_from_slice(&origin_file);
 
-    let report = report(&marking, task_file.len(), origin_file.len());
+    let report = Answer {
+        turns: turned.turns,
+        reduced: task_file.len(),
+        origin: origin_file.len(),
+        ..marking.answer()
+    };
     Ok(Stage {
-        task,
-        origin: task_origin,
+        task: turned.task,
+        origin: turned.origin,
         report,
     })
 }
 
-fn report(marking: &Marking, reduced: usize, origin: usize) -> Answer {
-    Answer {
-        action_marks: marking.action_marks().len(),
-        fact_marks: marking.fact_marks().len(),
-        reduced,
+/// The reduced task of a level, of the actions that marking keeps for it.
+pub fn reduced_at(task: &Task, level: u32, kept: &[bool], signer: u32) -> Turned {
+    if level == 5 {
+        return turned(task, kept, signer);
+    }
+    let (task, origin) = reduction(task, kept, signer);
+    Turned {
+        task,
         origin,
-        rounds: marking.rounds,
-        ..Answer::default()
+        turns: 0,
     }
 }
 

@@ -6,7 +6,7 @@ use std::collections::BinaryHeap;
 use super::files::{write_plan, Plan, Task};
 use super::outcome::{long_enough, NO_PLAN, TOO_MANY_STATES};
 use super::plans::{holds, start, step, State};
-use super::reduction::reduce_stage;
+use super::reduction::{reduce_stage, Stage};
 use shortest::lent::Answer;
 use shortest::{Entry, Outcome};
 
@@ -25,6 +25,7 @@ fn behind(entry: Entry, cost: u32) -> Option<Entry> {
 #[allow(clippy::too_many_arguments)]
 pub fn plan(
     task: &[u8],
+    level: u32,
     signer: u32,
     action_marks: &mut [u8],
     fact_marks: &mut [u8],
@@ -33,25 +34,42 @@ pub fn plan(
     table: &mut [Entry],
     plan: &mut [u8],
 ) -> Answer {
-    let stage = reduce_stage(task, 4, signer, action_marks, fact_marks, reduced, origin);
-    let planned = stage.and_then(|stage| {
-        let searched = search_stage(&stage.task, table)?;
-        let number = |&action: &u16| stage.origin.actions[action as usize];
-        let file = write_plan(&Plan {
-            steps: searched.plan.iter().map(number).collect(),
-            signer,
-        });
-        long_enough(plan.len(), file.len())?;
-        plan[..file.len()].copy_from_slice(&file);
-        Ok(Answer {
-            table: searched.states,
-            plan: file.len(),
-            cost: searched.cost,
-            steps: searched.plan.len(),
-            ..stage.report
-        })
-    });
+    let stage = reduce_stage(
+        task,
+        4..=5,
+        level,
+        signer,
+        action_marks,
+        fact_marks,
+        reduced,
+        origin,
+    );
+    let planned = stage.and_then(|stage| plan_stage(&stage, signer, table, plan));
     planned.unwrap_or_else(Answer::from)
+}
+
+/// Search of the reduced task, and the plan by the numbers of the first.
+fn plan_stage(
+    stage: &Stage,
+    signer: u32,
+    table: &mut [Entry],
+    plan: &mut [u8],
+) -> Result<Answer, Outcome> {
+    let searched = search_stage(&stage.task, table)?;
+    let number = |&action: &u16| stage.origin.actions[action as usize];
+    let file = write_plan(&Plan {
+        steps: searched.plan.iter().map(number).collect(),
+        signer,
+    });
+    long_enough(plan.len(), file.len())?;
+    plan[..file.len()].copy_from_slice(&file);
+    Ok(Answer {
+        table: searched.states,
+        plan: file.len(),
+        cost: searched.cost,
+        steps: searched.plan.len(),
+        ..stage.report
+    })
 }
 
 struct Searched {

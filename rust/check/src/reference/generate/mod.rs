@@ -3,6 +3,7 @@
 
 mod files;
 mod hard;
+mod ladders;
 mod large;
 mod random;
 mod shaped;
@@ -20,6 +21,7 @@ pub use hard::{
     counter_behind_dear_actions, coverers_lost, crowded, crowded_counter, crowded_with,
     crowded_without_plan,
 };
+pub use ladders::{ladder, renumbered, shaken_ladder, waiting};
 pub use large::{few_kept, largest, largest_searched};
 pub use random::Random;
 pub use shaped::{chain, counter, counter_of, switches};
@@ -31,10 +33,12 @@ pub use varied::varied;
 pub type Family = fn(&mut Random) -> Task;
 
 /// The last two have the largest files.
-pub const FAMILIES: [Family; 10] = [
+pub const FAMILIES: [Family; 12] = [
     small,
     small_with_plan,
     varied,
+    shaken_ladder,
+    waiting,
     chain,
     many_alike,
     switches,
@@ -49,7 +53,9 @@ pub fn any(random: &mut Random) -> Task {
     match random.below(100) {
         0..10 => small(random),
         10..20 => varied(random),
-        20..60 => small_with_plan(random),
+        20..45 => small_with_plan(random),
+        45..55 => shaken_ladder(random),
+        55..60 => waiting(random),
         60..70 => chain(random),
         70..76 => many_alike(random),
         76..82 => switches(random),
