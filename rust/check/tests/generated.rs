@@ -7,7 +7,7 @@ use shortest::lent::Answer as Numbers;
 use shortest::{Entry, Outcome};
 use shortest_check::reference::files::{read_origin, read_plan, read_task, Fact, Task};
 use shortest_check::reference::generate::{
-    self, origin_file, plan_file, task_file, Family, Random,
+    self, for_all, origin_file, plan_file, task_file, Family, Random,
 };
 use shortest_check::reference::marking::{marking, marking_by, Marking};
 use shortest_check::reference::plans::{holds, start, step, State};
@@ -29,14 +29,6 @@ const FAMILIES: [(Family, u64); 12] = [
     (generate::largest_searched, 5),
     (generate::largest, 5),
 ];
-
-fn for_all(mut check: impl FnMut(&Task)) {
-    for (family, seeds) in FAMILIES {
-        for seed in 0..seeds {
-            check(&family(&mut Random::new(seed)));
-        }
-    }
-}
 
 struct Answer {
     planned: Numbers,
@@ -72,7 +64,7 @@ fn planned(task: &Task, signer: u32) -> Answer {
 
 #[test]
 fn tasks_are_accepted_and_read_back() {
-    for_all(|task| {
+    for_all(&FAMILIES, |task| {
         let file = task_file(task);
         assert_eq!(check_task(&file), Outcome::DONE);
         assert_eq!(read_task(&file).as_ref(), Ok(task));
@@ -86,7 +78,7 @@ fn tasks_are_accepted_and_read_back() {
 #[test]
 fn texts_state_their_tasks() {
     let random = &mut Random::new(1);
-    for_all(|task| {
+    for_all(&FAMILIES, |task| {
         let (mut stated, text) = generate::text(random, task);
         assert!(task_file(&stated).len() < text.len());
         stated.signer = 0;
@@ -280,7 +272,7 @@ fn cheaper_actions_cover() {
 
 #[test]
 fn each_level_keeps_fewer_in_bounded_rounds() {
-    for_all(|task| {
+    for_all(&FAMILIES, |task| {
         let file = task_file(task);
         let mut before = vec![1; task.actions.len()];
         for level in 1..=4 {
@@ -308,7 +300,7 @@ fn chains_take_many_rounds() {
 
 #[test]
 fn reduced_and_origin_files_are_accepted() {
-    for_all(|task| {
+    for_all(&FAMILIES, |task| {
         let file = task_file(task);
         for level in 1..=4 {
             let mut reduced = vec![9; file.len()];
@@ -435,7 +427,7 @@ fn small_tasks_are_planned_as_by_enumeration() {
 #[test]
 fn plans_found_are_plans_of_the_full_task() {
     let mut outcomes = BTreeSet::new();
-    for_all(|task| {
+    for_all(&FAMILIES, |task| {
         let answer = planned(task, 3);
         outcomes.insert(answer.planned.outcome.number);
         if answer.planned.outcome.is_done() {

@@ -9,7 +9,7 @@ use shortest_check::buffers::Buffers;
 use shortest_check::reference::files::{
     read_origin, read_plan, read_task, Action, Fact, Origin, Task,
 };
-use shortest_check::reference::generate::{self, task_file, Family, Random};
+use shortest_check::reference::generate::{self, for_all, task_file, Family, Random};
 use shortest_check::reference::marking::marking;
 use shortest_check::reference::outcome::NO_PLAN;
 use shortest_check::reference::plans::start;
@@ -33,14 +33,6 @@ const FAMILIES: [(Family, u64); 12] = [
     (generate::largest, 3),
 ];
 
-fn for_all(mut check: impl FnMut(&Task)) {
-    for (family, seeds) in FAMILIES {
-        for seed in 0..seeds {
-            check(&family(&mut Random::new(seed)));
-        }
-    }
-}
-
 fn next(task: &Task) -> Task {
     turn(task, &marking(task, 4).kept).0
 }
@@ -51,7 +43,7 @@ fn fact_count(task: &Task) -> usize {
 
 #[test]
 fn turns_end_within_their_bound() {
-    for_all(|task| {
+    for_all(&FAMILIES, |task| {
         let turned = reduced_at(task, 5, &marking(task, 4).kept, 9);
         assert!((1..=task.actions.len() + fact_count(task) + 1).contains(&turned.turns));
         assert_eq!(next(&turned.task), turned.task);
@@ -92,7 +84,7 @@ fn translated(action: &Action, origin: &Origin) -> Action {
 #[test]
 fn origins_lead_back_to_the_first_task() {
     let lent = &mut Buffers::long();
-    for_all(|task| {
+    for_all(&FAMILIES, |task| {
         let file = task_file(task);
         let lengths = lent.reduce(reduce, &file, 5, 9);
         assert!(lengths.outcome.is_done() && lengths.reduced <= file.len());
@@ -117,7 +109,7 @@ fn origins_lead_back_to_the_first_task() {
 #[test]
 fn marks_are_those_of_level_4() {
     let [lent, before] = &mut [Buffers::long(), Buffers::long()];
-    for_all(|task| {
+    for_all(&FAMILIES, |task| {
         let file = task_file(task);
         let [at_4, at_5] = [
             before.reduce(reduce, &file, 4, 9),
@@ -134,7 +126,7 @@ fn marks_are_those_of_level_4() {
 fn planned_as_the_full_task() {
     let lent = &mut Buffers::long();
     let (mut plans, mut none) = (0, 0);
-    for_all(|task| {
+    for_all(&FAMILIES, |task| {
         let Some(states) = state_count(task) else {
             return;
         };
@@ -173,7 +165,7 @@ fn closed(task: &Task, chosen: &[bool]) -> bool {
 #[test]
 fn reached_by_all_choices() {
     let (mut some, mut all) = (0, 0);
-    for_all(|task| {
+    for_all(&FAMILIES, |task| {
         let count = task.actions.len();
         if count > 8 {
             return;

@@ -8,7 +8,7 @@ use shortest_check::buffers::Buffers;
 use shortest_check::optimised::search;
 use shortest_check::reference;
 use shortest_check::reference::files::{read_origin, read_plan, read_task, Task};
-use shortest_check::reference::generate::{self, task_file, Family, Random};
+use shortest_check::reference::generate::{self, for_all, task_file, Family, Random};
 use shortest_check::reference::outcome::{NO_PLAN, TOO_MANY_STATES};
 use shortest_check::reference::plans::start;
 use shortest_check::reference::search::{first_plan, least_costs, state_count, state_number};
@@ -26,14 +26,6 @@ const FAMILIES: [(Family, u64); 10] = [
     (generate::largest_searched, 10),
     (generate::largest, 10),
 ];
-
-fn for_all(mut check: impl FnMut(&Task)) {
-    for (family, seeds) in FAMILIES {
-        for seed in 0..seeds {
-            check(&family(&mut Random::new(seed)));
-        }
-    }
-}
 
 /// Compares what both planners make of a task with the search on its reduced
 /// task. The number of the outcome.
@@ -73,7 +65,7 @@ fn as_both_planners() {
     let lent = &mut Buffers::long();
     for (level, expected) in [(4, [3_228, 479, 113]), (5, [3_235, 480, 105])] {
         let mut outcomes = BTreeMap::<u32, u64>::new();
-        for_all(|task| {
+        for_all(&FAMILIES, |task| {
             let number = compare_planned(lent, task, level);
             *outcomes.entry(number).or_default() += 1;
         });
@@ -87,7 +79,7 @@ fn as_both_planners() {
 #[test]
 fn without_reduction() {
     let mut searched = 0;
-    for_all(|task| {
+    for_all(&FAMILIES, |task| {
         let Some(states) = state_count(task) else {
             assert!(search(task).is_none());
             return;

@@ -48,6 +48,15 @@ pub const FAMILIES: [Family; 12] = [
     largest,
 ];
 
+/// So many tasks of each family, by their seeds from 0 on.
+pub fn for_all(families: &[(Family, u64)], mut check: impl FnMut(&Task)) {
+    for (family, seeds) in families {
+        for seed in 0..*seeds {
+            check(&family(&mut Random::new(seed)));
+        }
+    }
+}
+
 /// A task of any of the families, the large ones rarely.
 pub fn any(random: &mut Random) -> Task {
     match random.below(100) {
