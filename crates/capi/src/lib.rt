@@ -1,5 +1,7 @@
 // The library's calls for C, as include/shortest.h declares them: buffers pass as a pointer and a
 // length, and each call writes its answer as eighteen numbers to `out`.
+#![tactic(auto)]
+
 mod numbers;
 
 ghost use Rattle.std.specs.Prelude.{◌≡◌};

@@ -2,6 +2,8 @@
 // begins with # is printed as it stands; in any other the first letter says what is called, and
 // bytes in hexadecimal follow, of which XX*N stands for N times XX. Behind a | bytes stand for
 // themselves and / for a line feed, up to the next | or the end of the line.
+#![tactic(auto)]
+
 mod hex;
 mod lines;
 mod numbers;

@@ -1,4 +1,6 @@
 // The library's calls on files by name: one command by arguments, or a command a line of standard input.
+#![tactic(auto)]
+
 mod commands;
 mod input;
 mod marks;

@@ -1,6 +1,8 @@
 // Numbers as text: decimal digits, by threes from a table.
 // The call open to callers is decimal; the modules columns, lent and table serve crates that lay
 // out text or print many numbers.
+#![tactic(auto)]
+
 pub mod columns;
 mod groups;
 pub mod lent;

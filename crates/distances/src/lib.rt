@@ -1,5 +1,7 @@
 // The work table of a task that arrays hold: for each state the least cost to the goal, and the fewest
 // steps at that cost. No call for users; Entry is the type of the tables that they lend.
+#![tactic(auto)]
+
 mod bounds;
 pub mod entries;
 mod goal;

@@ -2,6 +2,8 @@
 // with what an enumerator of the full task finds: whether there is a plan, its cost, its steps and the
 // very actions. The enumerator also looks into the file of each task reduced at each level. The program
 // prints a line for each difference, and lines of totals.
+#![tactic(auto)]
+
 mod bytes;
 mod compare;
 mod covering;

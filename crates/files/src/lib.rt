@@ -1,5 +1,7 @@
 // Signed files: tasks, origins and plans as bytes, read with refusals and written under a signer.
 // The calls open to callers are check_task and check_origin; the public modules serve the layers above.
+#![tactic(auto)]
+
 pub mod bytes;
 pub mod decode;
 pub mod limits;

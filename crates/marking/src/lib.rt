@@ -1,5 +1,7 @@
 // Relevance marking at levels 1 to 4.
 // The call open to callers is mark; the public modules serve the layers above.
+#![tactic(auto)]
+
 mod cells;
 mod cover_table;
 mod covering;

@@ -1,5 +1,7 @@
 // Plans: states, applicability, the tally of a plan and the plan checker.
 // The call open to callers is check_plan; the module rows serves the layers above.
+#![tactic(auto)]
+
 pub mod rows;
 mod tally;
 mod walk;

@@ -1,5 +1,7 @@
 // Reduction: the reduced task and its origins, and the condition pairs of an action.
 // The calls open to callers are reduce and conditions.
+#![tactic(auto)]
+
 mod arrays;
 mod chosen;
 mod named;

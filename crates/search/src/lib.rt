@@ -1,5 +1,7 @@
 // Search over the states of the reduced task, and the planner.
 // The call open to callers is plan; the module own_table serves the programs.
+#![tactic(auto)]
+
 mod first_plan;
 mod levels;
 pub mod own_table;

@@ -1,4 +1,6 @@
 // The sheet for the heading: an accepted plan as text.
+#![tactic(auto)]
+
 mod lines;
 
 ghost use Rattle.std.specs.Prelude.{◌≡◌};

@@ -1,5 +1,7 @@
 // Reads a task file from its standard input, plans the task under the file's own signer, and prints
 // what it found.
+#![tactic(auto)]
+
 mod listing;
 mod printer;
 

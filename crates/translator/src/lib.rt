@@ -1,4 +1,6 @@
 // Tasks from the text that the Fast Downward translator writes, format version 3.
+#![tactic(auto)]
+
 mod fields;
 mod groups;
 mod lists;
