@@ -2,10 +2,10 @@
 -- of two, before and at the first bit, and of words in a row.
 use Prim.Native.Nat.{ℕ, zero, suc, ◌+◌, ◌*◌, ◌/◌, ◌%◌, ◌^◌, ◌≤◌, ◌<◌, min, max}
 use mathlib.Core.Path.{◌≡◌, refl, sym, ap, ap₂, ◌∙◌}
-use mathlib.Core.Bool.{Bool, true, false, ◌&&◌, ◌||◌, or_false}
+use mathlib.Core.Bool.{Bool, true, false, ◌&&◌, ◌||◌, or-false}
 use mathlib.Core.List.{List}
 use native.Mathlib.Omega.{arith}
-use native.Mathlib.Nat.{div-one, mod-lt, mul_comm, min-le_left, max-le, pow-suc, zero-div, not-suc-le-zero, zero_add, one-mul, div-add-mod'}
+use native.Mathlib.Nat.{div-one, mod-lt, mul_comm, min-le_left, max-le, pow-suc, zero-div, not-suc-le-zero, zero-add, one-mul, div-add-mod'}
 use native.Mathlib.Numerals.{one-add}
 use lib.Arith.{digits_div, digits_mod}
 use lib.Bits.{bit_and, and_step, and_shr, bit_or, or_step, or_shr}
@@ -164,17 +164,17 @@ pub in_both_words : (rows words₀ words : List ℕ) (at : ℕ) → Kept rows at
 unfolding in_words
 in_both_words rows words₀ words at kept a h =
     let q = a / 64 in
-    ap (λ (p : ℕ). in_word (get_or words p 0) (a % 64)) (zero_add q)
+    ap (λ (p : ℕ). in_word (get_or words p 0) (a % 64)) (zero-add q)
     ∙ ap (λ (w : ℕ). in_word w (a % 64)) (kept q (place_below a h))
     ∙ in_both (get_or rows (at + q) 0) (get_or words₀ q 0) (a % 64)
-    ∙ ap (λ (p : ℕ). in_word (get_or rows (at + q) 0) (a % 64) && in_word (get_or words₀ p 0) (a % 64)) (sym (zero_add q))
+    ∙ ap (λ (p : ℕ). in_word (get_or rows (at + q) 0) (a % 64) && in_word (get_or words₀ p 0) (a % 64)) (sym (zero-add q))
 
 -- of eight words that are all full
 pub in_full_words : (a : ℕ) → a < 512 → in_words (replicate 8 18446744073709551615) 0 a ≡ true
 unfolding in_words
 in_full_words a h =
     ap (λ (w : ℕ). in_word w (a % 64))
-    (ap (λ (p : ℕ). get_or {A = ℕ} (replicate 8 18446744073709551615) p 0) (zero_add (a / 64))
+    (ap (λ (p : ℕ). get_or {A = ℕ} (replicate 8 18446744073709551615) p 0) (zero-add (a / 64))
     ∙ get_or-replicate {A = ℕ} 8 (a / 64) 18446744073709551615 0 (place_below a h))
     ∙ in_full (a % 64) (bit_below a)
 
@@ -228,7 +228,7 @@ in_words_with words at k h j =
     let apart : j / 64 ≡ k / 64 → ⊥ = eqb-false (j / 64) (k / 64) e in
     let other : eqb j k ≡ false = ne_eqb j k (λ q. apart (ap (λ (n : ℕ). n / 64) q)) in
     ap (λ (w : ℕ). in_word w (j % 64)) (get_or-set_other words place (at + j / 64) word 0 (λ q. apart (omega arith)))
-    ∙ sym (or_false (in_words words at j))
+    ∙ sym (or-false (in_words words at j))
     ∙ ap (λ (b : Bool). in_words words at j || b) (sym other))
 
 -- of rows of eight words, where a number was added to one of them
@@ -241,4 +241,4 @@ in_rows_with rows₀ rows a k added few i j h =
     (λ e.
     let apart : i ≡ a → ⊥ = eqb-false i a e in
     let other : 8 * i + j / 64 ≡ 8 * a + k / 64 → ⊥ = λ q. apart (omega (arith, place_below j h, place_below k few)) in
-    rw e (ap (λ (w : ℕ). in_word w (j % 64)) (added.others (8 * i + j / 64) other) ∙ sym (or_false (in_words rows₀ (8 * i) j))))
+    rw e (ap (λ (w : ℕ). in_word w (j % 64)) (added.others (8 * i + j / 64) other) ∙ sym (or-false (in_words rows₀ (8 * i) j))))

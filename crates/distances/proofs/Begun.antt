@@ -4,7 +4,7 @@ use Prim.Native.Nat.{ℕ, ◌+◌, ◌≤◌, ◌<◌}
 use mathlib.Core.Path.{◌≡◌, refl, sym, ap, ap₂, ◌∙◌}
 use mathlib.Core.Bool.{Bool, true, false, cond, ◌&&◌}
 use mathlib.Core.List.{List, []}
-use native.Mathlib.Nat.{zero_add}
+use native.Mathlib.Nat.{zero-add}
 use native.Mathlib.Omega.{arith}
 use lib.Dec.{eqb, leb, ltb}
 use lib.ListN.{get_or}
@@ -72,7 +72,7 @@ module _ (variables count : ℕ) (sizes weights goal : List ℕ) (w : Numbered v
     one_test : (r : State) (v : ℕ) → v < variables → cond (leb 0 v && in_word free v) true (eqb (r v) (asked v)) ≡ meetsAt goal 0 r v
     unfolding asked goal_values
     one_test r v h =
-        let at : get_or goal (0 + v) 0 ≡ get_or goal v 0 = ap (λ (u : ℕ). get_or goal u 0) (zero_add v) in
+        let at : get_or goal (0 + v) 0 ≡ get_or goal v 0 = ap (λ (u : ℕ). get_or goal u 0) (zero-add v) in
         split (eqb (get_or goal v 0) 255)
         (λ e. rw (free_is v h, e, le-leb 0 v (omega arith)) (meets_none (get_or goal (0 + v) 0) (r v) (at ∙ eqb-true (get_or goal v 0) 255 e)))
         (λ e.

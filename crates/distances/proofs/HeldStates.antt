@@ -3,7 +3,7 @@ use Prim.Native.Nat.{ℕ, suc, ◌+◌, ◌*◌, ◌≤◌, ◌<◌}
 use mathlib.Core.Path.{◌≡◌, refl, sym, ap, ◌∙◌}
 use mathlib.Core.Bool.{true}
 use mathlib.Core.List.{List, [], ◌∷◌}
-use native.Mathlib.Nat.{zero_add}
+use native.Mathlib.Nat.{zero-add}
 use native.Mathlib.Omega.{arith}
 use lib.ListN.{length, get_or}
 use borrow.Author.Tests.{ne_eqb}
@@ -58,7 +58,7 @@ module _ (d : Arrays) where
 
     pub held_goal : (v : ℕ) → v < d.variables → (get_or d.goal v 0 ≡ 255 → ⊥) → get_or d.goal v 0 < get_or d.sizes v 0
     held_goal v h n =
-        let at : get_or d.goal (0 + v) 0 ≡ get_or d.goal v 0 = ap (λ (u : ℕ). get_or d.goal u 0) (zero_add v) in
+        let at : get_or d.goal (0 + v) 0 ≡ get_or d.goal v 0 = ap (λ (u : ℕ). get_or d.goal u 0) (zero-add v) in
         omega (arith, at, goal_valid d held_valid v h (ne_eqb (get_or d.goal (0 + v) 0) 255 (λ e. n (sym at ∙ e))), size_held d v h)
 
     pub held_few : d.variables ≤ 64

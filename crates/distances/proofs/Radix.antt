@@ -3,7 +3,7 @@ use Prim.Native.Nat.{ℕ, zero, suc, ◌+◌, ◌*◌, ◌/◌, ◌%◌, ◌≤�
 use mathlib.Core.Path.{◌≡◌, refl, sym, ap, subst, fun_ext, ◌∙◌}
 use mathlib.Core.List.{List, [], ◌∷◌}
 use native.Mathlib.Omega.{arith}
-use native.Mathlib.Nat.{mod-lt, mod-eq_of_lt, mod-add-div, div-eq_of_lt, add-mul-div_left, add-mul-mod_self_left, div-lt_iff_lt-mul, mul_comm, mul-le-mul_left, zero_add, mul-suc}
+use native.Mathlib.Nat.{mod-lt, mod-eq_of_lt, mod-add-div, div-eq_of_lt, add-mul-div_left, add-mul-mod_self_left, div-lt_iff_lt-mul, mul_comm, mul-le-mul_left, zero-add, mul-suc}
 use lib.ListN.{length, get_or, get_or-eq_default}
 use Rattle.files.specs.Task.{Variable, Action, Task, variable, action_of, value_in}
 use Rattle.files.proofs.Logic.{split_option}
@@ -29,7 +29,7 @@ mod_low : (d y q : ℕ) → y < d → (y + d * q) % d ≡ y
 mod_low d y q h = add-mul-mod_self_left y d q ∙ mod-eq_of_lt h
 
 div_low : (d y q : ℕ) → y < d → (y + d * q) / d ≡ q
-div_low d y q h = add-mul-div_left y q (omega arith) ∙ ap (λ (n : ℕ). n + q) (div-eq_of_lt h) ∙ zero_add q
+div_low d y q h = add-mul-div_left y q (omega arith) ∙ ap (λ (n : ℕ). n + q) (div-eq_of_lt h) ∙ zero-add q
 
 div_below : (d n x : ℕ) → 0 < d → x < d * n → x / d < n
 div_below d n x h l = (div-lt_iff_lt-mul h).1 (subst (λ (m : ℕ). x < m) (mul_comm d n) l)

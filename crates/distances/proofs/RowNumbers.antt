@@ -3,7 +3,7 @@ use Prim.Native.Nat.{ℕ, zero, suc, ◌+◌, ◌*◌, ◌/◌, ◌≤◌, ◌<�
 use mathlib.Core.Path.{◌≡◌, refl, sym, ap, ap₂, fun_ext, ◌∙◌}
 use mathlib.Core.List.{List, []}
 use native.Mathlib.Omega.{arith}
-use native.Mathlib.Nat.{add-zero, zero_add, mul-add, mul_assoc, mul-one, one-mul, mul-zero, mul-suc, mul-le-mul_left, mul_comm}
+use native.Mathlib.Nat.{add-zero, zero-add, mul-add, mul_assoc, mul-one, one-mul, mul-zero, mul-suc, mul-le-mul_left, mul_comm}
 use native.Mathlib.Numerals.{add-one}
 use lib.ListN.{length, get_or}
 use Rattle.files.specs.Below.{tabulate_from}
@@ -83,7 +83,7 @@ module _ (sizes : List ℕ) where
       count_is [] 0 n
       ∙ sym (one-mul (count_from sizes 0 n))
       ∙ weight_count 0 n
-      ∙ ap (row_weight sizes) (zero_add n)
+      ∙ ap (row_weight sizes) (zero-add n)
 
   pub states_count : (starts : List ℕ) (n : ℕ) → row_states n sizes ≡ state_count (row_variables n sizes starts)
   unfolding row_states
@@ -117,7 +117,7 @@ module _ (sizes : List ℕ) where
   -- numbers as sums
   number_weighted : (s : State) (v k : ℕ) → row_weight sizes v * number_from sizes s v k + weighted sizes s v ≡ weighted sizes s (v + k)
   unfolding number_from weighted row_weight
-  number_weighted s v zero = rw mul-zero (zero_add (weighted sizes s v) ∙ ap (weighted sizes s) (sym (add-zero v)))
+  number_weighted s v zero = rw mul-zero (zero-add (weighted sizes s v) ∙ ap (weighted sizes s) (sym (add-zero v)))
   number_weighted s v (suc k) =
       let w = row_weight sizes v in
       let d = get_or sizes v 0 in
@@ -135,7 +135,7 @@ module _ (sizes : List ℕ) where
       ∙ sym (one-mul (number_from sizes s 0 n))
       ∙ sym (add-zero (1 * number_from sizes s 0 n))
       ∙ number_weighted s 0 n
-      ∙ ap (weighted sizes s) (zero_add n)
+      ∙ ap (weighted sizes s) (zero-add n)
 
   -- the variables of arrays, by their sizes
   row_size : (starts : List ℕ) (n v : ℕ) → v < n → (get_or (row_variables n sizes starts) v (variable 0 0)).size ≡ get_or sizes v 0

@@ -3,7 +3,7 @@ use Prim.Native.Nat.{ℕ, suc, ◌+◌, ◌-◌, ◌*◌, ◌/◌, ◌%◌, ◌�
 use mathlib.Core.Path.{◌≡◌, refl, sym, ap, ap₂, subst, fun_ext, ◌∙◌}
 use mathlib.Core.List.{List, []}
 use native.Mathlib.Omega.{arith}
-use native.Mathlib.Nat.{add-zero, zero_add, mod-lt}
+use native.Mathlib.Nat.{add-zero, zero-add, mod-lt}
 use native.Mathlib.Numerals.{add-one}
 use lib.ListN.{length, get_or, set, length-set}
 use Rattle.files.specs.Below.{tabulate_from}
@@ -106,7 +106,7 @@ module _ (sizes : List ℕ) (n state : ℕ) where
       record {
         before = λ w h. absurd (omega arith);
         behind = λ w h. z w;
-        left = λ w. ap₂ (λ (k u : ℕ). state_at (tabulate_from 0 k (row_variable sizes [])) state u) (let e : n - 0 ≡ n = omega arith in e) (sym (zero_add w));
+        left = λ w. ap₂ (λ (k u : ℕ). state_at (tabulate_from 0 k (row_variable sizes [])) state u) (let e : n - 0 ≡ n = omega arith in e) (sym (zero-add w));
         within = omega arith;
         full = f;
       }

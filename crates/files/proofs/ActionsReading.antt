@@ -1,6 +1,6 @@
 -- The decoder's loop over actions: what a turn knows of the place reached and of the arrays, as it starts, goes on and ends.
 use Prim.Native.Nat.{ℕ, zero, suc, ◌+◌, ◌*◌, ◌≤◌, ◌<◌}
-use native.Mathlib.Nat.{le_refl, zero_add}
+use native.Mathlib.Nat.{le_refl, zero-add}
 use native.Mathlib.Omega.{arith}
 use mathlib.Core.Path.{◌≡◌, refl, ap, ap₂, ◌∙◌}
 use mathlib.Core.List.{List}
@@ -26,7 +26,7 @@ module _ (s : List ℕ) (at count : ℕ) (costs₀ conditions₀ effects₀ : Li
   pub reading_starts : Reading at 0 count costs₀ conditions₀ effects₀
   reading_starts =
       record {
-        sum = zero_add count;
+        sum = zero-add count;
         reach = le_refl (at + 65540 * count);
         costs_long = refl;
         conditions_long = refl;

@@ -1,6 +1,6 @@
 -- The decoder's loop over the costs of actions: what a turn knows of the place reached and of the array, as it starts, goes on and ends.
 use Prim.Native.Nat.{ℕ, zero, suc, ◌+◌, ◌*◌, ◌≤◌, ◌<◌}
-use native.Mathlib.Nat.{le_refl, zero_add}
+use native.Mathlib.Nat.{le_refl, zero-add}
 use native.Mathlib.Omega.{arith}
 use mathlib.Core.Path.{◌≡◌, refl, ap, ◌∙◌}
 use mathlib.Core.List.{List}
@@ -22,7 +22,7 @@ module _ (s : List ℕ) (at count : ℕ) (costs₀ : List ℕ) where
   pub costs_start : CostsReading at 0 count costs₀
   costs_start =
       record {
-        sum = zero_add count;
+        sum = zero-add count;
         reach = le_refl (at + 65540 * count);
         costs_long = refl;
         costs_rest = refl;

@@ -1,7 +1,7 @@
 -- The table of what could cover what, filled a column at a time.
 use Prim.Native.Nat.{ℕ, ◌+◌, ◌*◌, ◌≤◌, ◌<◌}
 use mathlib.Core.Path.{◌≡◌, refl, sym, ap, ◌∙◌}
-use mathlib.Core.Bool.{Bool, true, false, ◌&&◌, ◌||◌, and-false, or_false}
+use mathlib.Core.Bool.{Bool, true, false, ◌&&◌, ◌||◌, and-false, or-false}
 use mathlib.Core.List.{List}
 use native.Mathlib.Omega.{arith}
 use lib.Dec.{eqb}
@@ -41,7 +41,7 @@ module _ (a b : ℕ) (few : b < 512) (table after : List ℕ) (added : Added (8 
 
   unchanged : (i j : ℕ) → j < 512 → eqb i a && eqb j b ≡ false → in_words after (8 * i) j ≡ in_words table (8 * i) j
   unchanged i j l e =
-      in_rows_with table after a b added few i j l ∙ ap (λ (t : Bool). in_words table (8 * i) j || t) e ∙ or_false (in_words table (8 * i) j)
+      in_rows_with table after a b added few i j l ∙ ap (λ (t : Bool). in_words table (8 * i) j || t) e ∙ or-false (in_words table (8 * i) j)
 
   other_row : (i j : ℕ) → j < 512 → (i ≡ a → ⊥) → in_words after (8 * i) j ≡ in_words table (8 * i) j
   other_row i j l n = unchanged i j l (ap (λ (t : Bool). t && eqb j b) (ne_eqb i a n))

@@ -1,7 +1,7 @@
 -- Conditions that all stand among others: by the cells of their rows, one after the other; and a proper subset, by how many there are.
 use Prim.Native.Nat.{ℕ, ◌+◌, ◌*◌, ◌≤◌, ◌<◌}
 use mathlib.Core.Path.{◌≡◌, refl, sym, ap, ap₂, ◌∙◌}
-use mathlib.Core.Bool.{Bool, true, false, not, ◌&&◌, ◌||◌, and_true, and-false}
+use mathlib.Core.Bool.{Bool, true, false, not, ◌&&◌, ◌||◌, and-true, and-false}
 use mathlib.Core.List.{List}
 use mathlib.Core.Logic.{⊎_elim}
 use native.Mathlib.Omega.{arith}
@@ -122,7 +122,7 @@ module _ (costs conditions : List ℕ) (variables b a : ℕ) where
   all_standing e l =
       rw
       (could_nested, le-leb (get_or costs b 0) (get_or costs a 0) e, lt-ltb (conditions_in conditions (64 * b) variables) (conditions_in conditions (64 * a) variables) l)
-      (sym (and_true (eqb (missing conditions (64 * b) (64 * a) variables) 0)))
+      (sym (and-true (eqb (missing conditions (64 * b) (64 * a) variables) 0)))
 
   -- the three quick tests: a condition that is missing, too few others, the cost
   abbrev lacks : ℕ → Bool

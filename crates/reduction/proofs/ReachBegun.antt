@@ -1,7 +1,7 @@
 -- The sets of conditions and the counts to begin with, filled an action at a time.
 use Prim.Native.Nat.{ℕ, ◌+◌, ◌*◌, ◌≤◌, ◌<◌}
 use mathlib.Core.Path.{◌≡◌, refl, sym, ap, ◌∙◌}
-use mathlib.Core.Bool.{Bool, false, ◌&&◌, ◌||◌, or_false}
+use mathlib.Core.Bool.{Bool, false, ◌&&◌, ◌||◌, or-false}
 use mathlib.Core.List.{List}
 use native.Mathlib.Omega.{arith}
 use lib.Dec.{eqb}
@@ -53,7 +53,7 @@ module _ (conditions : List ℕ) (variables : ℕ) (rows₀ counts₀ order₀ :
       others b i l apart =
           new.asking i b l
           ∙ ap (λ (t : Bool). asks_for rows b i || (t && row_facts conditions (64 * a) variables i)) (ne_eqb b a apart)
-          ∙ or_false (asks_for rows b i)
+          ∙ or-false (asks_for rows b i)
 
       asked_as_before : (b : ℕ) → b < 512 → (b ≡ a → ⊥) → asked rows₁ b ≡ asked rows b
       unfolding asked

@@ -2,7 +2,7 @@
 -- places whose sets have it.
 use Prim.Native.Nat.{ℕ, zero, suc, ◌+◌, ◌*◌, ◌/◌, ◌%◌, ◌<◌}
 use mathlib.Core.Path.{◌≡◌, refl, sym, ap, ◌∙◌}
-use mathlib.Core.Bool.{Bool, true, false, not, ◌&&◌, ◌||◌, and_true, and-false, or_false}
+use mathlib.Core.Bool.{Bool, true, false, not, ◌&&◌, ◌||◌, and-true, and-false, or-false}
 use mathlib.Core.List.{List}
 use native.Mathlib.Omega.{arith}
 use native.Mathlib.Nat.{not-suc-le-zero}
@@ -46,7 +46,7 @@ cell_none v cell i e = rw (eq-eqb cell 255 e) refl
 
 pub cell_place : (v cell i : ℕ) → (cell ≡ 255 → ⊥) → cell_fact v cell i ≡ eqb i (32 * v + cell % 32)
 unfolding names_at
-cell_place v cell i e = rw (ne_eqb cell 255 e) (sym (place_is v (cell % 32) i (omega arith)) ∙ and_true (eqb i (32 * v + cell % 32)))
+cell_place v cell i e = rw (ne_eqb cell 255 e) (sym (place_is v (cell % 32) i (omega arith)) ∙ and-true (eqb i (32 * v + cell % 32)))
 
 module _ (row : List ℕ) (base : ℕ) where
   pub row_none : (i : ℕ) → row_facts row base 0 i ≡ false
@@ -69,7 +69,7 @@ module _ (row : List ℕ) (base : ℕ) where
 -- an action is put into the set of a cell's fact
 pub ask_none : (v cell a : ℕ) (rows : List ℕ) → cell ≡ 255 → Asking (cell_fact v cell) a rows rows
 ask_none v cell a rows e i j l =
-    sym (ap (λ (b : Bool). asks_for rows j i || (eqb j a && b)) (cell_none v cell i e) ∙ ap (λ (b : Bool). asks_for rows j i || b) (and-false (eqb j a)) ∙ or_false (asks_for rows j i))
+    sym (ap (λ (b : Bool). asks_for rows j i || (eqb j a && b)) (cell_none v cell i e) ∙ ap (λ (b : Bool). asks_for rows j i || b) (and-false (eqb j a)) ∙ or-false (asks_for rows j i))
 
 pub ask_one : (v cell a : ℕ) (rows after : List ℕ) → (cell ≡ 255 → ⊥) → a < 512 → Added (8 * (32 * v + cell % 32)) a rows after → Asking (cell_fact v cell) a rows after
 ask_one v cell a rows after e few added i j l =
@@ -91,7 +91,7 @@ asked_none rows a empty = sym (count_zero 2048 (asks_for rows a) (λ i l. empty 
 module _ (conditions : List ℕ) (base a : ℕ) where
   pub asking_begins : (rows : List ℕ) → Asking (row_facts conditions base 0) a rows rows
   unfolding row_names
-  asking_begins rows i j l = sym (ap (λ (b : Bool). asks_for rows j i || b) (and-false (eqb j a)) ∙ or_false (asks_for rows j i))
+  asking_begins rows i j l = sym (ap (λ (b : Bool). asks_for rows j i || b) (and-false (eqb j a)) ∙ or-false (asks_for rows j i))
 
   pub asking_next : (v : ℕ) (before rows after : List ℕ) → Asking (row_facts conditions base v) a before rows → Asking (cell_fact v (get_or conditions (base + v) 0)) a rows after
       → Asking (row_facts conditions base (v + 1)) a before after
@@ -129,7 +129,7 @@ module _ (conditions : List ℕ) (base a : ℕ) where
     unfolding asked
     asked_same e =
         count_alike 2048 (asks_for after a) (asks_for rows a)
-        (λ i l. next i ∙ ap (λ (b : Bool). asks_for rows a i || b) (cell_none v cell i e) ∙ or_false (asks_for rows a i))
+        (λ i l. next i ∙ ap (λ (b : Bool). asks_for rows a i || b) (cell_none v cell i e) ∙ or-false (asks_for rows a i))
 
     asked_more : v < 64 → (cell ≡ 255 → ⊥) → asked after a ≡ asked rows a + 1
     unfolding asked
@@ -138,7 +138,7 @@ module _ (conditions : List ℕ) (base a : ℕ) where
         count_more 2048 (asks_for rows a) (asks_for after a) place (omega arith)
         (split (asks_for rows a place) (λ q. absurd (let low : place < 32 * v = row_below conditions base v place (sym (own place) ∙ q) in omega arith)) (λ q. q))
         (next place ∙ or_right (asks_for rows a place) (cell_place v cell place there ∙ eq-eqb place place refl))
-        (λ i l apart. next i ∙ ap (λ (b : Bool). asks_for rows a i || b) (cell_place v cell i there ∙ ne_eqb i place apart) ∙ or_false (asks_for rows a i))
+        (λ i l apart. next i ∙ ap (λ (b : Bool). asks_for rows a i || b) (cell_place v cell i there ∙ ne_eqb i place apart) ∙ or-false (asks_for rows a i))
 
     pub asked_next : v < 64 → (count one : ℕ) → count ≡ asked rows a → one ≡ bit (not (eqb cell 255)) → count + one ≡ asked after a
     asked_next known count one is-count is_one =

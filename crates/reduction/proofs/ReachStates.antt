@@ -1,7 +1,7 @@
 -- Facts that are reached: the counts of what actions lack follow, cell by cell and row by row.
 use Prim.Native.Nat.{ℕ, ◌+◌, ◌*◌, ◌%◌, ◌≤◌, ◌<◌}
 use mathlib.Core.Path.{◌≡◌, refl, sym, ap, ◌∙◌}
-use mathlib.Core.Bool.{Bool, true, false, not, cond, ◌&&◌, ◌||◌, and-false, and_true}
+use mathlib.Core.Bool.{Bool, true, false, not, cond, ◌&&◌, ◌||◌, and-false, and-true}
 use mathlib.Core.List.{List}
 use native.Mathlib.Omega.{arith}
 use lib.Dec.{eqb}
@@ -52,7 +52,7 @@ module _ (rows facts after : List ℕ) (a place : ℕ) (known : place < 2048) (o
   gone = ap (λ (b : Bool). asks_for rows a place && not b) on ∙ and-false (asks_for rows a place)
 
   was : lacks facts place ≡ asks_for rows a place
-  was = ap (λ (b : Bool). asks_for rows a place && not b) off ∙ and_true (asks_for rows a place)
+  was = ap (λ (b : Bool). asks_for rows a place && not b) off ∙ and-true (asks_for rows a place)
 
   one_less : asks_for rows a place ≡ true → lacking rows facts a ≡ lacking rows after a + 1
   unfolding lacking
@@ -98,7 +98,7 @@ all_lacking : (rows facts : List ℕ) (a : ℕ) → ((i : ℕ) → get_or facts 
 unfolding asked lacking
 all_lacking rows facts a zeros =
     count_alike 2048 (asks_for rows a) (λ i. asks_for rows a i && not (is_marked facts i))
-    (λ i l. sym (ap (λ (n : ℕ). asks_for rows a i && not (eqb n 1)) (zeros i) ∙ and_true (asks_for rows a i)))
+    (λ i l. sym (ap (λ (n : ℕ). asks_for rows a i && not (eqb n 1)) (zeros i) ∙ and-true (asks_for rows a i)))
 
 pub begun_reaching : (conditions : List ℕ) (variables actions : ℕ) (rows facts counts order : List ℕ) (found : ℕ) → Begun conditions variables actions rows counts order found
     → actions ≤ 512 → ((i : ℕ) → get_or facts i 0 ≡ 0) → 2048 ≤ length facts → 512 ≤ length counts → 512 ≤ length order → Reaching rows actions facts counts order found
@@ -132,7 +132,7 @@ module _ (rows : List ℕ) (actions : ℕ) where
 
     pub cell_set : SetWhere (cell_fact v cell) facts after
     cell_set =
-        set_alike (λ i. eqb i place && true) (cell_fact v cell) facts after (λ i. and_true (eqb i place) ∙ sym (cell_place v cell i there))
+        set_alike (λ i. eqb i place && true) (cell_fact v cell) facts after (λ i. and-true (eqb i place) ∙ sym (cell_place v cell i there))
         (set_place true facts place 1 (omega (arith, inside, was.facts_room)) refl)
 
     less : (a : ℕ) → lacking rows after a + bit (asks_for rows a place) ≡ lacking rows facts a

@@ -1,7 +1,7 @@
 -- The first bit of a word that is not empty: it is one of those that a word can have, and `w & (w - 1)` is the word without it.
 use Prim.Native.Nat.{ℕ, zero, suc, ◌+◌, ◌-◌, ◌*◌, ◌/◌, ◌%◌, ◌^◌, ◌<◌}
 use mathlib.Core.Path.{◌≡◌, refl, sym, ap, ap₂, subst, ◌∙◌}
-use mathlib.Core.Bool.{false, not, ◌&&◌, and_self, and_true}
+use mathlib.Core.Bool.{false, not, ◌&&◌, and_self, and-true}
 use native.Mathlib.Omega.{arith}
 use native.Mathlib.Nat.{mod-lt, mul_comm, pow-suc, div-add-mod', not-suc-le-zero}
 use lib.Arith.{digits_div, digits_mod}
@@ -68,7 +68,7 @@ cleared_odd q (suc k) =
     in_both (2 * q + 1) (2 * q + 1 - 1) (suc k)
     ∙ ap₂ ◌&&◌ here (ap (λ (w : ℕ). in_word w (suc k)) less ∙ in_later q 0 k (omega arith))
     ∙ and_self (in_word q k)
-    ∙ sym (and_true (in_word q k))
+    ∙ sym (and-true (in_word q k))
     ∙ ap₂ ◌&&◌ (sym here) (ap not (sym (eqb-suc-zero k)))
 
 pub cleared : (n w : ℕ) → count_trailing_zeros n w < n → (k : ℕ) → in_word (bit_and w (w - 1)) k ≡ in_word w k && not (eqb k (count_trailing_zeros n w))

@@ -1,10 +1,10 @@
 -- What reading off needs of a state, variable by variable; and the number of the state that an action leads to, from its parts.
 use Prim.Native.Nat.{ℕ, zero, suc, ◌+◌, ◌-◌, ◌*◌, ◌^◌, ◌≤◌, ◌<◌}
 use mathlib.Core.Path.{◌≡◌, refl, sym, ap, subst, ◌∙◌}
-use mathlib.Core.Bool.{Bool, true, false, not, cond, ◌&&◌, and_true}
+use mathlib.Core.Bool.{Bool, true, false, not, cond, ◌&&◌, and-true}
 use mathlib.Core.List.{List, []}
 use native.Mathlib.Omega.{arith}
-use native.Mathlib.Nat.{zero_add}
+use native.Mathlib.Nat.{zero-add}
 use lib.Bits.{bit_and, and_le_r}
 use lib.Count.{count_trailing_zeros}
 use lib.Dec.{eqb}
@@ -105,7 +105,7 @@ module _ (here : List ℕ) (w rest v : ℕ) (there : in_word w v ≡ true) (othe
       omega (arith, freed_apart n l, same))
     where
       kept : (k : ℕ) → (k ≡ v → ⊥) → in_word rest k ≡ in_word w k
-      kept k d = others k ∙ ap (λ (t : Bool). in_word w k && not t) (ne_eqb k v d) ∙ and_true (in_word w k)
+      kept k d = others k ∙ ap (λ (t : Bool). in_word w k && not t) (ne_eqb k v d) ∙ and-true (in_word w k)
 
 -- a word of which the variables in `rest` are still to be added
 module _ (here : List ℕ) (word : ℕ) where
@@ -114,7 +114,7 @@ module _ (here : List ℕ) (word : ℕ) where
     pub few : rest < 2 ^ 64
 
   pub free_begin : word < 2 ^ 64 → Freeing 0 word
-  free_begin few = record { sum_is = zero_add (freed_by here word 64); few = few }
+  free_begin few = record { sum_is = zero-add (freed_by here word 64); few = few }
 
   module _ (sum rest : ℕ) (c : Freeing sum rest) (h : 0 < rest) where
     below : count_trailing_zeros 64 rest < 64

@@ -2,7 +2,7 @@
 use Prim.Native.Nat.{ℕ, zero, suc, ◌+◌, ◌≤◌, ◌<◌}
 use mathlib.Core.Path.{◌≡◌, refl, sym, ap, ◌∙◌}
 use mathlib.Core.List.{List, [], ◌∷◌, ◌++◌}
-use native.Mathlib.Nat.{add-zero, zero_add}
+use native.Mathlib.Nat.{add-zero, zero-add}
 use native.Mathlib.Omega.{arith}
 use lib.ListN.{length, set, drop, get_or-append}
 use Rattle.files.specs.Below.{tabulate_from}
@@ -44,6 +44,6 @@ module _ (old : List Entry) (entries : List ℕ) where
   unfolding overwrite entries_in
   filled_next i h =
       ap (λ (n : ℕ). set (tabulate_from 0 i (entry_in entries) ++ drop n old) i (entry_in entries i)) (tabulate_from_length (entry_in entries) 0 i)
-      ∙ ap (λ (n : ℕ). set (tabulate_from 0 i (entry_in entries) ++ drop i old) i (entry_in entries n)) (sym (zero_add i))
+      ∙ ap (λ (n : ℕ). set (tabulate_from 0 i (entry_in entries) ++ drop i old) i (entry_in entries n)) (sym (zero-add i))
       ∙ next_front (entry_in entries) 0 i old h
       ∙ ap (λ (n : ℕ). tabulate_from 0 (suc i) (entry_in entries) ++ drop n old) (sym (tabulate_from_length (entry_in entries) 0 (suc i)))

@@ -1,7 +1,7 @@
 -- Laws of traces for numbers, for counts and for lists of elements.
 use Prim.Native.Nat.{ℕ, zero, suc}
 use mathlib.Core.Path.{◌≡◌, refl, sym, ap, subst, ◌∙◌}
-use mathlib.Core.Bool.{Bool, true, false, ◌&&◌, and_true}
+use mathlib.Core.Bool.{Bool, true, false, ◌&&◌, and-true}
 use mathlib.Core.List.{List, [], ◌∷◌, ◌++◌, append-nil}
 use mathlib.Core.Option.{Option, none}
 use native.Mathlib.Omega.{arith}
@@ -31,7 +31,7 @@ pub number_prints : (separator : Separator) (fault : ℕ → Option Fault) (ok :
 unfolding written writable
 number_prints separator fault ok fine =
     prints
-    (field_always (λ n fits. gives_always (record { fits = tt; text = append-nil (ended separator n); passes = and_true (is_fine (fault n)) ∙ fine n })))
+    (field_always (λ n fits. gives_always (record { fits = tt; text = append-nil (ended separator n); passes = and-true (is_fine (fault n)) ∙ fine n })))
     (λ n g. field_reaches n refl (gives_reaches n))
 
 pub free_number : (separator : Separator) → Number separator (λ n. true) (field (number separator) any gives)
@@ -39,7 +39,7 @@ free_number separator = number_prints separator any (λ n. true) (λ n. refl)
 
 pub test_number : (separator : Separator) (test : ℕ → Bool) (fault : Fault) → Number separator test (field (number separator) (λ n. unless (test n) fault none) gives)
 test_number separator test fault =
-    number_prints separator (λ n. unless (test n) fault none) test (λ n. unless_fine (test n) fault none ∙ and_true (test n))
+    number_prints separator (λ n. unless (test n) fault none) test (λ n. unless_fine (test n) fault none ∙ and-true (test n))
 
 pub count_prints : (most : ℕ) → Number line_feed (λ n. leb n most) (count most)
 unfolding count
@@ -74,7 +74,7 @@ module _ {S A : Type 0} (item : S → Format A) (onward : S → A → S) (good :
       gives_always (record {
         fits = (ap suc h.0, Good-more a rest ∙ and_join g h.1);
         text = ap (λ (s : List ℕ). print a ++ s) (append-nil (joined print rest));
-        passes = ap (λ (b : Bool). ok state a && b) (and_true (okAll (onward state a) rest)) ∙ sym (ok-more state a rest);
+        passes = ap (λ (b : Bool). ok state a && b) (and-true (okAll (onward state a) rest)) ∙ sym (ok-more state a rest);
       }))))
       (λ l g. some_reaches (repeat_prints n) l g.0 g.1)
     where

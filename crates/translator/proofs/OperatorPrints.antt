@@ -1,7 +1,7 @@
 -- The traces of conditions, effects, operators and axioms are their printings.
 use Prim.Native.Nat.{ℕ}
 use mathlib.Core.Path.{◌≡◌, refl}
-use mathlib.Core.Bool.{true, and_true}
+use mathlib.Core.Bool.{true, and-true}
 use mathlib.Core.List.{List, [], ◌∷◌, append-nil, append_assoc}
 use lib.Dec.{eqb}
 use Rattle.translator.specs.Format.{unsupported, bind}
@@ -16,7 +16,7 @@ use Rattle.translator.proofs.PartPrints.{free_pair_prints, pairs_print}
 
 variable_fine : (sizes given : List ℕ) (v : ℕ) → is_fine (variable_fault sizes given v) ≡ new_variable sizes given v
 unfolding new_variable
-variable_fine sizes given v = simp (unless_fine, and_true) refl
+variable_fine sizes given v = simp (unless_fine, and-true) refl
 
 condition_prints : (sizes given : List ℕ) → Prints (condition sizes given) (λ p. true ≡ true) printed_pair (supported_pair sizes given)
 unfolding condition written writable printed_pair supported_pair
@@ -27,7 +27,7 @@ condition_prints sizes given =
     gives_always (record {
       fits = refl;
       text = simp append-nil refl;
-      passes = simp (variable_fine, unless_fine, and_true) refl;
+      passes = simp (variable_fine, unless_fine, and-true) refl;
     }))))
     (λ p g. field_reaches p.variable refl (field_reaches p.value refl (gives_reaches p)))
 
@@ -53,7 +53,7 @@ effect_prints sizes given =
     gives_always (record {
       fits = refl;
       text = simp append-nil refl;
-      passes = simp (variable_fine, unless_fine, and_true) refl;
+      passes = simp (variable_fine, unless_fine, and-true) refl;
     }))))))
     (λ x g.
     counted_reaches _ _ (test_number blank (λ n. eqb n 0) unsupported) within_print x.conditions refl
@@ -81,7 +81,7 @@ operator_prints sizes =
     gives_always (record {
       fits = named;
       text = simp (append_assoc, append-nil) refl;
-      passes = simp (unless_fine, and_true) refl;
+      passes = simp (unless_fine, and-true) refl;
     }))))))))
     (λ o g.
     field_reaches tt refl

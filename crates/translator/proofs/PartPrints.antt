@@ -1,7 +1,7 @@
 -- The traces of pairs, mutex groups and declarations are their printings.
 use Prim.Native.Nat.{ℕ}
 use mathlib.Core.Path.{◌≡◌, refl, ap}
-use mathlib.Core.Bool.{true, ◌&&◌, and_true, and_assoc}
+use mathlib.Core.Bool.{true, ◌&&◌, and-true, and_assoc}
 use mathlib.Core.List.{List, ◌++◌, append-nil, append_assoc}
 use mathlib.Core.Option.{none}
 use lib.Dec.{leb}
@@ -51,7 +51,7 @@ size_prints : Number line_feed (λ n. leb 1 n && leb n 32) size
 unfolding size
 size_prints =
     number_prints line_feed (λ n. unless (leb 1 n) outside_limits (unless (leb n 32) outside_limits none)) (λ n. leb 1 n && leb n 32) (λ n.
-    simp (unless_fine, and_true) refl)
+    simp (unless_fine, and-true) refl)
 
 pub declaration_prints : Prints declaration (λ d. named_declaration d ≡ true) printed_declaration supported_declaration
 unfolding declaration says written writable printed_declaration counted named_declaration supported_declaration
@@ -65,7 +65,7 @@ declaration_prints =
     gives_always (record {
       fits = and_join named all;
       text = simp (append_assoc, append-nil) refl;
-      passes = simp (unless_fine, and_assoc, and_true) refl;
+      passes = simp (unless_fine, and_assoc, and-true) refl;
     })))))))
     (λ d g.
     let both = and_split (is_name d.name) (all_of is_name d.values) g in

@@ -4,7 +4,7 @@ use mathlib.Core.Path.{◌≡◌, refl, ap, sym, subst, ◌∙◌}
 use mathlib.Core.Bool.{true, false}
 use mathlib.Core.List.{List, [], ◌++◌, append-nil}
 use native.Mathlib.Omega.{arith}
-use native.Mathlib.Nat.{zero_add}
+use native.Mathlib.Nat.{zero-add}
 use lib.Dec.{leb}
 use lib.ListN.{length, take, drop, length-append, length-drop, drop_of_length-le}
 use lib.Seq.{length-take-le, take-length, take-append_seam}
@@ -187,12 +187,12 @@ places_right s p h e =
     let read = back field_right text s 0 (omega arith) o in
     let t : Trace text = read.0 in
     let end : ℕ = length (text_of text t) in
-    let ends : end_of s ≡ cursor_at end = read.4 ∙ ap cursor_at (zero_add end) in
+    let ends : end_of s ≡ cursor_at end = read.4 ∙ ap cursor_at (zero-add end) in
     split_le (length s) end
     (λ l. absurd (let z : ◌≡◌ {A = ℕ} 0 31 = ap (λ (x : Outcome). x.number) (sym (form_done s end ends l) ∙ form) in omega arith))
     (λ l.
     subst (PlaceRight s) (ap (λ (x : Outcome). x.place) (sym (form_behind s end ends l) ∙ form))
-    (behind_right s t read.1 (read.3 ∙ ap (λ (n : ℕ). text_of text t ++ drop n s) (zero_add end)) l)))
+    (behind_right s t read.1 (read.3 ∙ ap (λ (n : ℕ). text_of text t ++ drop n s) (zero-add end)) l)))
     (λ o.
     let found = unfinished field_right text s 0 p (sym (form_refused s o) ∙ form) in
-    subst (PlaceRight s) (sym (found.1 ∙ zero_add found.0)) (begun_right s found.0 found.2))
+    subst (PlaceRight s) (sym (found.1 ∙ zero-add found.0)) (begun_right s found.0 found.2))

@@ -1,6 +1,6 @@
 -- The traces of the start values are the printings of variables with the given declarations.
 use mathlib.Core.Path.{◌≡◌, refl, ap₂, subst}
-use mathlib.Core.Bool.{and_true}
+use mathlib.Core.Bool.{and-true}
 use mathlib.Core.List.{List, [], ◌∷◌, append-nil, map}
 use Rattle.files.specs.Below.{all_of}
 use Rattle.translator.specs.Sas.{Declaration, Started, joined, printed_start}
@@ -19,7 +19,7 @@ start_prints d =
     gives_always (record {
       fits = refl;
       text = simp append-nil refl;
-      passes = simp (unless_fine, and_true) refl;
+      passes = simp (unless_fine, and-true) refl;
     })))
     (λ v e. subst (λ (c : Declaration). Reaches (start c) v) e (field_reaches v.start refl (gives_reaches v)))
 
@@ -38,6 +38,6 @@ starts_print (d ∷ ds) =
     gives_always (record {
       fits = ap₂ (λ (d : Declaration) (ds : List Declaration). d ∷ ds) e es;
       text = simp append-nil refl;
-      passes = simp and_true refl;
+      passes = simp and-true refl;
     }))))
     (λ vs e. subst (λ (ds : List Declaration). Reaches (starts ds) vs) e (starts_reach vs))

@@ -1,7 +1,7 @@
 -- The traces of a text are the printings of what texts state.
 use Prim.Native.Nat.{ℕ}
 use mathlib.Core.Path.{◌≡◌, refl, sym, ap, ◌∙◌}
-use mathlib.Core.Bool.{Bool, true, ◌&&◌, and_true}
+use mathlib.Core.Bool.{Bool, true, ◌&&◌, and-true}
 use mathlib.Core.List.{List, [], ◌∷◌, ◌++◌, append-nil, append_assoc, map}
 use lib.Dec.{eqb}
 use lib.ListN.{length, length-map}
@@ -66,7 +66,7 @@ text_prints =
     gives_always (record {
       fits = and_join (sym (declared_named vs) ∙ ap (all_of named_declaration) same ∙ names) named;
       text = rw (sym same) (simp (declared_printed, declared_length, append_assoc, append-nil) refl);
-      passes = rw (sym same) (simp (declared_length, and_true) refl);
+      passes = rw (sym same) (simp (declared_length, and-true) refl);
     }))))))))))))))
     (λ x g.
     let both = and_split (all_of (λ v. named_declaration v.declared) x.variables) (all_of (λ o. is_name o.name) x.operators) g in

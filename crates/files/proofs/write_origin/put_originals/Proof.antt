@@ -1,7 +1,7 @@
 -- The loop's invariant: the numbers left, placed behind those that stand, make all the numbers.
 use Prim.Native.Nat.{ℕ, ◌+◌, ◌*◌}
 use mathlib.Core.Path.{◌≡◌, refl, sym, ap, ◌∙◌}
-use native.Mathlib.Nat.{zero_add}
+use native.Mathlib.Nat.{zero-add}
 use native.Mathlib.Omega.{arith}
 use lib.ListN.{length, get_or}
 use borrow.Author.Rules.{rules}
@@ -57,7 +57,7 @@ loop-again c =
     let args = c.before.before.before.before.before.before.before.before.before.args in
     let loop = c.before.before.before.before.before.before.loop in (
       placed_next number_bytes (λ (j : ℕ). get_or args.originals.now (0 + j) 0) loop.buffer loop.place loop.i loop.left u16_bytes _ _ c.before.before.before.before.before.loop-test.true refl
-          (c.before.before.put-u16.ensures ∙ ap (λ (n : ℕ). placed loop.buffer loop.place (u16_bytes (get_or args.originals.now n 0))) (sym (zero_add loop.i))) refl
+          (c.before.before.put-u16.ensures ∙ ap (λ (n : ℕ). placed loop.buffer loop.place (u16_bytes (get_or args.originals.now n 0))) (sym (zero-add loop.i))) refl
           ∙ loop.invariant.0,
       omega arith,
       omega arith,

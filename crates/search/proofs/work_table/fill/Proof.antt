@@ -3,7 +3,7 @@
 -- Assumes nothing.
 use mathlib.Core.Path.{◌≡◌, refl, sym, ◌∙◌, ap, subst}
 use Prim.Native.Nat.{ℕ, zero, suc, ◌+◌, ◌<◌, ◌≤◌, ◌^◌}
-use native.Mathlib.Nat.{add-zero, zero_add, le_of_lt, lt_of_lt_of_le, lt-suc_self, lt_irrefl}
+use native.Mathlib.Nat.{add-zero, zero-add, le_of_lt, lt_of_lt_of_le, lt-suc_self, lt_irrefl}
 use native.Mathlib.Omega.{arith}
 use mathlib.Core.Bool.{Bool}
 use mathlib.Core.WellFounded.InvImage
@@ -236,7 +236,7 @@ module _ {M : Type 1} {𝓤 : Ura M} (𝓛 : Logic 𝓤) (at_mem : Memory → SP
     turn_at t i (suc k) l e = more t i k l e
 
     runs_loop : Sq 𝓛 (At 0) (runs C Λ En code-mir.t-2 (at_ret En Post))
-    runs_loop = first ! $ blocks ! $ loops ! 𝓣 ≺ (InvImage.wf (λ (t : Turn n). t.left) lt-wf_rel.wf) I (λ t. turn_at t t.at t.left refl t.sum) (record { at = 0; left = n; sum = zero_add n })
+    runs_loop = first ! $ blocks ! $ loops ! 𝓣 ≺ (InvImage.wf (λ (t : Turn n). t.left) lt-wf_rel.wf) I (λ t. turn_at t t.at t.left refl t.sum) (record { at = 0; left = n; sum = zero-add n })
 
   walk : (𝓣 : Tables 𝓤 H) → FmC 𝓤 H 𝓛.laws 𝓣.C → Triple 𝓤 (𝓣.C #search·entries·entry-at) (Read 𝓛 at_mem run) → Triple 𝓤 (𝓣.C #search·work-table·put-entry) (Put 𝓛 at_mem run)
       → ent 𝓤 (on_entry 𝓛 f.signature (κ, (κe, tt)) (q, (qe, tt)) a at) (WpFn 𝓤 H 𝓣.C 𝓣.Λ code.function (sv ∷ ev ∷ vint w64 n ∷ []) Post)

@@ -3,7 +3,7 @@
 -- Assumes nothing.
 use mathlib.Core.Path.{◌≡◌, refl, sym, ◌∙◌, ap, subst}
 use Prim.Native.Nat.{ℕ, zero, suc, ◌+◌, ◌<◌, ◌^◌}
-use native.Mathlib.Nat.{add-zero, zero_add, lt-suc_self, lt_irrefl}
+use native.Mathlib.Nat.{add-zero, zero-add, lt-suc_self, lt_irrefl}
 use native.Mathlib.Omega.{arith}
 use mathlib.Core.Bool.{Bool}
 use mathlib.Core.WellFounded.InvImage
@@ -324,7 +324,7 @@ module _ {M : Type 1} {𝓤 : Ura M} (𝓛 : Logic 𝓤) (at_mem : Memory → SP
 
     runs_loop : Sq 𝓛 (At searched.start 0 plan) (runs C Λ En code-mir.t-4 (at_ret En Post))
     runs_loop = first ! $ blocks ! $ loops ! 𝓣 ≺ (InvImage.wf (λ (t : Turns). t.left) lt-wf_rel.wf) I (λ t. turn_at t t.at t.left t.state t.buffer refl t.sum t.fits t.steps)
-        (record { at = 0; left = n; sum = zero_add n; state = searched.start; fits = start_fits; buffer = plan; steps = steps_begin looked plan n searched origin sizes costs rows moves asked })
+        (record { at = 0; left = n; sum = zero-add n; state = searched.start; fits = start_fits; buffer = plan; steps = steps_begin looked plan n searched origin sizes costs rows moves asked })
 
   walk : (𝓣 : Tables 𝓤 H) → FmC 𝓤 H 𝓛.laws 𝓣.C → Triple 𝓤 (𝓣.C #search·first-plan·here) (Read 𝓛 at_mem run) → Triple 𝓤 (𝓣.C #search·work-table·first-step) (First 𝓛 at_mem run) → Triple 𝓤 (𝓣.C #search·first-plan·put-step) (Put 𝓛 at_mem run)
       → ent 𝓤 (on_entry 𝓛 f.signature (κ₀, (κ₁, (κ₂, (κ₃, (κ₄, (κ₅, (κ₆, tt))))))) (q₀, (q₁, (q₂, (q₃, (q₄, (q₅, (q₆, tt))))))) a at) (WpFn 𝓤 H 𝓣.C 𝓣.Λ code.function (sv ∷ pv ∷ N'.lowered number ∷ S'.lowered searched ∷ ov ∷ vptr b₃ o₃ ∷ vptr b₄ o₄ ∷ vptr b₅ o₅ ∷ vptr b₆ o₆ ∷ []) Post)
