@@ -34,8 +34,6 @@ pub mod RunLaws
 pub mod Decoding
 pub mod ActionsReading
 pub mod CostsReading
-pub mod ReaderCall
-pub mod LendOn
 -- bytes, numbers and records that stand in a file
 pub mod Stands
 pub mod RecordStands

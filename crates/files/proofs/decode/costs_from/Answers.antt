@@ -1,0 +1,37 @@
+use Rattle.std.proofs.Common.{◌≡◌, ◌-◌, ◌+◌, ◌<◌, ℕ, suc, List, Bor, refl, ap, arith, rules}
+use mathlib.Core.Path.{sym, subst, ◌∙◌}
+use Prim.Native.Nat.{zero-le}
+use Rattle.files.specs.Records.{record_end}
+use Rattle.files.proofs.CostsReading.{CostsReading, costs_start, costs_room_lem, costs_go_on, costs_end}
+use Rattle.files.proofs.decode.costs_from.Goals as goal
+
+pub loop-a-init : goal.loop-a-init
+loop-a-init c =
+    let e : c.args.count ≡ c.args.count - 0 = omega arith in
+    (refl, zero-le, subst (λ (k : ℕ). CostsReading c.args.s.now c.args.at c.args.count c.args.costs.now c.args.at 0 k c.args.costs.now) e (costs_start c.args.s.now c.args.at c.args.count c.args.costs.now))
+
+pub read_cost-requires : goal.read_cost-requires
+read_cost-requires c =
+    let e : c.args.count - c.loop-a.a ≡ suc (c.args.count - (c.loop-a.a + 1)) = omega (arith, c.loop-a-test.true) in
+    costs_room_lem c.args.s.now c.args.at c.args.count c.args.costs.now c.loop-a.reader.at c.loop-a.a (c.args.count - (c.loop-a.a + 1)) c.loop-a.costs c.requires
+    (subst (λ (k : ℕ). CostsReading c.args.s.now c.args.at c.args.count c.args.costs.now c.loop-a.reader.at c.loop-a.a k c.loop-a.costs) e c.loop-a.invariant.2)
+
+pub past-reader-requires : goal.past-reader-requires
+past-reader-requires c = omega (arith, c.loop-a.invariant.2.reach, c.requires.reach)
+
+pub loop-a-preserved : goal.loop-a-preserved
+loop-a-preserved c =
+    let e : c.args.count - c.loop-a.a ≡ suc (c.args.count - (c.loop-a.a + 1)) = omega (arith, c.loop-a-test.true) in
+    let file = ap (λ (b : Bor (List ℕ)). b.now) c.past-reader.ensures.file ∙ c.loop-a.invariant.0 in
+    let at : c.past-reader.result.at ≡ record_end c.args.s.now c.loop-a.reader.at = c.past-reader.ensures.is ∙ ap (λ (s : List ℕ). record_end s c.loop-a.reader.at) c.loop-a.invariant.0 in
+    let next : CostsReading c.args.s.now c.args.at c.args.count c.args.costs.now (record_end c.args.s.now c.loop-a.reader.at) (c.loop-a.a + 1) (c.args.count - (c.loop-a.a + 1)) c.read_cost.new.costs =
+      costs_go_on c.args.s.now c.args.at c.args.count c.args.costs.now c.loop-a.reader.at c.loop-a.a (c.args.count - (c.loop-a.a + 1)) c.loop-a.costs c.read_cost.new.costs
+      (subst (λ (k : ℕ). CostsReading c.args.s.now c.args.at c.args.count c.args.costs.now c.loop-a.reader.at c.loop-a.a k c.loop-a.costs) e c.loop-a.invariant.2)
+      c.read_cost.ensures (search rules) (subst (λ (m : ℕ). m < c.loop-a.reader.at + 65540) at c.past-reader.ensures.below) in
+    (file, omega (arith, c.loop-a-test.true), subst (λ (p : ℕ). CostsReading c.args.s.now c.args.at c.args.count c.args.costs.now p (c.loop-a.a + 1) (c.args.count - (c.loop-a.a + 1)) c.read_cost.new.costs) (sym at) next)
+
+pub returns : goal.returns
+returns c =
+    let e : c.args.count - c.loop-a.a ≡ 0 = omega (arith, c.loop-a-test.false) in
+    costs_end c.args.s.now c.args.at c.args.count c.args.costs.now c.loop-a.reader.at c.loop-a.a c.loop-a.costs
+    (subst (λ (k : ℕ). CostsReading c.args.s.now c.args.at c.args.count c.args.costs.now c.loop-a.reader.at c.loop-a.a k c.loop-a.costs) e c.loop-a.invariant.2)

@@ -1,0 +1,28 @@
+use Prim.Native.Nat.{◌+◌, ◌≤◌}
+use mathlib.Core.Path.{◌≡◌, ap}
+use mathlib.Core.Logic.{⊎_elim}
+use native.Mathlib.Omega.{arith}
+use lib.ListN.{length}
+use borrow.Author.Rules.{rules}
+use Rattle.files.specs.Dense.{row_pairs}
+use Rattle.files.proofs.Countdown.{one_more}
+use Rattle.files.proofs.RowLaws.{row_pairs_none, row_pairs_next, row_pairs_skip}
+use Rattle.files.proofs.write.pairs_in.Goals as goal
+
+pub loop-left-preserved : goal.loop-left-preserved
+loop-left-preserved c =
+    let args = c.args in
+    let loop = c.loop-left in
+    let more = c.loop-left-test.true in
+    let is = c.byte_at-value.ensures.is in
+    ⊎_elim
+    (λ w. omega (arith, ap length (row_pairs_next args.rows.now args.base loop.v loop.left _ (one_more _ more) is w.0.taken)))
+    (λ w. omega (arith, ap length (row_pairs_skip args.rows.now args.base loop.v loop.left _ (one_more _ more) is w.0.left)))
+    c.if-value-ne-NO_PAIR.branch
+
+pub returns : goal.returns
+returns c =
+    let args = c.args in
+    let loop = c.loop-left in
+    let none = ap length (row_pairs_none args.rows.now args.base loop.v loop.left c.loop-left-test.false) in
+    record { is = omega arith; at_most = omega arith }
