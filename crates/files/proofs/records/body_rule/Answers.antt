@@ -22,50 +22,39 @@ rule_past kind r e h = record { is = e ∙ rw get_or-eq_default; steps = subst (
 
 pub returns-in-1 : goal.returns-in-1
 unfolding body_rule
-returns-in-1 c = rule_of _ 1 _ (rule 4 65536 4) refl c.in-1.keys1 refl (lit< tt)
+returns-in-1 c = rule_of _ 1 _ (rule 4 65536 4) refl c.in-1.is refl (lit< tt)
 
 pub returns-in-2 : goal.returns-in-2
 unfolding body_rule
-returns-in-2 c = rule_of _ 2 _ (rule 4 65536 4) refl c.in-1.keys2 refl (lit< tt)
+returns-in-2 c = rule_of _ 2 _ (rule 4 65536 4) refl c.in-2.is refl (lit< tt)
 
 pub returns-in-3 : goal.returns-in-3
 unfolding body_rule
-returns-in-3 c = rule_of _ 3 _ (rule 0 4 256) refl c.in-1.keys3 refl (lit< tt)
+returns-in-3 c = rule_of _ 3 _ (rule 0 4 256) refl c.in-3.is refl (lit< tt)
 
 pub returns-in-4 : goal.returns-in-4
 unfolding body_rule
-returns-in-4 c = rule_of _ 4 _ (rule 8 1 65535) refl c.in-1.keys4 refl (lit< tt)
+returns-in-4 c = rule_of _ 4 _ (rule 8 1 65535) refl c.in-4.is refl (lit< tt)
 
 pub returns-in-5 : goal.returns-in-5
 unfolding body_rule
-returns-in-5 c = rule_of _ 5 _ (rule 8 65536 8) refl c.in-1.keys5 refl (lit< tt)
+returns-in-5 c = rule_of _ 5 _ (rule 8 65536 8) refl c.in-5.is refl (lit< tt)
 
 pub returns-in-6 : goal.returns-in-6
 unfolding body_rule
-returns-in-6 c = rule_of _ 6 _ (rule 4 2 66) refl c.in-1.keys6 refl (lit< tt)
+returns-in-6 c = rule_of _ 6 _ (rule 4 2 66) refl c.in-6.is refl (lit< tt)
 
 pub returns-in-7 : goal.returns-in-7
 unfolding body_rule
-returns-in-7 c = rule_of _ 7 _ (rule 0 2 1024) refl c.in-1.keys7 refl (lit< tt)
+returns-in-7 c = rule_of _ 7 _ (rule 0 2 1024) refl c.in-7.is refl (lit< tt)
 
 pub returns-in-8 : goal.returns-in-8
 unfolding body_rule
-returns-in-8 c = rule_of _ 8 _ (rule 0 2 8192) refl c.in-1.keys8 refl (lit< tt)
+returns-in-8 c = rule_of _ 8 _ (rule 0 2 8192) refl c.in-8.is refl (lit< tt)
 
 pub returns-in-0 : goal.returns-in-0
 unfolding body_rule
-returns-in-0 c = rule_of _ 0 _ (rule 65536 1 0) refl c.in-1.keys9 refl (lit< tt)
+returns-in-0 c = rule_of _ 0 _ (rule 65536 1 0) refl (omega (arith, c.in-0.in-0-own)) refl (lit< tt)
 
 pub returns-in-0-2 : goal.returns-in-0-2
-returns-in-0-2 c =
-    let k = c.args.kind in
-    let r = c.in-1.rest in
-    let from1 = above 0 k zero-le r.1 in
-    let from2 = above 1 k from1 r.0.0.0.0.0.0.0.0.1 in
-    let from3 = above 2 k from2 r.0.0.0.0.0.0.0.1 in
-    let from4 = above 3 k from3 r.0.0.0.0.0.0.1 in
-    let from5 = above 4 k from4 r.0.0.0.0.0.1 in
-    let from6 = above 5 k from5 r.0.0.0.0.1 in
-    let from7 = above 6 k from6 r.0.0.0.1 in
-    let from8 = above 7 k from7 r.0.0.1 in
-    rule_past k _ refl (above 8 k from8 r.0.1)
+returns-in-0-2 c = let h = c.in-0.in-0-own in rule_past c.args.kind _ refl (omega (arith, h))

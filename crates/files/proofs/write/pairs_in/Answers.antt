@@ -8,6 +8,7 @@ use Rattle.files.specs.Dense.{row_pairs}
 use Rattle.files.proofs.Countdown.{one_more}
 use Rattle.files.proofs.RowLaws.{row_pairs_none, row_pairs_next, row_pairs_skip}
 use Rattle.files.proofs.write.pairs_in.Goals as goal
+use Rattle.files.proofs.write.pairs_in.Goals.{then-value-ne-NO_PAIR, else-value-ne-NO_PAIR}
 
 pub loop-left-preserved : goal.loop-left-preserved
 loop-left-preserved c =
@@ -15,10 +16,10 @@ loop-left-preserved c =
     let loop = c.loop-left in
     let more = c.loop-left-test.true in
     let is = c.byte_at-value.ensures.is in
-    ⊎_elim
-    (λ w. omega (arith, ap length (row_pairs_next args.rows.now args.base loop.v loop.left _ (one_more _ more) is w.0.taken)))
-    (λ w. omega (arith, ap length (row_pairs_skip args.rows.now args.base loop.v loop.left _ (one_more _ more) is w.0.left)))
-    c.if-value-ne-NO_PAIR.branch
+    elim c.if-value-ne-NO_PAIR.branch [
+      then-value-ne-NO_PAIR w ↦ omega (arith, ap length (row_pairs_next args.rows.now args.base loop.v loop.left _ (one_more _ more) is w.if-value-ne-NO_PAIR.true))
+    | else-value-ne-NO_PAIR w ↦ omega (arith, ap length (row_pairs_skip args.rows.now args.base loop.v loop.left _ (one_more _ more) is w.if-value-ne-NO_PAIR.false))
+    ]
 
 pub returns : goal.returns
 returns c =

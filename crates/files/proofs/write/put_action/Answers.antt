@@ -38,6 +38,6 @@ returns c =
           c.put_counts.ensures
           c.put_pairs-middle.ensures.written
           c.put_pairs-middle.ensures.ends
-          c.put_pairs-middle.ensures.written;
+          c.put_pairs.ensures.written;
       ends = omega arith;
     }

@@ -11,6 +11,7 @@ use Rattle.files.proofs.Countdown.{one_more}
 use Rattle.files.proofs.RowLaws.{row_pairs_none, row_pairs_next, row_pairs_skip}
 use Rattle.files.proofs.WritingTasks.{placed_pairs_none, placed_pairs_next, placed_pairs_skip}
 use Rattle.files.proofs.write.put_pairs.Goals as goal
+use Rattle.files.proofs.write.put_pairs.Goals.{then-value-ne-NO_PAIR, else-value-ne-NO_PAIR}
 
 pub loop-left-init : goal.loop-left-init
 loop-left-init c = (refl, refl, omega arith, refl)
@@ -33,20 +34,20 @@ loop-left-preserved c =
     let loop = c.loop-left in
     let more = c.loop-left-test.true in
     let is = c.byte_at-value.ensures.is in
-    ⊎_elim
-    (λ w. (
-      placed_pairs_next _ _ _ _ _ _ _ more is c.if-value-ne-NO_PAIR.buffer c.if-value-ne-NO_PAIR.place (w.5 ∙ w.2.ensures) w.6 w.0.taken ∙ loop.invariant.0,
-      omega (arith, ap length (row_pairs_next args.rows.now args.base loop.v loop.left _ (one_more _ more) is w.0.taken)),
-      omega arith,
-      omega (arith, ap length w.5),
-    ))
-    (λ w. (
-      placed_pairs_skip _ _ _ _ _ _ _ more is c.if-value-ne-NO_PAIR.buffer c.if-value-ne-NO_PAIR.place w.1 w.2 w.0.left ∙ loop.invariant.0,
-      omega (arith, ap length (row_pairs_skip args.rows.now args.base loop.v loop.left _ (one_more _ more) is w.0.left)),
-      omega arith,
-      omega (arith, ap length w.1),
-    ))
-    c.if-value-ne-NO_PAIR.branch
+    elim c.if-value-ne-NO_PAIR.branch [
+      then-value-ne-NO_PAIR w ↦ (
+        placed_pairs_next _ _ _ _ _ _ _ more is c.if-value-ne-NO_PAIR.buffer c.if-value-ne-NO_PAIR.place (w.buffer-is ∙ w.put_pair.ensures) w.place-is w.if-value-ne-NO_PAIR.true ∙ loop.invariant.0,
+        omega (arith, ap length (row_pairs_next args.rows.now args.base loop.v loop.left _ (one_more _ more) is w.if-value-ne-NO_PAIR.true)),
+        omega arith,
+        omega (arith, ap length w.buffer-is),
+      )
+    | else-value-ne-NO_PAIR w ↦ (
+        placed_pairs_skip _ _ _ _ _ _ _ more is c.if-value-ne-NO_PAIR.buffer c.if-value-ne-NO_PAIR.place w.buffer-is w.place-is w.if-value-ne-NO_PAIR.false ∙ loop.invariant.0,
+        omega (arith, ap length (row_pairs_skip args.rows.now args.base loop.v loop.left _ (one_more _ more) is w.if-value-ne-NO_PAIR.false)),
+        omega arith,
+        omega (arith, ap length w.buffer-is),
+      )
+    ]
 
 pub shape_of-buffer : goal.shape_of-buffer
 shape_of-buffer c = c.loop-left.invariant.3

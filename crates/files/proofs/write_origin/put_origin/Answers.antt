@@ -11,7 +11,7 @@ returns c =
       written =
           placed_origin args.numbers.now args.sizes.now args.values.now args.i _ _ _ _ _ _ _
           c.byte_at-size.ensures.is
-          c.byte_at-size.ensures.is
+          c.byte_at.ensures.is
           c.put_head.ensures
           c.put_u16.ensures
           c.put_values.ensures;
