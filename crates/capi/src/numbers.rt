@@ -5,7 +5,7 @@ ghost use Rattle.capi.specs.Numbers.{listed, outcome_numbers, checked_numbers, m
 // The numbers of an answer by name, in the order of their places: the outcome's three, rounds, cost,
 // steps; the elements written: action marks, fact marks, reduced file, origin file, table, plan file,
 // page, task file; turns. The three behind, from place 15 on, are for calls to come.
-#[derive(Drop)]
+#[derive(Clone, Copy)]
 struct Numbers {
     outcome: files::Outcome,
     rounds: usize,

@@ -13,7 +13,7 @@ pub mod table;
 // An entry of the work table: the least cost to the goal from a state, then the fewest steps at
 // that cost; 2^64 - 1 and 65,535 where the goal cannot be reached. C callers lend such tables.
 #[repr(C)]
-#[derive(Drop)]
+#[derive(Clone, Copy)]
 pub struct Entry {
     pub minutes: plans::Minutes,
     pub steps: plans::Steps,

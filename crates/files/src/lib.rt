@@ -22,7 +22,7 @@ ghost use Rattle.files.specs.TaskFile.{check_task};
 
 // What a call came to: number 0 is done, any other is a refusal; file is 1 where the place is an
 // offset in the second file handed in.
-#[derive(Drop)]
+#[derive(Clone, Copy)]
 pub struct Outcome {
     pub number: u32,
     pub file: u32,

@@ -6,7 +6,7 @@ ghost use Rattle.files.specs.Records.{offset_limit, record_end};
 use crate::records;
 
 // The file being read and the offset reached.
-#[derive(Drop)]
+#[derive(Clone, Copy)]
 pub(crate) struct Reader<'a> {
     pub(crate) file: &'a [u8],
     pub(crate) at: usize,

@@ -24,7 +24,7 @@ pub(crate) const ACTION_ORIGIN: usize = 7;
 pub(crate) const PLAN: usize = 8;
 
 // The body length rule of a kind: at least `least`, in steps of `step`, at most `limit`.
-#[derive(Drop)]
+#[derive(Clone, Copy)]
 struct Rule {
     least: usize,
     step: usize,

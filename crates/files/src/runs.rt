@@ -16,7 +16,7 @@ pub(crate) const ACCEPTED_ORIGINS: usize = 2;
 
 // Where a run's last record stands, and the first behind it, and how many more it could have had. A
 // run of no records has its start in both places.
-#[derive(Drop)]
+#[derive(Clone, Copy)]
 pub(crate) struct Run {
     pub(crate) before: usize,
     pub(crate) at: usize,

@@ -5,20 +5,20 @@ ghost use Rattle.files.specs.Clauses.{IsBelow};
 
 // A cost. C callers lend entries that hold one.
 #[repr(C)]
-#[derive(Drop)]
+#[derive(Clone, Copy)]
 pub struct Minutes(pub u64);
 
 // A number of steps. C callers lend entries that hold one.
 #[repr(C)]
-#[derive(Drop)]
+#[derive(Clone, Copy)]
 pub struct Steps(pub u16);
 
 // An action's number in the full task.
-#[derive(Drop)]
+#[derive(Clone, Copy)]
 pub struct OriginalAction(pub u16);
 
 // An action's number in the reduced task.
-#[derive(Drop)]
+#[derive(Clone, Copy)]
 pub struct ReducedAction(pub u16);
 
 // The minutes of a cost.

@@ -12,7 +12,7 @@ pub const MOST_NUMBERS: usize = 1536;
 const NO_PAIR: usize = limits::NO_PAIR as usize;
 
 // What the effects of an action add to the number of a state, and what their conditions take away.
-#[derive(Drop)]
+#[derive(Clone, Copy)]
 struct Sums {
     set: u64,
     asked: u64,

@@ -16,7 +16,7 @@ ghost use Rattle.marking.specs.Mark.{MarksFile, mark_buffers};
 use files::outcomes;
 
 // What marking answers: both lengths written and the round count, 0 beside a refusal.
-#[derive(Drop)]
+#[derive(Clone, Copy)]
 pub struct Marked {
     pub outcome: files::Outcome,
     pub action_marks: usize,

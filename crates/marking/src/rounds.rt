@@ -10,7 +10,7 @@ use crate::{Marked, cover_table, covering, gains, links, results};
 use files::{limits, outcomes};
 
 // The level, and how many variables and actions the task has.
-#[derive(Drop)]
+#[derive(Clone, Copy)]
 pub struct Scope {
     pub level: u32,
     pub variables: usize,
@@ -18,7 +18,7 @@ pub struct Scope {
 }
 
 // The marks after the last round: kept actions, relevant facts, and of those the unlinked ones.
-#[derive(Drop)]
+#[derive(Clone, Copy)]
 pub struct Marks {
     pub kept: [u8; 512],
     pub facts: [u8; 2048],

@@ -13,7 +13,7 @@ use files::outcomes;
 pub use files::units::{Minutes, OriginalAction, ReducedAction, Steps};
 
 // What the plan checker answers: cost and steps are 0 beside a refusal.
-#[derive(Drop)]
+#[derive(Clone, Copy)]
 pub struct Checked {
     pub outcome: files::Outcome,
     pub cost: Minutes,

@@ -9,7 +9,7 @@ use crate::{Minutes, Steps, rows};
 
 // An action: its cost and, for each variable, the value that it asks and the value that it sets,
 // 255 where there is none.
-#[derive(Drop)]
+#[derive(Clone, Copy)]
 pub struct Row {
     pub cost: Minutes,
     pub conditions: [u8; 64],
@@ -17,7 +17,7 @@ pub struct Row {
 }
 
 // The state that a plan has reached, and the minutes and steps that it took.
-#[derive(Drop)]
+#[derive(Clone, Copy)]
 pub struct Tally {
     pub state: [u8; 64],
     pub minutes: Minutes,

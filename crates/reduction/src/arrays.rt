@@ -10,7 +10,7 @@ use files::outcomes;
 use marking::rounds::Scope;
 
 // How many variables and actions the reduced task has.
-#[derive(Drop)]
+#[derive(Clone, Copy)]
 pub struct Counts {
     pub variables: usize,
     pub actions: usize,
@@ -77,7 +77,7 @@ pub fn fill(
 }
 
 // What came of writing the files, and how many bytes each has or would have had.
-#[derive(Drop)]
+#[derive(Clone, Copy)]
 pub struct Written {
     pub outcome: files::Outcome,
     pub reduced: usize,

@@ -23,7 +23,7 @@ const IN_TURNS: u32 = 5;
 
 // What reduction answers: the four lengths written, the round count and the turn count, 0 beside a
 // refusal.
-#[derive(Drop)]
+#[derive(Clone, Copy)]
 pub struct Reduced {
     pub outcome: files::Outcome,
     pub action_marks: usize,

@@ -6,7 +6,7 @@ use crate::{arrays, chosen, named, origins, reach};
 use marking::rounds::Scope;
 
 // How many variables and actions a turn leaves, and whether it left the task as it found it.
-#[derive(Drop)]
+#[derive(Clone, Copy)]
 struct Left {
     variables: usize,
     actions: usize,
@@ -124,7 +124,7 @@ fn turn(
 pub const LEVEL: u32 = 4;
 
 // How many variables and actions the turns leave, and how many turns there were.
-#[derive(Drop)]
+#[derive(Clone, Copy)]
 pub struct Turned {
     pub variables: usize,
     pub actions: usize,

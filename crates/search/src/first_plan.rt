@@ -12,7 +12,7 @@ use plans::{Minutes, ReducedAction};
 
 // An action, and the state that it leads to. Where the action is not applicable or too dear that is
 // the state itself, whose entry with a step more is never its own.
-#[derive(Drop)]
+#[derive(Clone, Copy)]
 pub struct Step {
     pub action: ReducedAction,
     pub next: usize,

@@ -13,7 +13,7 @@ ghost use Rattle.search.specs.PlannerRight.{PlansRight};
 
 // What the planner answers: the six lengths written, the round count, the turn count, cost and
 // steps, 0 beside a refusal.
-#[derive(Drop)]
+#[derive(Clone, Copy)]
 pub struct Planned {
     pub outcome: files::Outcome,
     pub action_marks: usize,

@@ -17,7 +17,7 @@ use plans::{Minutes, Steps};
 // What the search of a task comes to before its plan is read off: how many entries are filled, the
 // number of the start state, the sizes of the task, the length of the origin file, and where the
 // record of its actions stands. All 0 beside a refusal.
-#[derive(Drop)]
+#[derive(Clone, Copy)]
 pub struct Searched {
     pub outcome: files::Outcome,
     pub states: usize,
@@ -30,7 +30,7 @@ pub struct Searched {
 
 // What the search of a task comes to: the entries filled, also beside 24 and the plan buffer's 21,
 // and the plan file's length, cost and steps, 0 beside a refusal.
-#[derive(Drop)]
+#[derive(Clone, Copy)]
 pub struct Found {
     pub outcome: files::Outcome,
     pub states: usize,

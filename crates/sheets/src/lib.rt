@@ -14,7 +14,7 @@ use plans::{Minutes, Steps};
 pub const MOST_PAGE: usize = lines::LINE * (files::limits::MOST_STEPS + 1);
 
 // What the call answers: the bytes of the page, and the plan's cost and steps; 0 beside a refusal.
-#[derive(Drop)]
+#[derive(Clone, Copy)]
 pub struct Laid {
     pub outcome: files::Outcome,
     pub page: usize,

@@ -44,21 +44,21 @@ const MOST: usize = 1048576;
 pub const NONE: usize = 1048577;
 
 // How far a text is read: up to an offset, or up to a refusal.
-#[derive(Drop)]
+#[derive(Clone, Copy)]
 pub struct Cursor {
     pub outcome: Outcome,
     pub at: usize,
 }
 
 // A number that was read, 0 beside a refusal.
-#[derive(Drop)]
+#[derive(Clone, Copy)]
 pub struct ReadNumber {
     pub cursor: Cursor,
     pub value: usize,
 }
 
 // Digits: how many there are, and the number that they state.
-#[derive(Drop)]
+#[derive(Clone, Copy)]
 struct Found {
     count: usize,
     value: usize,

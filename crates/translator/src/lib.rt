@@ -15,7 +15,7 @@ ghost use Rattle.translator.specs.Translate.{Translates, no_file};
 use files::{Outcome, outcomes, write};
 
 // What the call answers: the bytes of the task file; 0 beside a refusal.
-#[derive(Drop)]
+#[derive(Clone, Copy)]
 pub struct Translated {
     pub outcome: Outcome,
     pub file: usize,

@@ -8,7 +8,7 @@ use crate::{fields, groups, lists, operators, variables};
 use files::{Outcome, bytes, limits, outcomes};
 
 // What is read up to the start values.
-#[derive(Drop)]
+#[derive(Clone, Copy)]
 pub struct Begun {
     pub cursor: Cursor,
     pub metric: usize,
@@ -16,7 +16,7 @@ pub struct Begun {
 }
 
 // What a text came to, and how many variables and actions its task has.
-#[derive(Drop)]
+#[derive(Clone, Copy)]
 pub struct Finished {
     pub outcome: Outcome,
     pub variables: usize,

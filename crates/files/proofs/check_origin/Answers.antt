@@ -1,5 +1,4 @@
 -- The size, as many variable origins as stand in a row, the record of action origins behind them, and the sign-off.
-use borrow.Author.Rules.{rules}
 use Rattle.files.specs.OriginFile.{check_origin}
 use Rattle.files.specs.Records.{size_fits}
 use Rattle.files.proofs.Guards.{forms}

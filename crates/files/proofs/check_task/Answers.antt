@@ -1,5 +1,4 @@
 -- The size, the header, as many variables as it states, the goal behind them, and the actions with the sign-off behind that.
-use borrow.Author.Rules.{rules}
 use Rattle.files.specs.Records.{size_fits}
 use Rattle.files.specs.TaskFile.{check_task}
 use Rattle.files.proofs.Guards.{forms}

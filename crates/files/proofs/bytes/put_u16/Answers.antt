@@ -2,7 +2,6 @@
 use native.Mathlib.Omega.{arith}
 use mathlib.Core.Path.{refl}
 use lib.ListN.{length-set}
-use borrow.Author.Rules.{rules}
 use Rattle.files.specs.Bytes.{placed, u16_bytes}
 use Rattle.files.proofs.bytes.put_u16.Goals as goal
 

@@ -1,7 +1,6 @@
 -- The lower two bytes are those of `u16Bytes`, and the upper two stand behind them.
 use native.Mathlib.Omega.{arith}
 use lib.ListN.{length-set}
-use borrow.Author.Rules.{rules}
 use Rattle.files.proofs.Writing.{placed_u32}
 use Rattle.files.proofs.bytes.put_u32.Goals as goal
 

@@ -1,10 +1,7 @@
-use Prim.Native.Nat.{◌+◌, ◌≤◌}
-use mathlib.Core.Path.{◌≡◌, ◌∙◌}
+use mathlib.Core.Path.{◌∙◌}
 use native.Mathlib.Omega.{arith}
-use lib.ListN.{length, length-set}
-use Rattle.files.specs.Rows.{cleared}
+use lib.ListN.{length-set}
 use Rattle.files.proofs.Decoding.{cleared_next, cleared_none}
-use borrow.Author.Rules.{rules}
 use Rattle.files.proofs.decode.clear_row.Goals as goal
 
 pub loop-left-preserved : goal.loop-left-preserved

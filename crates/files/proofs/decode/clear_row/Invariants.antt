@@ -1,11 +1,8 @@
 -- The loop's invariant: clearing what is left of the row gives the whole row cleared.
 use Prim.Native.Nat.{◌+◌, ◌≤◌}
-use mathlib.Core.Path.{◌≡◌, ◌∙◌}
-use native.Mathlib.Omega.{arith}
-use lib.ListN.{length, length-set}
+use mathlib.Core.Path.{◌≡◌}
+use lib.ListN.{length}
 use Rattle.files.specs.Rows.{cleared}
-use Rattle.files.proofs.Decoding.{cleared_next, cleared_none}
-use borrow.Author.Rules.{rules}
 use Rattle.files.proofs.decode.clear_row.Given as goal
 
 abbrev pub invariant-loop-left : goal.invariant-loop-left

@@ -25,9 +25,9 @@ loop-a-preserved c =
     let file = ap (λ (b : Bor (List ℕ)). b.now) c.past-reader.ensures.file ∙ c.loop-a.invariant.0 in
     let at : c.past-reader.result.at ≡ record_end c.args.s.now c.loop-a.reader.at = c.past-reader.ensures.is ∙ ap (λ (s : List ℕ). record_end s c.loop-a.reader.at) c.loop-a.invariant.0 in
     let next : CostsReading c.args.s.now c.args.at c.args.count c.args.costs.now (record_end c.args.s.now c.loop-a.reader.at) (c.loop-a.a + 1) (c.args.count - (c.loop-a.a + 1)) c.read_cost.new.costs =
-      costs_go_on c.args.s.now c.args.at c.args.count c.args.costs.now c.loop-a.reader.at c.loop-a.a (c.args.count - (c.loop-a.a + 1)) c.loop-a.costs c.read_cost.new.costs
-      (subst (λ (k : ℕ). CostsReading c.args.s.now c.args.at c.args.count c.args.costs.now c.loop-a.reader.at c.loop-a.a k c.loop-a.costs) e c.loop-a.invariant.2)
-      c.read_cost.ensures (search rules) (subst (λ (m : ℕ). m < c.loop-a.reader.at + 65540) at c.past-reader.ensures.below) in
+    costs_go_on c.args.s.now c.args.at c.args.count c.args.costs.now c.loop-a.reader.at c.loop-a.a (c.args.count - (c.loop-a.a + 1)) c.loop-a.costs c.read_cost.new.costs
+    (subst (λ (k : ℕ). CostsReading c.args.s.now c.args.at c.args.count c.args.costs.now c.loop-a.reader.at c.loop-a.a k c.loop-a.costs) e c.loop-a.invariant.2)
+    c.read_cost.ensures (search rules) (subst (λ (m : ℕ). m < c.loop-a.reader.at + 65540) at c.past-reader.ensures.below) in
     (file, omega (arith, c.loop-a-test.true), subst (λ (p : ℕ). CostsReading c.args.s.now c.args.at c.args.count c.args.costs.now p (c.loop-a.a + 1) (c.args.count - (c.loop-a.a + 1)) c.read_cost.new.costs) (sym at) next)
 
 pub returns : goal.returns

@@ -1,8 +1,3 @@
-use Prim.Native.Nat.{◌+◌, ◌*◌, ◌^◌, ◌≤◌, ◌<◌}
-use mathlib.Core.Path.{◌≡◌}
-use lib.ListN.{length}
-use Rattle.files.specs.TaskFile.{pairs_from}
-use Rattle.files.specs.Rows.{filled}
 use Rattle.files.proofs.Decoding.{filled_next, filled_none}
 use borrow.Author.Rules.{rules}
 use Rattle.files.proofs.decode.fill_row.Goals as goal

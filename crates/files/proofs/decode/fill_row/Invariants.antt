@@ -4,8 +4,6 @@ use mathlib.Core.Path.{◌≡◌}
 use lib.ListN.{length}
 use Rattle.files.specs.TaskFile.{pairs_from}
 use Rattle.files.specs.Rows.{filled}
-use Rattle.files.proofs.Decoding.{filled_next, filled_none}
-use borrow.Author.Rules.{rules}
 use Rattle.files.proofs.decode.fill_row.Given as goal
 
 abbrev pub invariant-loop-left : goal.invariant-loop-left

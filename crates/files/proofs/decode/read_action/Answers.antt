@@ -1,5 +1,4 @@
 -- The cost is read, and each row is cleared and filled.
-use borrow.Author.Rules.{rules}
 use Rattle.files.proofs.Decoding.{action_read}
 use Rattle.files.proofs.decode.read_action.Goals as goal
 

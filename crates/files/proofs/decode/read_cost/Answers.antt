@@ -1,5 +1,4 @@
 -- The cost that stands four bytes into the record is written into the entry of its action.
-use borrow.Author.Rules.{rules}
 use Rattle.files.proofs.decode.read_cost.Goals as goal
 
 pub returns : goal.returns

@@ -1,12 +1,8 @@
-use Prim.Native.Nat.{◌+◌, ◌*◌, ◌%◌, ◌≤◌}
-use mathlib.Core.Path.{◌≡◌, ◌∙◌}
+use Prim.Native.Nat.{◌%◌}
+use mathlib.Core.Path.{◌∙◌}
 use native.Mathlib.Omega.{arith}
-use lib.ListN.{length, length-set}
-use Rattle.files.specs.Bytes.{placed}
-use Rattle.files.specs.TaskFile.{variables_from}
-use Rattle.files.specs.Rows.{stored_sizes, stored_starts}
+use lib.ListN.{length-set}
 use Rattle.files.proofs.Decoding.{sizes_next, sizes_none, starts_next, starts_none}
-use borrow.Author.Rules.{rules}
 use Rattle.files.proofs.decode.read_variables.Goals as goal
 
 pub loop-left-preserved : goal.loop-left-preserved

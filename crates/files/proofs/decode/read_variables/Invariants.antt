@@ -1,13 +1,10 @@
 -- The loop's invariant: placing what is left of the sizes and the starts gives all of them placed.
-use Prim.Native.Nat.{◌+◌, ◌*◌, ◌%◌, ◌≤◌}
-use mathlib.Core.Path.{◌≡◌, ◌∙◌}
-use native.Mathlib.Omega.{arith}
-use lib.ListN.{length, length-set}
+use Prim.Native.Nat.{◌+◌, ◌*◌, ◌≤◌}
+use mathlib.Core.Path.{◌≡◌}
+use lib.ListN.{length}
 use Rattle.files.specs.Bytes.{placed}
 use Rattle.files.specs.TaskFile.{variables_from}
 use Rattle.files.specs.Rows.{stored_sizes, stored_starts}
-use Rattle.files.proofs.Decoding.{sizes_next, sizes_none, starts_next, starts_none}
-use borrow.Author.Rules.{rules}
 use Rattle.files.proofs.decode.read_variables.Given as goal
 
 abbrev pub invariant-loop-left : goal.invariant-loop-left

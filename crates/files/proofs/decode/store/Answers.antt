@@ -1,6 +1,5 @@
 -- A cell is stored exactly for a variable below 64.
 use Rattle.files.proofs.Decoding.{stored_below, stored_above}
-use borrow.Author.Rules.{rules}
 use Rattle.files.proofs.decode.store.Goals as goal
 
 pub returns-then-variable-lt-ROW : goal.returns-then-variable-lt-ROW

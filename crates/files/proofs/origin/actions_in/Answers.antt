@@ -2,7 +2,6 @@
 use Prim.Native.Nat.{ℕ, ◌+◌, ◌/◌}
 use mathlib.Core.Path.{ap, sym, ◌∙◌}
 use native.Mathlib.Omega.{arith}
-use borrow.Author.Rules.{rules}
 use Rattle.files.specs.OriginFile.{origin_of, origin_actions_place}
 use Rattle.files.specs.Records.{body_length}
 use Rattle.files.proofs.Numbers.{numbers_length}

@@ -1,7 +1,6 @@
 -- It stands behind the run of variable origins.
 use native.Mathlib.Omega.{arith}
 use Rattle.files.proofs.RunLaws.{origins_passed}
-use borrow.Author.Rules.{rules}
 use Rattle.files.proofs.origin.actions_place.Goals as goal
 
 pub returns : goal.returns

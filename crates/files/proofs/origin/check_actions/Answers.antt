@@ -1,7 +1,4 @@
-use Prim.Native.Nat.{◌+◌, ◌*◌, ◌^◌, ◌<◌}
-use mathlib.Core.Path.{◌≡◌}
 use borrow.Author.Rules.{rules}
-use Rattle.files.specs.OriginFile.{action_origins_at}
 use Rattle.files.proofs.Steps.{action_origins_none, action_origins_fall, action_origins_stop, action_origins_next}
 use Rattle.files.proofs.origin.check_actions.Goals as goal
 

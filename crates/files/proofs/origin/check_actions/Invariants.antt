@@ -1,9 +1,7 @@
 -- The loop's invariant: the check of `left` numbers from `place` on, the first at least `at_least`, is the check from the start.
 use Prim.Native.Nat.{◌+◌, ◌*◌, ◌^◌, ◌<◌}
 use mathlib.Core.Path.{◌≡◌}
-use borrow.Author.Rules.{rules}
 use Rattle.files.specs.OriginFile.{action_origins_at}
-use Rattle.files.proofs.Steps.{action_origins_none, action_origins_fall, action_origins_stop, action_origins_next}
 use Rattle.files.proofs.origin.check_actions.Given as goal
 
 abbrev pub invariant-loop-left : goal.invariant-loop-left

@@ -1,5 +1,4 @@
 -- The check of the origin, with the least variable that it may have.
-use borrow.Author.Rules.{rules}
 use Rattle.files.proofs.origin.check_after.Goals as goal
 
 pub returns : goal.returns

@@ -1,5 +1,4 @@
 -- Each test is the negation of the definition's at the same place, then as many values as the body holds.
-use borrow.Author.Rules.{rules}
 use Rattle.files.specs.OriginFile.{variable_origin_at}
 use Rattle.files.proofs.Guards.{forms}
 use Rattle.files.proofs.origin.check_variable.Goals as goal

@@ -1,6 +1,5 @@
 -- The run of accepted variable origins has all of them, or ends before one that is refused.
 use Rattle.files.proofs.RunLaws.{origins_taken, origins_refused}
-use borrow.Author.Rules.{rules}
 use Rattle.files.proofs.origin.check_variables.Goals as goal
 
 pub returns-then-run-gt0 : goal.returns-then-run-gt0

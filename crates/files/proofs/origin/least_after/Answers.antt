@@ -1,6 +1,5 @@
 -- The first has itself before it.
 use Rattle.files.proofs.RunLaws.{least_first, least_later}
-use borrow.Author.Rules.{rules}
 use Rattle.files.proofs.origin.least_after.Goals as goal
 
 pub returns-then-before-at : goal.returns-then-before-at

@@ -2,7 +2,6 @@
 use Prim.Native.Nat.{ℕ, ◌+◌, ◌*◌, ◌/◌}
 use mathlib.Core.Path.{sym, ap, ◌∙◌}
 use native.Mathlib.Omega.{arith}
-use borrow.Author.Rules.{rules}
 use Rattle.files.specs.Bytes.{u16_at}
 use Rattle.files.specs.OriginFile.{origin_of, origin_actions_place}
 use Rattle.files.specs.Records.{body_length}

@@ -1,7 +1,6 @@
 -- It stands behind the run of the records before it.
 use native.Mathlib.Omega.{arith}
 use Rattle.files.proofs.RunLaws.{records_passed}
-use borrow.Author.Rules.{rules}
 use Rattle.files.proofs.origin.variable_place.Goals as goal
 
 pub returns : goal.returns

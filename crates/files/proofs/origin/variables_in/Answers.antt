@@ -1,7 +1,6 @@
 -- The run of variable origins has as many as it could have, without those that are left.
 use native.Mathlib.Omega.{arith}
 use Rattle.files.proofs.RunLaws.{origins_counted}
-use borrow.Author.Rules.{rules}
 use Rattle.files.proofs.origin.variables_in.Goals as goal
 
 pub returns : goal.returns

@@ -1,5 +1,4 @@
 -- The size, the head, as many numbers as the body holds, then the sign-off behind the record.
-use borrow.Author.Rules.{rules}
 use Rattle.files.specs.PlanFile.{check_plan_file, steps_in}
 use Rattle.files.specs.Records.{size_fits}
 use Rattle.files.proofs.Guards.{forms}

@@ -2,7 +2,6 @@
 use Prim.Native.Nat.{◌<◌}
 use mathlib.Core.Path.{sym, ◌∙◌}
 use native.Mathlib.Omega.{arith}
-use borrow.Author.Rules.{rules}
 use Rattle.files.specs.Bytes.{u16_at}
 use Rattle.files.specs.PlanFile.{plan_of, steps_in}
 use Rattle.files.specs.Records.{body_length}

@@ -1,5 +1,4 @@
 -- Each test is the negation of the definition's at the same place.
-use borrow.Author.Rules.{rules}
 use borrow.Author.Tests.{ne_eqb}
 use Rattle.files.specs.Records.{body_fits}
 use Rattle.files.proofs.Guards.{forms}

@@ -1,6 +1,5 @@
 -- Each test is the negation of the definition's at the same place, and the body is checked by the rule of its kind.
 use mathlib.Core.Path.{ap, ◌∙◌}
-use borrow.Author.Rules.{rules}
 use borrow.Author.Tests.{ne_eqb}
 use Rattle.files.specs.Records.{body_rule, head_at}
 use Rattle.files.proofs.Guards.{forms}

@@ -1,7 +1,4 @@
-use Prim.Native.Nat.{◌+◌, ◌*◌, ◌^◌, ◌<◌}
-use mathlib.Core.Path.{◌≡◌}
 use borrow.Author.Rules.{rules}
-use Rattle.files.specs.Records.{numbers_at}
 use Rattle.files.proofs.Steps.{numbers_none, numbers_stop, numbers_next}
 use Rattle.files.proofs.records.check_numbers.Goals as goal
 

@@ -1,9 +1,7 @@
 -- The loop's invariant: the check of `left` numbers from `place` on is the check from the start.
 use Prim.Native.Nat.{◌+◌, ◌*◌, ◌^◌, ◌<◌}
 use mathlib.Core.Path.{◌≡◌}
-use borrow.Author.Rules.{rules}
 use Rattle.files.specs.Records.{numbers_at}
-use Rattle.files.proofs.Steps.{numbers_none, numbers_stop, numbers_next}
 use Rattle.files.proofs.records.check_numbers.Given as goal
 
 abbrev pub invariant-loop-left : goal.invariant-loop-left

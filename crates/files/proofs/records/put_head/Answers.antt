@@ -1,6 +1,5 @@
 -- The kind stands behind the body length.
 use mathlib.Core.Path.{refl, ◌∙◌}
-use borrow.Author.Rules.{rules}
 use Rattle.files.proofs.Writing.{placed_u16_then}
 use Rattle.files.proofs.records.put_head.Goals as goal
 

@@ -1,7 +1,6 @@
 -- Behind the head of a body of 8 bytes stand the signer and the count of bytes before it.
 use native.Mathlib.Omega.{arith}
 use mathlib.Core.Path.{refl, ◌∙◌}
-use borrow.Author.Rules.{rules}
 use Rattle.files.specs.Bytes.{u16_bytes, u32_bytes}
 use Rattle.files.proofs.Writing.{placed_u32_then, placed_record}
 use Rattle.files.proofs.records.put_sign_off.Goals as goal

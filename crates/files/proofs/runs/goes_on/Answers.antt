@@ -1,6 +1,5 @@
 -- A run ends where none is left to take.
 use Rattle.files.proofs.RunLaws.{goes_none, goes_some}
-use borrow.Author.Rules.{rules}
 use Rattle.files.proofs.runs.goes_on.Goals as goal
 
 pub returns-then-left-eq0 : goal.returns-then-left-eq0

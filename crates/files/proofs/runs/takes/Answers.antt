@@ -1,6 +1,5 @@
 -- Each sort is told by its number.
 use Rattle.files.proofs.RunLaws.{takes_any, takes_origin, takes_accepted}
-use borrow.Author.Rules.{rules}
 use Rattle.files.proofs.runs.takes.Goals as goal
 
 pub returns-then-sort-eq-ANY : goal.returns-then-sort-eq-ANY

@@ -5,7 +5,6 @@ use Prim.Native.Nat.{ℕ}
 use Rattle.files.specs.Records.{records_end}
 use Rattle.files.specs.TaskFile.{action_place}
 use Rattle.files.proofs.RunLaws.{records_passed}
-use borrow.Author.Rules.{rules}
 use Rattle.files.proofs.task.action_place.Goals as goal
 
 pub returns : goal.returns

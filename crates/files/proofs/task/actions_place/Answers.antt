@@ -1,6 +1,5 @@
 -- The definition is the end of the goal's record.
 use native.Mathlib.Omega.{arith}
-use borrow.Author.Rules.{rules}
 use Rattle.files.specs.TaskFile.{actions_place}
 use Rattle.files.proofs.task.actions_place.Goals as goal
 

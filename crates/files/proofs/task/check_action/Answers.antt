@@ -1,5 +1,4 @@
 -- The head, the form, then the conditions and the effects, each list where the counts say.
-use borrow.Author.Rules.{rules}
 use Rattle.files.specs.TaskFile.{action_at}
 use Rattle.files.proofs.Guards.{forms}
 use Rattle.files.proofs.task.check_action.Goals as goal

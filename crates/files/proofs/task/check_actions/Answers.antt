@@ -1,7 +1,6 @@
-use Rattle.std.proofs.Common.{◌≡◌, ◌-◌, ◌+◌, ◌<◌, ℕ, List, Bor, refl, ap, arith, rules}
+use Rattle.std.proofs.Common.{◌≡◌, ℕ, List, Bor, refl, ap, arith}
 use mathlib.Core.Path.{◌∙◌}
 use Rattle.files.specs.Records.{record_end}
-use Rattle.files.specs.TaskFile.{actions_at}
 use Rattle.files.proofs.Steps.{actions_none, actions_stop, actions_next}
 use Rattle.files.proofs.task.check_actions.Goals as goal
 

@@ -1,5 +1,4 @@
 -- The head, then as many pairs as the body holds.
-use borrow.Author.Rules.{rules}
 use Rattle.files.specs.TaskFile.{goal_at}
 use Rattle.files.proofs.Guards.{forms}
 use Rattle.files.proofs.task.check_goal.Goals as goal

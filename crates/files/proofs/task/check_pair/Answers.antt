@@ -1,5 +1,4 @@
 -- Each test is the negation of the definition's at the same place.
-use borrow.Author.Rules.{rules}
 use Rattle.files.specs.TaskFile.{pair_at}
 use Rattle.files.proofs.Guards.{forms}
 use Rattle.files.proofs.task.check_pair.Goals as goal

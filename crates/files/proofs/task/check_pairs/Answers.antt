@@ -1,7 +1,4 @@
-use Prim.Native.Nat.{◌+◌, ◌*◌, ◌^◌, ◌<◌}
-use mathlib.Core.Path.{◌≡◌}
 use borrow.Author.Rules.{rules}
-use Rattle.files.specs.TaskFile.{pairs_at}
 use Rattle.files.proofs.Steps.{pairs_none, pairs_stop, pairs_next}
 use Rattle.files.proofs.task.check_pairs.Goals as goal
 

@@ -1,9 +1,7 @@
 -- The loop's invariant: the check of `left` pairs from `place` on, the first variable at least `at_least`, is the check from the start.
 use Prim.Native.Nat.{◌+◌, ◌*◌, ◌^◌, ◌<◌}
 use mathlib.Core.Path.{◌≡◌}
-use borrow.Author.Rules.{rules}
 use Rattle.files.specs.TaskFile.{pairs_at}
-use Rattle.files.proofs.Steps.{pairs_none, pairs_stop, pairs_next}
 use Rattle.files.proofs.task.check_pairs.Given as goal
 
 abbrev pub invariant-loop-left : goal.invariant-loop-left

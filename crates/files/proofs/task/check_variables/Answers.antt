@@ -1,8 +1,4 @@
-use Prim.Native.Nat.{◌+◌, ◌*◌, ◌<◌}
-use mathlib.Core.Path.{◌≡◌}
 use borrow.Author.Rules.{rules}
-use Rattle.files.specs.Records.{offset_limit}
-use Rattle.files.specs.TaskFile.{variables_at}
 use Rattle.files.proofs.Steps.{variables_none, variables_stop, variables_next}
 use Rattle.files.proofs.task.check_variables.Goals as goal
 

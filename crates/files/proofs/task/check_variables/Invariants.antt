@@ -1,10 +1,8 @@
 -- The loop's invariant: the check of `left` variables from `place` on is the check from the start.
 use Prim.Native.Nat.{◌+◌, ◌*◌, ◌<◌}
 use mathlib.Core.Path.{◌≡◌}
-use borrow.Author.Rules.{rules}
 use Rattle.files.specs.Records.{offset_limit}
 use Rattle.files.specs.TaskFile.{variables_at}
-use Rattle.files.proofs.Steps.{variables_none, variables_stop, variables_next}
 use Rattle.files.proofs.task.check_variables.Given as goal
 
 abbrev pub invariant-loop-left : goal.invariant-loop-left

@@ -1,6 +1,5 @@
 -- The variable's number is read, then its size.
 use mathlib.Core.Path.{ap, ◌∙◌}
-use borrow.Author.Rules.{rules}
 use Rattle.files.specs.TaskFile.{size_at}
 use Rattle.files.proofs.task.size_at.Goals as goal
 

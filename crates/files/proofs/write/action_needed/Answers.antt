@@ -1,6 +1,5 @@
 -- The head, cost and counts take 12 bytes, and each pair takes 4.
 use native.Mathlib.Omega.{arith}
-use borrow.Author.Rules.{rules}
 use Rattle.files.specs.Lengths.{action_needed}
 use Rattle.files.proofs.write.action_needed.Goals as goal
 

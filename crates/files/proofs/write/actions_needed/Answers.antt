@@ -1,8 +1,4 @@
-use Prim.Native.Nat.{◌+◌, ◌*◌, ◌≤◌}
-use mathlib.Core.Path.{◌≡◌}
 use native.Mathlib.Omega.{arith}
-use borrow.Author.Rules.{rules}
-use Rattle.files.specs.Lengths.{actions_needed}
 use Rattle.files.proofs.WritingTasks.{actions_needed_none, actions_needed_next}
 use Rattle.files.proofs.write.actions_needed.Goals as goal
 

@@ -1,10 +1,7 @@
 -- The loop's invariant: the bytes counted and those of the actions left are all the bytes.
 use Prim.Native.Nat.{◌+◌, ◌*◌, ◌≤◌}
 use mathlib.Core.Path.{◌≡◌}
-use native.Mathlib.Omega.{arith}
-use borrow.Author.Rules.{rules}
 use Rattle.files.specs.Lengths.{actions_needed}
-use Rattle.files.proofs.WritingTasks.{actions_needed_none, actions_needed_next}
 use Rattle.files.proofs.write.actions_needed.Given as goal
 
 abbrev pub invariant-loop-left : goal.invariant-loop-left

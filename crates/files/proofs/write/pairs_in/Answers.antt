@@ -1,10 +1,6 @@
-use Prim.Native.Nat.{◌+◌, ◌≤◌}
-use mathlib.Core.Path.{◌≡◌, ap}
-use mathlib.Core.Logic.{⊎_elim}
+use mathlib.Core.Path.{ap}
 use native.Mathlib.Omega.{arith}
 use lib.ListN.{length}
-use borrow.Author.Rules.{rules}
-use Rattle.files.specs.Dense.{row_pairs}
 use Rattle.files.proofs.Countdown.{one_more}
 use Rattle.files.proofs.RowLaws.{row_pairs_none, row_pairs_next, row_pairs_skip}
 use Rattle.files.proofs.write.pairs_in.Goals as goal
@@ -17,8 +13,8 @@ loop-left-preserved c =
     let more = c.loop-left-test.true in
     let is = c.byte_at-value.ensures.is in
     elim c.if-value-ne-NO_PAIR.branch [
-      then-value-ne-NO_PAIR w ↦ omega (arith, ap length (row_pairs_next args.rows.now args.base loop.v loop.left _ (one_more _ more) is w.if-value-ne-NO_PAIR.true))
-    | else-value-ne-NO_PAIR w ↦ omega (arith, ap length (row_pairs_skip args.rows.now args.base loop.v loop.left _ (one_more _ more) is w.if-value-ne-NO_PAIR.false))
+      | then-value-ne-NO_PAIR w ↦ omega (arith, ap length (row_pairs_next args.rows.now args.base loop.v loop.left _ (one_more _ more) is w.if-value-ne-NO_PAIR.true))
+      | else-value-ne-NO_PAIR w ↦ omega (arith, ap length (row_pairs_skip args.rows.now args.base loop.v loop.left _ (one_more _ more) is w.if-value-ne-NO_PAIR.false))
     ]
 
 pub returns : goal.returns

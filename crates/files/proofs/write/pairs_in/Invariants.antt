@@ -1,13 +1,8 @@
 -- The loop's invariant: the pairs found and those of the entries left are all the pairs.
 use Prim.Native.Nat.{◌+◌, ◌≤◌}
-use mathlib.Core.Path.{◌≡◌, ap}
-use mathlib.Core.Logic.{⊎_elim}
-use native.Mathlib.Omega.{arith}
+use mathlib.Core.Path.{◌≡◌}
 use lib.ListN.{length}
-use borrow.Author.Rules.{rules}
 use Rattle.files.specs.Dense.{row_pairs}
-use Rattle.files.proofs.Countdown.{one_more}
-use Rattle.files.proofs.RowLaws.{row_pairs_none, row_pairs_next, row_pairs_skip}
 use Rattle.files.proofs.write.pairs_in.Given as goal
 
 abbrev pub invariant-loop-left : goal.invariant-loop-left

@@ -1,12 +1,7 @@
-use Prim.Native.Nat.{◌+◌}
-use mathlib.Core.Path.{◌≡◌, refl, ◌∙◌}
+use mathlib.Core.Path.{refl, ◌∙◌}
 use native.Mathlib.Omega.{arith}
-use lib.ListN.{length}
 use borrow.Author.Rules.{rules}
-use Rattle.files.specs.Below.{tabulate, tabulate_from}
-use Rattle.files.specs.Bytes.{placed}
 use Rattle.files.specs.Dense.{row_action}
-use Rattle.files.specs.Lengths.{actions_needed}
 use Rattle.files.specs.Records.{record_bytes}
 use Rattle.files.specs.Task.{Action}
 use Rattle.files.specs.TaskFile.{action_body, action_bytes}

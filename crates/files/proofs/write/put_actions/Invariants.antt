@@ -1,19 +1,12 @@
 -- The loop's invariant: the records left, placed behind those that stand, make all the records, and so do their bytes.
 use Prim.Native.Nat.{◌+◌}
-use mathlib.Core.Path.{◌≡◌, refl, ◌∙◌}
-use native.Mathlib.Omega.{arith}
+use mathlib.Core.Path.{◌≡◌}
 use lib.ListN.{length}
-use borrow.Author.Rules.{rules}
 use Rattle.files.specs.Below.{tabulate, tabulate_from}
 use Rattle.files.specs.Bytes.{placed}
 use Rattle.files.specs.Dense.{row_action}
 use Rattle.files.specs.Lengths.{actions_needed}
-use Rattle.files.specs.Records.{record_bytes}
-use Rattle.files.specs.Task.{Action}
-use Rattle.files.specs.TaskFile.{action_body, action_bytes}
-use Rattle.files.proofs.Lengths.{row_action_length}
-use Rattle.files.proofs.Writing.{placed_none, placed_next}
-use Rattle.files.proofs.WritingTasks.{actions_needed_none, actions_needed_next}
+use Rattle.files.specs.TaskFile.{action_bytes}
 use Rattle.files.proofs.write.put_actions.Given as goal
 
 abbrev pub invariant-loop-left : goal.invariant-loop-left

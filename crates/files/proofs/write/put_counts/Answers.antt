@@ -1,6 +1,5 @@
 -- Behind the cost stands one count, and the other behind that.
 use mathlib.Core.Path.{refl, ◌∙◌}
-use borrow.Author.Rules.{rules}
 use Rattle.files.specs.Bytes.{u16_bytes, u32_bytes}
 use Rattle.files.proofs.Placed.{placed_then}
 use Rattle.files.proofs.Writing.{placed_u32_then}

@@ -1,6 +1,5 @@
 -- The head states 4 bytes for each pair, and the pairs stand behind it.
 use native.Mathlib.Omega.{arith}
-use borrow.Author.Rules.{rules}
 use Rattle.files.specs.Dense.{row_pairs}
 use Rattle.files.proofs.Lengths.{pair_bytes_length}
 use Rattle.files.proofs.Writing.{placed_record}

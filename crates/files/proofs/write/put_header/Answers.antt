@@ -1,7 +1,6 @@
 -- Behind the head of a body of 4 bytes stand the counts of variables and actions.
 use native.Mathlib.Omega.{arith}
 use mathlib.Core.Path.{refl, ◌∙◌}
-use borrow.Author.Rules.{rules}
 use Rattle.files.specs.Bytes.{u16_bytes}
 use Rattle.files.proofs.Writing.{placed_u16_then, placed_record}
 use Rattle.files.proofs.write.put_header.Goals as goal

@@ -1,6 +1,5 @@
 -- The value stands behind the variable.
 use mathlib.Core.Path.{refl, ◌∙◌}
-use borrow.Author.Rules.{rules}
 use Rattle.files.proofs.Writing.{placed_u16_then}
 use Rattle.files.proofs.write.put_pair.Goals as goal
 

@@ -1,12 +1,6 @@
-use Prim.Native.Nat.{◌+◌, ◌*◌}
-use mathlib.Core.Path.{◌≡◌, refl, ap, ◌∙◌}
-use mathlib.Core.Logic.{⊎_elim}
+use mathlib.Core.Path.{refl, ap, ◌∙◌}
 use native.Mathlib.Omega.{arith}
 use lib.ListN.{length}
-use borrow.Author.Rules.{rules}
-use Rattle.files.specs.Bytes.{placed}
-use Rattle.files.specs.Dense.{row_pairs}
-use Rattle.files.specs.TaskFile.{pair_bytes}
 use Rattle.files.proofs.Countdown.{one_more}
 use Rattle.files.proofs.RowLaws.{row_pairs_none, row_pairs_next, row_pairs_skip}
 use Rattle.files.proofs.WritingTasks.{placed_pairs_none, placed_pairs_next, placed_pairs_skip}
@@ -35,13 +29,13 @@ loop-left-preserved c =
     let more = c.loop-left-test.true in
     let is = c.byte_at-value.ensures.is in
     elim c.if-value-ne-NO_PAIR.branch [
-      then-value-ne-NO_PAIR w ↦ (
+      | then-value-ne-NO_PAIR w ↦ (
         placed_pairs_next _ _ _ _ _ _ _ more is c.if-value-ne-NO_PAIR.buffer c.if-value-ne-NO_PAIR.place (w.buffer-is ∙ w.put_pair.ensures) w.place-is w.if-value-ne-NO_PAIR.true ∙ loop.invariant.0,
         omega (arith, ap length (row_pairs_next args.rows.now args.base loop.v loop.left _ (one_more _ more) is w.if-value-ne-NO_PAIR.true)),
         omega arith,
         omega (arith, ap length w.buffer-is),
       )
-    | else-value-ne-NO_PAIR w ↦ (
+      | else-value-ne-NO_PAIR w ↦ (
         placed_pairs_skip _ _ _ _ _ _ _ more is c.if-value-ne-NO_PAIR.buffer c.if-value-ne-NO_PAIR.place w.buffer-is w.place-is w.if-value-ne-NO_PAIR.false ∙ loop.invariant.0,
         omega (arith, ap length (row_pairs_skip args.rows.now args.base loop.v loop.left _ (one_more _ more) is w.if-value-ne-NO_PAIR.false)),
         omega arith,

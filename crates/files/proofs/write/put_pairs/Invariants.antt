@@ -1,16 +1,10 @@
 -- The loop's invariant: the pairs left, placed behind those that stand, make all the pairs, and so do their bytes.
 use Prim.Native.Nat.{◌+◌, ◌*◌}
-use mathlib.Core.Path.{◌≡◌, refl, ap, ◌∙◌}
-use mathlib.Core.Logic.{⊎_elim}
-use native.Mathlib.Omega.{arith}
+use mathlib.Core.Path.{◌≡◌}
 use lib.ListN.{length}
-use borrow.Author.Rules.{rules}
 use Rattle.files.specs.Bytes.{placed}
 use Rattle.files.specs.Dense.{row_pairs}
 use Rattle.files.specs.TaskFile.{pair_bytes}
-use Rattle.files.proofs.Countdown.{one_more}
-use Rattle.files.proofs.RowLaws.{row_pairs_none, row_pairs_next, row_pairs_skip}
-use Rattle.files.proofs.WritingTasks.{placed_pairs_none, placed_pairs_next, placed_pairs_skip}
 use Rattle.files.proofs.write.put_pairs.Given as goal
 
 abbrev pub invariant-loop-left : goal.invariant-loop-left

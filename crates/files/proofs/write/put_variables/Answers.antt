@@ -1,10 +1,7 @@
-use Prim.Native.Nat.{ℕ, ◌+◌, ◌*◌}
-use mathlib.Core.Path.{◌≡◌, refl, ap₂, ◌∙◌}
+use Prim.Native.Nat.{ℕ}
+use mathlib.Core.Path.{refl, ap₂, ◌∙◌}
 use mathlib.Core.List.{◌++◌}
 use native.Mathlib.Omega.{arith}
-use lib.ListN.{length}
-use borrow.Author.Rules.{rules}
-use Rattle.files.specs.Below.{tabulate, tabulate_from}
 use Rattle.files.specs.Bytes.{placed, u16_bytes}
 use Rattle.files.specs.Dense.{row_variable}
 use Rattle.files.specs.Records.{record_bytes}

@@ -1,17 +1,11 @@
 -- The loop's invariant: the records left, placed behind those that stand, make all the records.
-use Prim.Native.Nat.{ℕ, ◌+◌, ◌*◌}
-use mathlib.Core.Path.{◌≡◌, refl, ap₂, ◌∙◌}
-use mathlib.Core.List.{◌++◌}
-use native.Mathlib.Omega.{arith}
+use Prim.Native.Nat.{◌+◌, ◌*◌}
+use mathlib.Core.Path.{◌≡◌}
 use lib.ListN.{length}
-use borrow.Author.Rules.{rules}
 use Rattle.files.specs.Below.{tabulate, tabulate_from}
-use Rattle.files.specs.Bytes.{placed, u16_bytes}
+use Rattle.files.specs.Bytes.{placed}
 use Rattle.files.specs.Dense.{row_variable}
-use Rattle.files.specs.Records.{record_bytes}
-use Rattle.files.specs.Task.{Variable}
 use Rattle.files.specs.TaskFile.{variable_bytes}
-use Rattle.files.proofs.Writing.{placed_none, placed_next}
 use Rattle.files.proofs.write.put_variables.Given as goal
 
 abbrev pub invariant-loop-left : goal.invariant-loop-left

@@ -1,6 +1,5 @@
 -- The origins of variables, the head of those of actions with 2 bytes for each, and the sign-off.
 use native.Mathlib.Omega.{arith}
-use borrow.Author.Rules.{rules}
 use Rattle.files.specs.Lengths.{origin_needed}
 use Rattle.files.proofs.write_origin.origin_needed.Goals as goal
 

@@ -1,8 +1,4 @@
-use Prim.Native.Nat.{◌+◌, ◌*◌, ◌≤◌}
-use mathlib.Core.Path.{◌≡◌}
 use native.Mathlib.Omega.{arith}
-use borrow.Author.Rules.{rules}
-use Rattle.files.specs.Lengths.{origins_needed}
 use Rattle.files.proofs.WritingOrigins.{origins_needed_none, origins_needed_next}
 use Rattle.files.proofs.write_origin.origins_needed.Goals as goal
 

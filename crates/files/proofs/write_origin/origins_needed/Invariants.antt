@@ -1,10 +1,7 @@
 -- The loop's invariant: the bytes counted and those of the origins left are all the bytes.
 use Prim.Native.Nat.{◌+◌, ◌*◌, ◌≤◌}
 use mathlib.Core.Path.{◌≡◌}
-use native.Mathlib.Omega.{arith}
-use borrow.Author.Rules.{rules}
 use Rattle.files.specs.Lengths.{origins_needed}
-use Rattle.files.proofs.WritingOrigins.{origins_needed_none, origins_needed_next}
 use Rattle.files.proofs.write_origin.origins_needed.Given as goal
 
 abbrev pub invariant-loop-left : goal.invariant-loop-left

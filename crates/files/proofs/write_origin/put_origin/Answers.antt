@@ -1,6 +1,5 @@
 -- The head states 2 bytes and 2 for each value; the variable's number stands behind it, then the values.
 use native.Mathlib.Omega.{arith}
-use borrow.Author.Rules.{rules}
 use Rattle.files.proofs.WritingOrigins.{placed_origin}
 use Rattle.files.proofs.write_origin.put_origin.Goals as goal
 

@@ -1,10 +1,8 @@
-use Prim.Native.Nat.{ℕ, ◌+◌, ◌*◌}
-use mathlib.Core.Path.{◌≡◌, refl, sym, ap, ◌∙◌}
+use Prim.Native.Nat.{ℕ, ◌+◌}
+use mathlib.Core.Path.{refl, sym, ap, ◌∙◌}
 use native.Mathlib.Nat.{zero-add}
 use native.Mathlib.Omega.{arith}
-use lib.ListN.{length, get_or}
-use borrow.Author.Rules.{rules}
-use Rattle.files.specs.Below.{tabulate_from}
+use lib.ListN.{get_or}
 use Rattle.files.specs.Bytes.{placed, u16_bytes}
 use Rattle.files.specs.Dense.{row_numbers}
 use Rattle.files.specs.Records.{number_bytes}

@@ -1,15 +1,11 @@
 -- The loop's invariant: the numbers left, placed behind those that stand, make all the numbers.
 use Prim.Native.Nat.{ℕ, ◌+◌, ◌*◌}
-use mathlib.Core.Path.{◌≡◌, refl, sym, ap, ◌∙◌}
-use native.Mathlib.Nat.{zero-add}
-use native.Mathlib.Omega.{arith}
+use mathlib.Core.Path.{◌≡◌}
 use lib.ListN.{length, get_or}
-use borrow.Author.Rules.{rules}
 use Rattle.files.specs.Below.{tabulate_from}
-use Rattle.files.specs.Bytes.{placed, u16_bytes}
+use Rattle.files.specs.Bytes.{placed}
 use Rattle.files.specs.Dense.{row_numbers}
 use Rattle.files.specs.Records.{number_bytes}
-use Rattle.files.proofs.Writing.{placed_none, placed_next}
 use Rattle.files.proofs.write_origin.put_originals.Given as goal
 
 abbrev pub invariant-loop-left : goal.invariant-loop-left

@@ -1,12 +1,9 @@
-use Prim.Native.Nat.{◌+◌, ◌≤◌}
-use mathlib.Core.Path.{◌≡◌, refl, ◌∙◌}
+use Prim.Native.Nat.{◌≤◌}
+use mathlib.Core.Path.{refl, ◌∙◌}
 use native.Mathlib.Omega.{arith}
-use lib.ListN.{length, get_or}
+use lib.ListN.{get_or}
 use borrow.Author.Rules.{rules}
-use Rattle.files.specs.Below.{tabulate, tabulate_from}
-use Rattle.files.specs.Bytes.{placed}
 use Rattle.files.specs.Dense.{row_origin}
-use Rattle.files.specs.Lengths.{origins_needed}
 use Rattle.files.specs.OriginFile.{VariableOrigin, origin_body, variable_origin_bytes}
 use Rattle.files.specs.Records.{record_bytes}
 use Rattle.files.proofs.Lengths.{row_origin_length}

@@ -1,18 +1,12 @@
 -- The loop's invariant: the records left, placed behind those that stand, make all the records, and so do their bytes.
-use Prim.Native.Nat.{◌+◌, ◌≤◌}
-use mathlib.Core.Path.{◌≡◌, refl, ◌∙◌}
-use native.Mathlib.Omega.{arith}
-use lib.ListN.{length, get_or}
-use borrow.Author.Rules.{rules}
+use Prim.Native.Nat.{◌+◌}
+use mathlib.Core.Path.{◌≡◌}
+use lib.ListN.{length}
 use Rattle.files.specs.Below.{tabulate, tabulate_from}
 use Rattle.files.specs.Bytes.{placed}
 use Rattle.files.specs.Dense.{row_origin}
 use Rattle.files.specs.Lengths.{origins_needed}
-use Rattle.files.specs.OriginFile.{VariableOrigin, origin_body, variable_origin_bytes}
-use Rattle.files.specs.Records.{record_bytes}
-use Rattle.files.proofs.Lengths.{row_origin_length}
-use Rattle.files.proofs.Writing.{placed_none, placed_next}
-use Rattle.files.proofs.WritingOrigins.{origins_needed_none, origins_needed_next}
+use Rattle.files.specs.OriginFile.{variable_origin_bytes}
 use Rattle.files.proofs.write_origin.put_origins.Given as goal
 
 abbrev pub invariant-loop-left : goal.invariant-loop-left
