@@ -2,12 +2,8 @@
 use mathlib.Core.Path.{refl}
 use Rattle.plans.specs.Plan.{no_steps}
 use Rattle.plans.specs.Tally.{state_of, total_in}
-use Rattle.plans.proofs.tally.Tally.start.Statement.{statement}
-use Rattle.plans.proofs.tally.Tally.start.Tie as tie
+use Rattle.plans.proofs.tally.Tally.start.Goals as goal
 
-returns : tie.Need-returns
+pub returns : goal.returns
 unfolding state_of total_in no_steps
 returns c = record { reached = refl; counted = refl }
-
-pub start_spec : {M : Type 1} → statement M
-start_spec = tie.close (tie.spec returns)

@@ -1,0 +1,7 @@
+-- The number's word gets its bit, and no other word changes.
+use borrow.Author.Rules.{rules}
+use Rattle.bits.proofs.SetLoops.{added}
+use Rattle.bits.proofs.sets.add.Goals as goal
+
+pub returns : goal.returns
+returns c = added _ _ _ c.requires.room c.requires.few

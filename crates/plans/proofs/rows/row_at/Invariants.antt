@@ -1,0 +1,20 @@
+-- The loop's invariant: each entry before `v` is copied, and each from `v` on says no pair.
+use Prim.Native.Nat.{ℕ, ◌+◌, ◌-◌, ◌≤◌, ◌<◌}
+use mathlib.Core.Path.{◌≡◌, refl, ap, ◌∙◌}
+use native.Mathlib.Omega.{arith}
+use lib.ListN.{length, length-set, get_or, get_or-replicate}
+use Rattle.files.proofs.Filling.{filled_before, filled_after}
+use Rattle.files.proofs.RowValues.{row_pairs_copied}
+use borrow.Author.Rules.{rules}
+use Rattle.plans.proofs.rows.row_at.Given as goal
+
+abbrev pub invariant-loop-v : goal.invariant-loop-v
+invariant-loop-v l =
+    ((w : ℕ) → w < l.v → get_or l.row w 0 ≡ get_or l.rows (l.base + w) 0)
+    × ((w : ℕ) → l.v ≤ w → w < 64 → get_or l.row w 0 ≡ 255)
+    × (l.v ≤ l.count)
+    × (length l.row ≡ 64)
+
+abbrev pub decreases-loop-v : goal.decreases-loop-v
+decreases-loop-v l =
+    l.count - l.v

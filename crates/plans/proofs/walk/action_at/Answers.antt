@@ -1,0 +1,10 @@
+-- Both rows are copied, and the cost stands beside them.
+use Rattle.files.specs.Task.{action}
+use Rattle.files.specs.Dense.{row_action}
+use Rattle.plans.specs.Tally.{row_of}
+use borrow.Author.Rules.{rules}
+use Rattle.plans.proofs.walk.action_at.Goals as goal
+
+pub returns : goal.returns
+unfolding row_of row_action
+returns c = record { is = λ i. action (c.minutes_of-cost.ensures.is i) (c.row_at-asked.ensures i) (c.row_at-set.ensures i); cost_below = c.minutes_of-cost.ensures.below }
