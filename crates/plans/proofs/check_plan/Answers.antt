@@ -6,7 +6,6 @@ use Rattle.files.specs.declared.Outcome.{Outcome}
 use Rattle.files.specs.TaskFile.{check_task}
 use Rattle.files.proofs.HeldLaws.{variables_in_few, actions_in_few}
 use Rattle.plans.proofs.CheckLaws.{check_first, check_second, check_walks, steps_few, steps_known}
-use borrow.Author.Rules.{rules}
 use Rattle.plans.proofs.check_plan.Goals as goal
 
 pub returns-then-read-ne0 : goal.returns-then-read-ne0

@@ -1,5 +1,4 @@
 -- The number's word gets its bit, and no other word changes.
-use borrow.Author.Rules.{rules}
 use Rattle.bits.proofs.SetLoops.{added}
 use Rattle.bits.proofs.sets.add.Goals as goal
 

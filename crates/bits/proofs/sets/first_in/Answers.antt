@@ -4,7 +4,6 @@ use mathlib.Core.Path.{refl}
 use native.Mathlib.Omega.{arith}
 use lib.Count.{trailing_le}
 use Rattle.bits.proofs.SetLoops.{first_within, first_beyond, first_none}
-use borrow.Author.Rules.{rules}
 use Rattle.bits.proofs.sets.first_in.Goals as goal
 
 pub overflow_cast-r : goal.overflow_cast-r

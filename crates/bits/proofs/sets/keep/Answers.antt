@@ -1,6 +1,4 @@
-use Prim.Native.Nat.{◌-◌}
-use Rattle.bits.proofs.SetLoops.{Keeping, keep_begin, keep_next, keep_end}
-use borrow.Author.Rules.{rules}
+use Rattle.bits.proofs.SetLoops.{keep_begin, keep_next, keep_end}
 use Rattle.bits.proofs.sets.keep.Goals as goal
 
 pub loop-i-init : goal.loop-i-init

@@ -1,7 +1,6 @@
 -- The loop's invariant: the words before `i` have their bits that are in the row too.
 use Prim.Native.Nat.{◌-◌}
-use Rattle.bits.proofs.SetLoops.{Keeping, keep_begin, keep_next, keep_end}
-use borrow.Author.Rules.{rules}
+use Rattle.bits.proofs.SetLoops.{Keeping}
 use Rattle.bits.proofs.sets.keep.Given as goal
 
 abbrev pub invariant-loop-i : goal.invariant-loop-i

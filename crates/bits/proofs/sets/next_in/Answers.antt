@@ -1,6 +1,4 @@
-use Prim.Native.Nat.{◌-◌}
-use Rattle.bits.proofs.SetLoops.{Scanned, scan_begin, scan_next, scan_found, scan_end}
-use borrow.Author.Rules.{rules}
+use Rattle.bits.proofs.SetLoops.{scan_begin, scan_next, scan_found, scan_end}
 use Rattle.bits.proofs.sets.next_in.Goals as goal
 
 pub loop-place-init : goal.loop-place-init

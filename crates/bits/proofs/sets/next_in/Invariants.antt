@@ -1,7 +1,6 @@
 -- The loop's invariant: no number from `from` on is in the set before bit `bit` of the word at `place`.
 use Prim.Native.Nat.{◌-◌}
-use Rattle.bits.proofs.SetLoops.{Scanned, scan_begin, scan_next, scan_found, scan_end}
-use borrow.Author.Rules.{rules}
+use Rattle.bits.proofs.SetLoops.{Scanned}
 use Rattle.bits.proofs.sets.next_in.Given as goal
 
 abbrev pub invariant-loop-place : goal.invariant-loop-place

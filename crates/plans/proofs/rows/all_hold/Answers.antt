@@ -1,8 +1,3 @@
-use Prim.Native.Nat.{◌+◌}
-use mathlib.Core.Path.{◌≡◌}
-use Rattle.files.specs.Dense.{row_pairs}
-use Rattle.plans.specs.State.{all_hold}
-use Rattle.plans.specs.Tally.{list_state}
 use Rattle.plans.proofs.RowStates.{hold_next, hold_stop, hold_none}
 use borrow.Author.Rules.{rules}
 use borrow.Author.Tests.{not-true, not-false}

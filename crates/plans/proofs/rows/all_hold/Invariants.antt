@@ -4,9 +4,6 @@ use mathlib.Core.Path.{◌≡◌}
 use Rattle.files.specs.Dense.{row_pairs}
 use Rattle.plans.specs.State.{all_hold}
 use Rattle.plans.specs.Tally.{list_state}
-use Rattle.plans.proofs.RowStates.{hold_next, hold_stop, hold_none}
-use borrow.Author.Rules.{rules}
-use borrow.Author.Tests.{not-true, not-false}
 use Rattle.plans.proofs.rows.all_hold.Given as goal
 
 abbrev pub invariant-loop-left : goal.invariant-loop-left

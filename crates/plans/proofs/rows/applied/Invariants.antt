@@ -1,12 +1,8 @@
 -- The loop's invariant: each cell before `v` is as the effects leave it, and each from `v` on is as it was.
 use Prim.Native.Nat.{ℕ, ◌-◌, ◌≤◌, ◌<◌}
-use mathlib.Core.Path.{◌≡◌, refl, ap, ◌∙◌}
-use native.Mathlib.Omega.{arith}
-use lib.ListN.{length, length-set, get_or}
-use Rattle.files.proofs.Filling.{filled_before, filled_after}
+use mathlib.Core.Path.{◌≡◌}
+use lib.ListN.{length, get_or}
 use Rattle.plans.specs.Tally.{after_cell}
-use Rattle.plans.proofs.RowStates.{effects_applied}
-use borrow.Author.Rules.{rules}
 use Rattle.plans.proofs.rows.applied.Given as goal
 
 abbrev pub invariant-loop-v : goal.invariant-loop-v

@@ -1,10 +1,9 @@
-use Prim.Native.Nat.{ℕ, ◌+◌, ◌-◌, ◌≤◌, ◌<◌}
+use Prim.Native.Nat.{ℕ, ◌+◌, ◌<◌}
 use mathlib.Core.Path.{◌≡◌, refl, ap, ◌∙◌}
 use native.Mathlib.Omega.{arith}
-use lib.ListN.{length, length-set, get_or, get_or-replicate}
+use lib.ListN.{length-set, get_or, get_or-replicate}
 use Rattle.files.proofs.Filling.{filled_before, filled_after}
 use Rattle.files.proofs.RowValues.{row_pairs_copied}
-use borrow.Author.Rules.{rules}
 use Rattle.plans.proofs.rows.row_at.Goals as goal
 
 pub loop-v-init : goal.loop-v-init

@@ -1,11 +1,7 @@
 -- The loop's invariant: each entry before `v` is copied, and each from `v` on says no pair.
 use Prim.Native.Nat.{ℕ, ◌+◌, ◌-◌, ◌≤◌, ◌<◌}
-use mathlib.Core.Path.{◌≡◌, refl, ap, ◌∙◌}
-use native.Mathlib.Omega.{arith}
-use lib.ListN.{length, length-set, get_or, get_or-replicate}
-use Rattle.files.proofs.Filling.{filled_before, filled_after}
-use Rattle.files.proofs.RowValues.{row_pairs_copied}
-use borrow.Author.Rules.{rules}
+use mathlib.Core.Path.{◌≡◌}
+use lib.ListN.{length, get_or}
 use Rattle.plans.proofs.rows.row_at.Given as goal
 
 abbrev pub invariant-loop-v : goal.invariant-loop-v

@@ -1,9 +1,7 @@
-use Prim.Native.Nat.{ℕ, ◌-◌, ◌≤◌, ◌<◌}
 use mathlib.Core.Path.{◌≡◌, refl, ◌∙◌}
 use native.Mathlib.Omega.{arith}
-use lib.ListN.{length, length-set, get_or}
+use lib.ListN.{length-set, get_or}
 use Rattle.files.proofs.Filling.{filled_before, filled_after, zeros_entry}
-use borrow.Author.Rules.{rules}
 use Rattle.plans.proofs.rows.state_of.Goals as goal
 
 pub loop-v-init : goal.loop-v-init

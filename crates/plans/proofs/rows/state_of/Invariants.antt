@@ -1,10 +1,7 @@
 -- The loop's invariant: each entry before `v` is copied, and each from `v` on is 0.
 use Prim.Native.Nat.{ℕ, ◌-◌, ◌≤◌, ◌<◌}
-use mathlib.Core.Path.{◌≡◌, refl, ◌∙◌}
-use native.Mathlib.Omega.{arith}
-use lib.ListN.{length, length-set, get_or}
-use Rattle.files.proofs.Filling.{filled_before, filled_after, zeros_entry}
-use borrow.Author.Rules.{rules}
+use mathlib.Core.Path.{◌≡◌}
+use lib.ListN.{length, get_or}
 use Rattle.plans.proofs.rows.state_of.Given as goal
 
 abbrev pub invariant-loop-v : goal.invariant-loop-v

@@ -2,7 +2,6 @@
 use Rattle.files.specs.Task.{action}
 use Rattle.files.specs.Dense.{row_action}
 use Rattle.plans.specs.Tally.{row_of}
-use borrow.Author.Rules.{rules}
 use Rattle.plans.proofs.walk.action_at.Goals as goal
 
 pub returns : goal.returns

@@ -1,10 +1,8 @@
 -- The goal is tested in the state of the tally, whose minutes and steps are the plan's.
 use mathlib.Core.Path.{refl, sym, ◌∙◌}
-use borrow.Author.Tests.{not-true, not-false}
 use Rattle.plans.specs.Check.{with_total}
 use Rattle.plans.specs.Tally.{state_of, total_in}
 use Rattle.plans.proofs.WalkLaws.{end_refuses, end_passes}
-use borrow.Author.Rules.{rules}
 use Rattle.plans.proofs.walk.ended.Goals as goal
 
 pub returns-then-not-all_hold : goal.returns-then-not-all_hold

@@ -1,15 +1,14 @@
-use Prim.Native.Nat.{ℕ, ◌+◌, ◌*◌, ◌-◌, ◌≤◌, ◌<◌}
+use Prim.Native.Nat.{ℕ, ◌+◌, ◌<◌}
 use mathlib.Core.Path.{◌≡◌, sym, ap, ◌∙◌}
 use mathlib.Core.List.{List}
 use native.Mathlib.Omega.{arith}
 use lib.ListN.{length}
-use borrow.Author.Tests.{not-true, not-false}
 use Rattle.files.specs.Task.{action_of}
 use Rattle.files.specs.Dense.{Arrays, arrays, held, row_action}
 use Rattle.files.specs.PlanFile.{plan_of}
 use Rattle.plans.specs.Plan.{Total, no_steps, add_step, step_of}
 use Rattle.plans.specs.Tally.{row_of, total_in}
-use Rattle.plans.proofs.WalkLaws.{Walking, held_start, walking_begins, walking_next, walking_stops, walking_ends}
+use Rattle.plans.proofs.WalkLaws.{held_start, walking_begins, walking_next, walking_stops, walking_ends}
 use Rattle.files.proofs.HeldTask.{held_action}
 use borrow.Author.Rules.{rules}
 use Rattle.plans.proofs.walk.take_steps.Goals as goal

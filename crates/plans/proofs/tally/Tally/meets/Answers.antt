@@ -1,7 +1,6 @@
 -- The action's conditions are those of its row.
 use Rattle.plans.specs.State.{applicable}
 use Rattle.plans.specs.Tally.{row_of, state_of}
-use borrow.Author.Rules.{rules}
 use Rattle.plans.proofs.tally.Tally.meets.Goals as goal
 
 pub returns : goal.returns

@@ -5,7 +5,6 @@ use native.Mathlib.Omega.{arith}
 use Rattle.plans.specs.Plan.{add_step}
 use Rattle.plans.specs.State.{apply}
 use Rattle.plans.specs.Tally.{list_state, row_of, state_of, total_in}
-use borrow.Author.Rules.{rules}
 use Rattle.plans.proofs.tally.Tally.step.Goals as goal
 
 pub returns : goal.returns
