@@ -1,0 +1,37 @@
+use Prim.Native.Nat.{◌-◌, ◌≤◌}
+use mathlib.Core.Path.{◌≡◌, refl, ◌∙◌}
+use native.Mathlib.Omega.{arith}
+use lib.ListN.{length}
+use borrow.Author.Rules.{rules}
+use Rattle.marking.specs.Dense.{could_cover_at}
+use Rattle.marking.proofs.CoverTable.{ColumnsTo, columns_begin, columns_next}
+use Rattle.marking.proofs.cover_table.fill.Goals as goal
+
+pub returns-then-scope-ne4 : goal.returns-then-scope-ne4
+returns-then-scope-ne4 c = λ e. absurd (c.if-scope-ne4.true e)
+
+pub loop-b-init : goal.loop-b-init
+loop-b-init c = (refl, columns_begin _ _ _ c.requires.empty, omega arith)
+
+pub fill_column-requires : goal.fill_column-requires
+fill_column-requires c =
+    let l = c.loop-b in
+    record {
+      limits = c.requires.limits;
+      known = c.loop-b-test.true;
+      counted = c.condition_counts-counts.ensures;
+      room = omega arith;
+      empty = λ a h. l.invariant.1.empty l.b a (omega arith) (omega arith);
+    }
+
+pub loop-b-preserved : goal.loop-b-preserved
+loop-b-preserved c =
+    let l = c.loop-b in
+    let column = c.fill_column.ensures in
+    (column.same ∙ l.invariant.0, columns_next _ _ _ _ _ _ _ l.invariant.1 (omega arith) column, omega arith)
+
+pub shape_of-could_cover : goal.shape_of-could_cover
+shape_of-could_cover c = c.loop-b.invariant.0
+
+pub returns : goal.returns
+returns c = λ e a b h k. c.loop-b.invariant.1.filled b a (omega arith) h

@@ -1,0 +1,15 @@
+-- The loop's invariant: the total is that of the bytes before `i`.
+use Prim.Native.Nat.{◌*◌, ◌-◌, ◌≤◌}
+use mathlib.Core.Path.{◌≡◌, refl}
+use native.Mathlib.Omega.{arith}
+use borrow.Author.Rules.{rules}
+use Rattle.files.specs.Below.{sum_of}
+use Rattle.marking.proofs.SetWhere.{at_end}
+use Rattle.files.proofs.LoopCounts.{sum_next}
+use Rattle.marking.proofs.results.sum.Given as goal
+
+abbrev pub invariant-loop-i : goal.invariant-loop-i
+invariant-loop-i l = (l.total ≡ sum_of l.bytes l.i) × (l.total ≤ 255 * l.i) × (l.i ≤ l.count)
+
+abbrev pub decreases-loop-i : goal.decreases-loop-i
+decreases-loop-i l = l.count - l.i

@@ -1,0 +1,23 @@
+-- The loop's invariant: the bytes of the variables before `v` stand, and `at` is their number.
+use Prim.Native.Nat.{◌-◌, ◌≤◌}
+use mathlib.Core.Path.{◌≡◌, refl}
+use native.Mathlib.Omega.{arith}
+use lib.ListN.{length, get_or}
+use borrow.Author.Rules.{rules}
+use Rattle.files.specs.Below.{join_below, sum_of}
+use Rattle.files.specs.Bytes.{placed}
+use Rattle.marking.specs.Dense.{fact_bytes}
+use Rattle.marking.proofs.SetWhere.{at_end}
+use Rattle.files.proofs.LoopCounts.{sum_next, sum_within}
+use Rattle.marking.proofs.ResultLaws.{facts_next}
+use Rattle.marking.proofs.results.write_facts.Given as goal
+
+abbrev pub invariant-loop-v : goal.invariant-loop-v
+invariant-loop-v l =
+    (l.marks ≡ placed l.initial.marks 0 (join_below l.v (λ w. fact_bytes l.facts l.unlinked w (get_or l.sizes w 0))))
+    × (l.at ≡ sum_of l.sizes l.v)
+    × (l.v ≤ l.variables)
+    × (length l.marks ≡ length l.initial.marks)
+
+abbrev pub decreases-loop-v : goal.decreases-loop-v
+decreases-loop-v l = l.variables - l.v
