@@ -3,10 +3,8 @@ ghost use Rattle.std.specs.Prelude.{◌≡◌, ◌+◌, ◌≤◌, length, repli
 ghost use Rattle.std.proofs.lemmas.List.Edits.{sets};
 ghost use Rattle.digits.specs.Clauses.{ColumnFits};
 ghost use Rattle.digits.specs.Decimal.{column};
-ghost use Rattle.digits.specs.Groups.{DigitTable};
 
 use crate::groups;
-use crate::table::Table;
 
 // Writes `count` blanks from `at` on.
 pub fn put_blanks(buffer: &mut [u8], at: usize, count: usize)
@@ -23,13 +21,12 @@ pub fn put_blanks(buffer: &mut [u8], at: usize, count: usize)
 }
 
 // Writes a number flush right in a column of so many bytes from `at` on.
-pub fn put_column(buffer: &mut [u8], at: usize, width: usize, n: u64, table: &Table)
-    requires digit_table { DigitTable table.now }
-    requires column_fits { ColumnFits buffer.old at width n }
+pub fn put_column(buffer: &mut [u8], at: usize, width: usize, n: u64)
+    requires { ColumnFits buffer.old at width n }
     ensures { buffer.new ≡ sets buffer.old at (column width n) }
 {
     let count = groups::places(n);
     let blanks = width - count;
     put_blanks(buffer, at, blanks);
-    groups::put_digits(buffer, at + blanks, count, n, table);
+    groups::put_digits(buffer, at + blanks, count, n);
 }

@@ -1,36 +1,40 @@
-// The digits of a number in groups of three, from the right, each by one look into the table.
+// The digits of a number, worked out in groups of three from the right.
 ghost use Rattle.std.specs.Prelude.{◌≡◌, ◌<◌, length};
 ghost use Rattle.std.proofs.lemmas.List.Edits.{sets};
 ghost use Rattle.digits.specs.Clauses.{FrontFits, ThreeFit, DigitsFit};
 ghost use Rattle.digits.specs.Decimal.{decimal};
-ghost use Rattle.digits.specs.Groups.{DigitTable, three};
+ghost use Rattle.digits.specs.Groups.{packed_digits, three};
 
-use crate::table;
-use crate::table::Table;
+// The three digits of a number below 1,000: the hundreds times 256, plus the tens times 16, plus
+// the units.
+fn packed(n: usize) -> u16
+    requires { n < 1000 }
+    ensures { result ≡ packed_digits n }
+{
+    (n / 100 * 256 + n / 10 % 10 * 16 + n % 10) as u16
+}
 
 // Writes a number below 1,000 as three digits.
-fn put_three(buffer: &mut [u8], at: usize, n: usize, table: &Table)
-    requires digit_table { DigitTable table.now }
-    requires three_fit { ThreeFit buffer.old at n }
+fn put_three(buffer: &mut [u8], at: usize, n: usize)
+    requires { ThreeFit buffer.old at n }
     ensures { buffer.new ≡ sets buffer.old at (three n) }
 {
-    let digits = table::packed(table, n);
+    let digits = packed(n);
     buffer[at] = (48 + digits / 256) as u8;
     buffer[at + 1] = (48 + digits / 16 % 16) as u8;
     buffer[at + 2] = (48 + digits % 16) as u8;
 }
 
 // Writes a number below 1,000 without leading zeros.
-fn put_front(buffer: &mut [u8], at: usize, n: usize, table: &Table)
-    requires digit_table { DigitTable table.now }
-    requires front_fits { FrontFits buffer.old at n }
+fn put_front(buffer: &mut [u8], at: usize, n: usize)
+    requires { FrontFits buffer.old at n }
     ensures { buffer.new ≡ sets buffer.old at (decimal n) }
 {
     if 99 < n {
-        put_three(buffer, at, n, table);
+        put_three(buffer, at, n);
         return;
     }
-    let digits = table::packed(table, n);
+    let digits = packed(n);
     if 9 < n {
         buffer[at] = (48 + digits / 16) as u8;
         buffer[at + 1] = (48 + digits % 16) as u8;
@@ -67,17 +71,16 @@ pub fn places(n: u64) -> usize
 }
 
 // Writes the digits of a number, `count` of them, from `at` on.
-pub fn put_digits(buffer: &mut [u8], at: usize, count: usize, n: u64, table: &Table)
-    requires digit_table { DigitTable table.now }
-    requires digits_fit { DigitsFit buffer.old at count n }
+pub fn put_digits(buffer: &mut [u8], at: usize, count: usize, n: u64)
+    requires { DigitsFit buffer.old at count n }
     ensures { buffer.new ≡ sets buffer.old at (decimal n) }
 {
     let mut end = at + count;
     let mut rest = n;
     while 999 < rest {
         end -= 3;
-        put_three(buffer, end, (rest % 1000) as usize, table);
+        put_three(buffer, end, (rest % 1000) as usize);
         rest /= 1000;
     }
-    put_front(buffer, at, rest as usize, table);
+    put_front(buffer, at, rest as usize);
 }

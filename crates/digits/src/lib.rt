@@ -1,8 +1,10 @@
-// Numbers as text: decimal digits, by threes from a table.
-// The call open to callers is decimal; the modules columns, lent and table serve crates that lay
-// out text or print many numbers.
+// Numbers as text: decimal digits, worked out by threes.
+// The call open to callers is decimal; the module columns serves crates that lay out text. The
+// modules table and lent do the same by a table of digits, which whoever prints many numbers takes
+// once and lends.
 #![tactic(auto)]
 
+mod by_table;
 pub mod columns;
 mod groups;
 pub mod lent;
@@ -18,6 +20,7 @@ pub fn decimal(n: u64, out: &mut [u8; 20]) -> usize
     ensures value { result ≡ length (Decimal·decimal n) }
     ensures out_after { out.new ≡ Decimal·decimal n ++ drop result out.old }
 {
-    let table = table::whole();
-    lent::decimal(n, out, &table)
+    let count = groups::places(n);
+    groups::put_digits(out, 0, count, n);
+    count
 }

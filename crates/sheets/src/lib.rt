@@ -36,13 +36,11 @@ pub fn sheet(task: &[u8], plan: &[u8], page: &mut [u8]) -> Laid
     }
     let mut costs = [0u32; 512];
     files::decode::read_costs(task, &mut costs);
-    let table = digits::table::whole();
-    lines::put_steps(page, plan, &costs, &table);
+    lines::put_steps(page, plan, &costs);
     lines::put_signed(
         page,
         needed - lines::LINE,
         files::records::signer(plan) as u64,
-        &table,
     );
     let cost = checked.cost;
     Laid {

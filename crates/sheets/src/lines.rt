@@ -3,12 +3,10 @@ ghost use Rattle.std.specs.Prelude.{◌≡◌, ◌+◌, ◌≤◌, length, get_o
 ghost use Rattle.files.specs.Bytes.{placed};
 ghost use Rattle.files.specs.PlanFile.{plan_of};
 ghost use Rattle.digits.specs.Decimal.{ascii};
-ghost use Rattle.digits.specs.Groups.{DigitTable};
 ghost use Rattle.sheets.specs.Clauses.{LineFits, StepsFit, SignerFits};
 ghost use Rattle.sheets.specs.Sheet.{step_line, step_lines, signed_line};
 
 use digits::columns;
-use digits::table::Table;
 use files::units::minutes_of;
 use plans::{Minutes, OriginalAction, Steps};
 
@@ -25,24 +23,21 @@ fn put_step(
     action: OriginalAction,
     minutes: Minutes,
     total: Minutes,
-    table: &Table,
 )
-    requires digit_table { DigitTable table.now }
-    requires line_fits { LineFits page.old at step.0 action.0 minutes.0 total.0 }
+    requires { LineFits page.old at step.0 action.0 minutes.0 total.0 }
     ensures { page.new ≡ placed page.old at (step_line step.0 action.0 minutes.0 total.0) }
 {
-    columns::put_column(page, at, 4, step.0 as u64, table);
+    columns::put_column(page, at, 4, step.0 as u64);
     columns::put_blanks(page, at + 4, 2);
-    columns::put_column(page, at + 6, 5, action.0 as u64, table);
-    columns::put_column(page, at + 11, 9, minutes.0, table);
-    columns::put_column(page, at + 20, 12, total.0, table);
+    columns::put_column(page, at + 6, 5, action.0 as u64);
+    columns::put_column(page, at + 11, 9, minutes.0);
+    columns::put_column(page, at + 20, 12, total.0);
     page[at + 32] = LINE_FEED;
 }
 
 // Writes a line for each step of a plan file, from the page's start on.
-pub fn put_steps(page: &mut [u8], plan: &[u8], costs: &[u32; 512], table: &Table)
-    requires digit_table { DigitTable table.now }
-    requires steps_fit { StepsFit page.old (plan_of plan.now) costs.now }
+pub fn put_steps(page: &mut [u8], plan: &[u8], costs: &[u32; 512])
+    requires { StepsFit page.old (plan_of plan.now) costs.now }
     ensures { page.new ≡ placed page.old 0 (step_lines (λ a. get_or costs.now a 0) 0 0 (plan_of plan.now)) }
 {
     let steps = files::plan::steps(plan);
@@ -53,15 +48,7 @@ pub fn put_steps(page: &mut [u8], plan: &[u8], costs: &[u32; 512], table: &Table
         let action = files::plan::step(plan, i);
         let minutes = minutes_of(costs[action.0 as usize]);
         let sum = Minutes(total.0 + minutes.0);
-        put_step(
-            page,
-            LINE * i,
-            Steps((i + 1) as u16),
-            action,
-            minutes,
-            sum,
-            table,
-        );
+        put_step(page, LINE * i, Steps((i + 1) as u16), action, minutes, sum);
         total = sum;
         i += 1;
     }
@@ -81,12 +68,11 @@ fn put_word(page: &mut [u8], at: usize)
 }
 
 // Writes the last line: the word, then the signer.
-pub fn put_signed(page: &mut [u8], at: usize, signer: u64, table: &Table)
-    requires digit_table { DigitTable table.now }
-    requires signer_fits { SignerFits page.old at signer }
+pub fn put_signed(page: &mut [u8], at: usize, signer: u64)
+    requires { SignerFits page.old at signer }
     ensures { page.new ≡ placed page.old at (signed_line signer) }
 {
     put_word(page, at);
-    columns::put_column(page, at + 6, 26, signer, table);
+    columns::put_column(page, at + 6, 26, signer);
     page[at + 32] = LINE_FEED;
 }

@@ -31,13 +31,10 @@ returns c = lays_refused _ _ _ c.before.before.before.before.before.before.check
 read-costs-requires : tie.Need-read-costs-requires
 read-costs-requires c κs = costs_readable _ _ _ c.before.before.before.before.before.before.check_plan_lem.ensures c.before.before.before.before.before.before.before.before.before.before.args.page.now _ refl _ c.before.before.before.outcome-of.ensures c.before.if1.false
 
-whole-requires : tie.Need-whole-requires
-whole-requires c κs = search rules
-
 put-steps-requires : tie.Need-put-steps-requires
 put-steps-requires c κs =
-    let octets : Octets c.before.before.before.before.before.before.before.before.before.before.before.before.before.before.before.args.task.now = λ i. omega (arith, c.before.before.before.before.before.before.before.before.before.before.before.before.before.before.shared-slice-known.given i) in
-    (c.before.before.before.whole.ensures, steps_fit_lem _ _ _ c.before.before.before.before.before.before.before.before.before.before.before.check_plan_lem.ensures _ _ refl _ c.before.before.before.before.before.before.before.before.outcome-of.ensures c.before.before.before.before.before.before.if1.false octets _ c.before.before.before.before.read-costs.ensures)
+    let octets : Octets c.before.before.before.before.before.before.before.before.before.before.before.before.before.args.task.now = λ i. omega (arith, c.before.before.before.before.before.before.before.before.before.before.before.before.shared-slice-known.given i) in
+    steps_fit_lem _ _ _ c.before.before.before.before.before.before.before.before.before.check_plan_lem.ensures _ _ refl _ c.before.before.before.before.before.before.outcome-of.ensures c.before.before.before.before.if1.false octets _ c.before.before.read-costs.ensures
 
 sub-put-signed : tie.Need-overflow-sub-put-signed
 sub-put-signed c = search rules
@@ -46,16 +43,16 @@ signer-requires : tie.Need-signer-requires
 signer-requires c κs = search rules
 
 put-signed-requires : tie.Need-put-signed-requires
-put-signed-requires c κs = let fits = page_fits _ _ _ c.before.before.before.before.before.before.before.before.before.before.before.before.before.before.before.before.before.check_plan_lem.ensures c.before.before.before.before.before.before.before.before.before.before.before.before.before.before.before.before.before.before.before.before.before.args.page.now _ refl _ c.before.before.before.before.before.before.before.before.before.before.before.before.before.before.outcome-of.ensures c.before.before.before.before.before.before.before.before.before.before.before.before.if1.false in search rules
+put-signed-requires c κs = let fits = page_fits _ _ _ c.before.before.before.before.before.before.before.before.before.before.before.before.before.before.check_plan_lem.ensures c.before.before.before.before.before.before.before.before.before.before.before.before.before.before.before.before.before.before.args.page.now _ refl _ c.before.before.before.before.before.before.before.before.before.before.before.outcome-of.ensures c.before.before.before.before.before.before.before.before.before.if1.false in search rules
 
 same_length : tie.Need-same-length
 same_length c = search rules
 
 returns-2 : tie.Need-returns-2
 returns-2 c =
-    let octets : Octets c.before.before.before.before.before.before.before.before.before.before.before.before.before.before.before.before.before.before.before.before.before.before.before.before.before.args.task.now = λ i. omega (arith, c.before.before.before.before.before.before.before.before.before.before.before.before.before.before.before.before.before.before.before.before.before.before.before.before.shared-slice-known.given i) in
-    lays_page _ _ _ c.before.before.before.before.before.before.before.before.before.before.before.before.before.before.before.before.before.before.before.before.before.check_plan_lem.ensures _ _ refl _ c.before.before.before.before.before.before.before.before.before.before.before.before.before.before.before.before.before.before.outcome-of.ensures c.before.before.before.before.before.before.before.before.before.before.before.before.before.before.before.before.if1.false octets c.before.before.before.before.before.before.before.before.before.before.before.before.before.before.read-costs.new.1.0 c.before.before.before.before.before.before.before.before.before.before.before.before.before.before.read-costs.ensures
-    _ _ _ c.before.before.before.before.before.signer.ensures.is c.before.before.before.before.before.signer.ensures.below c.before.before.before.before.before.before.before.before.before.put-steps.ensures c.before.before.before.put-signed.ensures _ refl
+    let octets : Octets c.before.before.before.before.before.before.before.before.before.before.before.before.before.before.before.before.before.before.before.before.before.before.args.task.now = λ i. omega (arith, c.before.before.before.before.before.before.before.before.before.before.before.before.before.before.before.before.before.before.before.before.before.shared-slice-known.given i) in
+    lays_page _ _ _ c.before.before.before.before.before.before.before.before.before.before.before.before.before.before.before.before.before.before.check_plan_lem.ensures _ _ refl _ c.before.before.before.before.before.before.before.before.before.before.before.before.before.before.before.outcome-of.ensures c.before.before.before.before.before.before.before.before.before.before.before.before.before.if1.false octets c.before.before.before.before.before.before.before.before.before.before.before.read-costs.new.1.0 c.before.before.before.before.before.before.before.before.before.before.before.read-costs.ensures
+    _ _ _ c.before.before.before.before.signer.ensures.is c.before.before.before.before.signer.ensures.below c.before.before.before.before.before.before.before.before.put-steps.ensures c.before.before.before.put-signed.ensures _ refl
 
 pub sheet_spec : {M : Type 1} → statement M
 sheet_spec =
@@ -69,7 +66,6 @@ sheet_spec =
     refused-requires
     returns
     read-costs-requires
-    whole-requires
     put-steps-requires
     sub-put-signed
     signer-requires

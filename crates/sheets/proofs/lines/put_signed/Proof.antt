@@ -14,7 +14,7 @@ add-put-column : tie.Need-overflow-add-put-column
 add-put-column c = search rules
 
 put-column-requires : tie.Need-put-column-requires
-put-column-requires c κs = let wide = signer_wide _ c.before.before.before.before.before.before.requires.1.below in search rules
+put-column-requires c κs = let wide = signer_wide _ c.before.before.before.before.before.before.requires.below in search rules
 
 add-page : tie.Need-overflow-add-page
 add-page c = search rules
@@ -25,7 +25,7 @@ slice-write-page c = search rules
 returns : tie.Need-returns
 returns c =
     let start = c.before.before.before.before.before.before.before.before.before in
-    signed_written start.args.signer start.requires.1.below start.args.page.now _ _ start.args.at c.before.before.before.before.before.before.put_word.ensures c.before.before.put-column.ensures
+    signed_written start.args.signer start.requires.below start.args.page.now _ _ start.args.at c.before.before.before.before.before.before.put_word.ensures c.before.before.put-column.ensures
 
 same_length : tie.Need-same-length
 same_length c = ap length (returns c) ∙ placed_length _ _ _

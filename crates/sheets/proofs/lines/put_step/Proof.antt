@@ -13,7 +13,7 @@ cast-put-column : tie.Need-overflow-cast-put-column
 cast-put-column c = search rules
 
 put-column-requires : tie.Need-put-column-requires
-put-column-requires c κs = let wide = decimal_few _ 4 (omega arith) c.before.before.before.requires.1.numbers.step_fits in search rules
+put-column-requires c κs = let wide = decimal_few _ 4 (omega arith) c.before.before.before.requires.numbers.step_fits in search rules
 
 add-put-blanks : tie.Need-overflow-add-put-blanks
 add-put-blanks c = search rules
@@ -28,19 +28,19 @@ cast-put-column-2 : tie.Need-overflow-cast-put-column-2
 cast-put-column-2 c = search rules
 
 put-column-requires-2 : tie.Need-put-column-requires-2
-put-column-requires-2 c κs = let wide = decimal_few _ 5 (omega arith) c.before.before.before.before.before.before.before.before.before.before.before.before.requires.1.numbers.action_fits in search rules
+put-column-requires-2 c κs = let wide = decimal_few _ 5 (omega arith) c.before.before.before.before.before.before.before.before.before.before.before.before.requires.numbers.action_fits in search rules
 
 add-put-column-2 : tie.Need-overflow-add-put-column-2
 add-put-column-2 c = search rules
 
 put-column-requires-3 : tie.Need-put-column-requires-3
-put-column-requires-3 c κs = let wide = decimal_few _ 9 (omega arith) c.before.before.before.before.before.before.before.before.before.before.before.before.before.before.before.before.requires.1.numbers.minutes_fit in search rules
+put-column-requires-3 c κs = let wide = decimal_few _ 9 (omega arith) c.before.before.before.before.before.before.before.before.before.before.before.before.before.before.before.before.requires.numbers.minutes_fit in search rules
 
 add-put-column-3 : tie.Need-overflow-add-put-column-3
 add-put-column-3 c = search rules
 
 put-column-requires-4 : tie.Need-put-column-requires-4
-put-column-requires-4 c κs = let wide = decimal_few _ 12 (omega arith) c.before.before.before.before.before.before.before.before.before.before.before.before.before.before.before.before.before.before.before.before.requires.1.numbers.total_fits in search rules
+put-column-requires-4 c κs = let wide = decimal_few _ 12 (omega arith) c.before.before.before.before.before.before.before.before.before.before.before.before.before.before.before.before.before.before.before.before.requires.numbers.total_fits in search rules
 
 add-page : tie.Need-overflow-add-page
 add-page c = search rules
@@ -51,7 +51,7 @@ slice-write-page c = search rules
 returns : tie.Need-returns
 returns c =
     let start = c.before.before.before.before.before.before.before.before.before.before.before.before.before.before.before.before.before.before.before.before.before.before.before in
-    step_written _ _ _ _ start.requires.1.numbers start.args.page.now _ _ _ _ _ start.args.at
+    step_written _ _ _ _ start.requires.numbers start.args.page.now _ _ _ _ _ start.args.at
     c.before.before.before.before.before.before.before.before.before.before.before.before.before.before.before.before.before.before.before.put-column.ensures
     c.before.before.before.before.before.before.before.before.before.before.before.before.before.before.before.put-blanks.ensures
     c.before.before.before.before.before.before.before.before.before.before.put-column2.ensures

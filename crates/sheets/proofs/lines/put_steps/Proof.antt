@@ -9,10 +9,10 @@ use Rattle.sheets.proofs.lines.put_steps.Statement.{statement}
 use Rattle.sheets.proofs.lines.put_steps.Tie as tie
 
 abbrev invariant-loop : tie.invariant-loop
-invariant-loop page₀ plan costs table count total₀ i₀ page total i = Writing (λ (a : ℕ). get_or costs a 0) page₀ (plan_of plan) page i total.0
+invariant-loop page₀ plan costs count total₀ i₀ page total i = Writing (λ (a : ℕ). get_or costs a 0) page₀ (plan_of plan) page i total.0
 
 abbrev decreases-loop : tie.decreases-loop
-decreases-loop page₀ plan costs table count total₀ i₀ page total i = count - i
+decreases-loop page₀ plan costs count total₀ i₀ page total i = count - i
 
 steps-requires : tie.Need-steps-requires invariant-loop decreases-loop
 steps-requires c κs = search rules
@@ -38,35 +38,33 @@ element-copy-out-minutes-of c =
     let l = c.before.before.before.loop in
     let plan = plan_of start.args.plan.now in
     let below : l.i < length plan = omega (arith, c.before.before.before.before.before.steps.ensures.is, c.before.before.loop-test.true) in
-    omega (arith, start.requires.1.known l.i below, c.before.step.ensures)
+    omega (arith, start.requires.known l.i below, c.before.step.ensures)
 
 minutes-of-requires : tie.Need-minutes-of-requires invariant-loop decreases-loop
 minutes-of-requires c κs = search rules
 
-add-t18 : tie.Need-overflow-add-t18 invariant-loop decreases-loop
-add-t18 c = omega (arith, c.before.before.minutes-of.ensures.below, c.before.before.before.before.before.before.before.loop.invariant.sum, c.before.before.before.before.before.before.before.loop.invariant.within, c.before.before.before.before.before.before.before.before.before.before.before.before.requires.1.few)
+add-t17 : tie.Need-overflow-add-t17 invariant-loop decreases-loop
+add-t17 c = omega (arith, c.before.before.minutes-of.ensures.below, c.before.before.before.before.before.before.before.loop.invariant.sum, c.before.before.before.before.before.before.before.loop.invariant.within, c.before.before.before.before.before.before.before.before.before.before.before.before.requires.few)
 
 mul-put-step : tie.Need-overflow-mul-put-step invariant-loop decreases-loop
 mul-put-step c = search rules
 
-add-t14 : tie.Need-overflow-add-t14 invariant-loop decreases-loop
-add-t14 c = search rules
+add-t13 : tie.Need-overflow-add-t13 invariant-loop decreases-loop
+add-t13 c = search rules
 
-cast-t22 : tie.Need-overflow-cast-t22 invariant-loop decreases-loop
-cast-t22 c = search rules
+cast-t21 : tie.Need-overflow-cast-t21 invariant-loop decreases-loop
+cast-t21 c = search rules
 
 put-step-requires : tie.Need-put-step-requires invariant-loop decreases-loop
 put-step-requires c κs =
     let start = c.before.before.before.before.before.before.before.before.before.before.before.before.before in
     let l = c.before.before.before.before.before.before.before.before.loop in
     let plan = plan_of start.args.plan.now in
-    let below : l.i < length plan = omega (arith, c.before.before.before.before.before.before.before.before.before.before.steps.ensures.is, c.before.before.before.before.before.before.before.loop-test.true) in (
-      start.requires.0,
-      record {
-        numbers = due_fits (λ (a : ℕ). get_or start.args.costs.now a 0) _ plan _ l.i l.total.0 l.invariant below start.requires.1.few _ _ c.before.before.before.before.before.before.step.ensures c.before.before.before.minutes-of.ensures.is (start.requires.1.known l.i below) (start.requires.1.cheap l.i below);
-        room = omega (arith, l.invariant.long, start.requires.1.room, below);
-      },
-    )
+    let below : l.i < length plan = omega (arith, c.before.before.before.before.before.before.before.before.before.before.steps.ensures.is, c.before.before.before.before.before.before.before.loop-test.true) in
+    record {
+      numbers = due_fits (λ (a : ℕ). get_or start.args.costs.now a 0) _ plan _ l.i l.total.0 l.invariant below start.requires.few _ _ c.before.before.before.before.before.before.step.ensures c.before.before.before.minutes-of.ensures.is (start.requires.known l.i below) (start.requires.cheap l.i below);
+      room = omega (arith, l.invariant.long, start.requires.room, below);
+    }
 
 add-i : tie.Need-overflow-add-i invariant-loop decreases-loop
 add-i c = search rules
@@ -80,7 +78,7 @@ loop-again c =
     let l = c.before.before.before.before.before.before.before.before.before.before.before.loop in
     let plan = plan_of start.args.plan.now in
     let below : l.i < length plan = omega (arith, c.before.before.before.before.before.before.before.before.before.before.before.before.before.steps.ensures.is, c.before.before.before.before.before.before.before.before.before.before.loop-test.true) in
-    writing_next (λ (a : ℕ). get_or start.args.costs.now a 0) _ plan _ l.i l.total.0 l.invariant below start.requires.1.few _ _ c.before.before.before.before.before.before.before.before.before.step.ensures c.before.before.before.before.before.before.minutes-of.ensures.is (start.requires.1.known l.i below) (start.requires.1.cheap l.i below) _ c.before.before.put_step.ensures
+    writing_next (λ (a : ℕ). get_or start.args.costs.now a 0) _ plan _ l.i l.total.0 l.invariant below start.requires.few _ _ c.before.before.before.before.before.before.before.before.before.step.ensures c.before.before.before.before.before.before.minutes-of.ensures.is (start.requires.known l.i below) (start.requires.cheap l.i below) _ c.before.before.put_step.ensures
 
 same_length : tie.Need-same-length invariant-loop decreases-loop
 same_length c = c.before.loop.invariant.long
@@ -102,10 +100,10 @@ put_steps_spec =
     mul-minutes-of
     element-copy-out-minutes-of
     minutes-of-requires
-    add-t18
+    add-t17
     mul-put-step
-    add-t14
-    cast-t22
+    add-t13
+    cast-t21
     put-step-requires
     add-i
     loop-less

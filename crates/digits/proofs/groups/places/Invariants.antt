@@ -1,0 +1,12 @@
+-- The digits counted and those of what is left are together those of the number.
+use Prim.Native.Nat.{◌+◌, ◌^◌, ◌<◌}
+use mathlib.Core.Path.{◌≡◌}
+use lib.ListN.{length}
+use Rattle.digits.specs.Decimal.{decimal}
+use Rattle.digits.proofs.groups.places.Given as goal
+
+abbrev pub invariant-loop-rest : goal.invariant-loop-rest
+invariant-loop-rest l = (l.count + length (decimal l.rest) ≡ length (decimal l.n)) × (l.rest < 2 ^ 64)
+
+abbrev pub decreases-loop-rest : goal.decreases-loop-rest
+decreases-loop-rest l = l.rest

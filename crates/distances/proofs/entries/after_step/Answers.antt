@@ -1,0 +1,6 @@
+use Rattle.distances.proofs.EntryLaws.{step_is}
+use borrow.Author.Rules.{rules}
+use Rattle.distances.proofs.entries.after_step.Goals as goal
+
+pub returns : goal.returns
+returns c = λ a e. step_is a _ _ e

@@ -1,0 +1,6 @@
+use Rattle.distances.proofs.EntryLaws.{entry_read}
+use borrow.Author.Rules.{rules}
+use Rattle.distances.proofs.entries.entry_at.Goals as goal
+
+pub returns : goal.returns
+returns c = entry_read _ _

@@ -1,0 +1,6 @@
+use Rattle.distances.proofs.EntryLaws.{is_none_lem}
+use borrow.Author.Rules.{rules}
+use Rattle.distances.proofs.entries.is_none.Goals as goal
+
+pub returns : goal.returns
+returns c = is_none_lem _ _ c.none-far.ensures

@@ -1,0 +1,13 @@
+-- The loop's invariant: what the values of the variables before `v` add.
+use Prim.Native.Nat.{◌+◌, ◌-◌, ◌*◌, ◌≤◌}
+use native.Mathlib.Omega.{arith}
+use lib.ListN.{get_or}
+use borrow.Author.Rules.{rules}
+use Rattle.distances.proofs.Goals.{Numbering, numbering_begin, number_fits, numbering_next, numbering_end}
+use Rattle.distances.proofs.goal.number.Given as goal
+
+abbrev pub invariant-loop-v : goal.invariant-loop-v
+invariant-loop-v l = Numbering l.variables l.goal l.weights l.v l.number
+
+abbrev pub decreases-loop-v : goal.decreases-loop-v
+decreases-loop-v l = l.variables - l.v

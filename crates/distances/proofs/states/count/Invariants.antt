@@ -1,0 +1,16 @@
+-- The loop's invariant: `states` is the count of the states of the variables before `v`.
+use Prim.Native.Nat.{◌-◌, ◌≤◌}
+use mathlib.Core.Path.{◌≡◌}
+use native.Mathlib.Omega.{arith}
+use Rattle.lookup.specs.Moves.{row_weight}
+use Rattle.lookup.proofs.MoveLoops.{product_most}
+use Rattle.distances.proofs.StateLoops.{weight_first, weight_next, count_over, count_end}
+use borrow.Author.Rules.{rules}
+use Rattle.distances.proofs.states.count.Given as goal
+
+abbrev pub invariant-loop-v : goal.invariant-loop-v
+invariant-loop-v l =
+    (l.states ≡ row_weight l.sizes l.v) × (l.v ≤ l.variables) × (l.states ≤ 4096)
+
+abbrev pub decreases-loop-v : goal.decreases-loop-v
+decreases-loop-v l = l.variables - l.v

@@ -1,0 +1,38 @@
+use Prim.Native.Nat.{◌-◌, ◌≤◌}
+use mathlib.Core.Path.{◌≡◌}
+use native.Mathlib.Omega.{arith}
+use native.Mathlib.Nat.{mul_comm}
+use Rattle.plans.specs.Tally.{list_state}
+use Rattle.distances.proofs.RowNumbers.{number_from}
+use Rattle.lookup.proofs.MoveLoops.{product_most}
+use Rattle.distances.proofs.StateLoops.{number_begin, number_next, number_few, number_end}
+use borrow.Author.Rules.{rules}
+use Rattle.distances.proofs.states.start_number.Goals as goal
+
+pub loop-v-init : goal.loop-v-init
+loop-v-init c = (number_begin c.args.sizes.now (list_state c.args.starts.now) _, omega arith)
+
+pub overflow_mul-number : goal.overflow_mul-number
+unfolding list_state
+overflow_mul-number c =
+    let l = c.loop-v in
+    let few = number_few c.args.sizes.now (list_state c.args.starts.now) c.args.variables c.requires.inside l.v l.number l.invariant.1 l.invariant.0 c.requires.states in
+    omega (arith, product_most _ _ few c.byte_at-in-loop-v.ensures.below, mul_comm l.number c.byte_at-in-loop-v.result)
+
+pub overflow_add-number : goal.overflow_add-number
+unfolding list_state
+overflow_add-number c =
+    let l = c.loop-v in
+    let few = number_few c.args.sizes.now (list_state c.args.starts.now) c.args.variables c.requires.inside l.v l.number l.invariant.1 l.invariant.0 c.requires.states in
+    omega (arith, product_most _ _ few c.byte_at-in-loop-v.ensures.below, mul_comm l.number c.byte_at-in-loop-v.result, c.byte_at.ensures.below)
+
+pub loop-v-preserved : goal.loop-v-preserved
+unfolding list_state
+loop-v-preserved c =
+    let l = c.loop-v in
+    (number_next c.args.sizes.now (list_state c.args.starts.now) _ _ _ _ _ c.loop-v-test.true l.invariant.1 l.invariant.0 c.byte_at.ensures.is c.byte_at-in-loop-v.ensures.is, omega arith)
+
+pub returns : goal.returns
+unfolding list_state
+returns c =
+    number_end c.args.sizes.now (list_state c.args.starts.now) _ c.args.starts.now _ _ c.loop-v-test.false c.loop-v.invariant.0
