@@ -1,7 +1,6 @@
 -- The file, the level and the room give the outcome in this order; the arrays hold the file's task.
 use mathlib.Core.Path.{◌≡◌, sym, ap, ◌∙◌}
 use native.Mathlib.Omega.{arith}
-use borrow.Author.Tests.{not-true, not-false}
 use Rattle.files.specs.declared.Outcome.{Outcome}
 use Rattle.files.specs.Accepted.{accepted_task}
 use Rattle.files.specs.Bytes.{Octets}
@@ -10,7 +9,6 @@ use Rattle.files.proofs.TaskChecked.{task_accepted}
 use Rattle.files.proofs.Guards.{refusal_number}
 use Rattle.files.proofs.HeldTask.{held_by}
 use Rattle.marking.proofs.MarkRow.{input_refused, refused_file, refused_level, of_task}
-use borrow.Author.Rules.{rules}
 use Rattle.marking.proofs.mark.Goals as goal
 
 pub returns-then-read-ne0 : goal.returns-then-read-ne0

@@ -4,7 +4,6 @@ use mathlib.Core.Path.{◌≡◌, refl}
 use mathlib.Core.Bool.{Bool, true, false, not, ◌||◌}
 use native.Mathlib.Omega.{arith}
 use lib.Dec.{eqb}
-use borrow.Author.Rules.{rules}
 use Rattle.files.specs.Below.{bit}
 use Rattle.files.proofs.BelowLaws.{bit_most}
 use Rattle.marking.proofs.cells.any_of.Goals as goal

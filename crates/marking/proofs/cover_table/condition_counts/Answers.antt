@@ -1,8 +1,7 @@
-use Prim.Native.Nat.{ℕ, ◌*◌, ◌-◌, ◌≤◌, ◌<◌}
+use Prim.Native.Nat.{◌*◌}
 use mathlib.Core.Path.{◌≡◌, refl, ◌∙◌}
 use native.Mathlib.Omega.{arith}
-use lib.ListN.{length, length-set, get_or}
-use borrow.Author.Rules.{rules}
+use lib.ListN.{length-set}
 use Rattle.files.proofs.Filling.{filled_before}
 use Rattle.marking.specs.Dense.{conditions_in}
 use Rattle.marking.proofs.cover_table.condition_counts.Goals as goal

@@ -1,10 +1,7 @@
 -- The loop's invariant: each entry before `a` is the count of its row.
 use Prim.Native.Nat.{ℕ, ◌*◌, ◌-◌, ◌≤◌, ◌<◌}
-use mathlib.Core.Path.{◌≡◌, refl, ◌∙◌}
-use native.Mathlib.Omega.{arith}
-use lib.ListN.{length, length-set, get_or}
-use borrow.Author.Rules.{rules}
-use Rattle.files.proofs.Filling.{filled_before}
+use mathlib.Core.Path.{◌≡◌}
+use lib.ListN.{length, get_or}
 use Rattle.marking.specs.Dense.{conditions_in}
 use Rattle.marking.proofs.cover_table.condition_counts.Given as goal
 

@@ -1,10 +1,6 @@
-use Prim.Native.Nat.{◌-◌, ◌≤◌}
-use mathlib.Core.Path.{◌≡◌, refl, ◌∙◌}
+use mathlib.Core.Path.{refl, ◌∙◌}
 use native.Mathlib.Omega.{arith}
-use lib.ListN.{length}
-use borrow.Author.Rules.{rules}
-use Rattle.marking.specs.Dense.{could_cover_at}
-use Rattle.marking.proofs.CoverTable.{ColumnsTo, columns_begin, columns_next}
+use Rattle.marking.proofs.CoverTable.{columns_begin, columns_next}
 use Rattle.marking.proofs.cover_table.fill.Goals as goal
 
 pub returns-then-scope-ne4 : goal.returns-then-scope-ne4

@@ -1,11 +1,9 @@
 -- The loop's invariant: the columns of the actions before `b` are filled, and the others empty.
 use Prim.Native.Nat.{◌-◌, ◌≤◌}
-use mathlib.Core.Path.{◌≡◌, refl, ◌∙◌}
-use native.Mathlib.Omega.{arith}
+use mathlib.Core.Path.{◌≡◌}
 use lib.ListN.{length}
-use borrow.Author.Rules.{rules}
 use Rattle.marking.specs.Dense.{could_cover_at}
-use Rattle.marking.proofs.CoverTable.{ColumnsTo, columns_begin, columns_next}
+use Rattle.marking.proofs.CoverTable.{ColumnsTo}
 use Rattle.marking.proofs.cover_table.fill.Given as goal
 
 abbrev pub invariant-loop-b : goal.invariant-loop-b

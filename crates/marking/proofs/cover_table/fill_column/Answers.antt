@@ -1,11 +1,9 @@
-use Prim.Native.Nat.{ℕ, ◌-◌, ◌≤◌}
+use Prim.Native.Nat.{ℕ}
 use mathlib.Core.Path.{◌≡◌, sym, ◌∙◌}
 use mathlib.Core.Bool.{Bool}
-use mathlib.Core.Logic.{⊎_elim}
 use native.Mathlib.Omega.{arith}
-use borrow.Author.Rules.{rules}
 use Rattle.marking.specs.Dense.{could_cover_at}
-use Rattle.marking.proofs.CoverTable.{ColumnTo, column_begins, column_kept, column_set}
+use Rattle.marking.proofs.CoverTable.{column_begins, column_kept, column_set}
 use Rattle.marking.proofs.cover_table.fill_column.Goals as goal
 use Rattle.marking.proofs.cover_table.fill_column.Goals.{then-pair_could_cover, else-pair_could_cover}
 
@@ -27,9 +25,9 @@ loop-a-preserved c =
     let f : ℕ → Bool = could_cover_at c.args.costs.now c.args.conditions.now c.args.variables c.args.b in
     let is : f l.a ≡ c.pair_could_cover.result = sym c.pair_could_cover.ensures in (
       elim c.if-pair_could_cover.branch [
-        then-pair_could_cover w ↦ rw w.could_cover-is
-          (column_set l.a c.args.b (omega arith) l.could_cover _ w.add.ensures f _ _ l.invariant.0 (omega arith) (is ∙ w.if-pair_could_cover.true))
-      | else-pair_could_cover w ↦ column_kept f _ _ l.a _ l.could_cover _ l.invariant.0 c.loop-a-test.true (is ∙ w.if-pair_could_cover.false) w.could_cover-is
+        | then-pair_could_cover w ↦ rw w.could_cover-is
+            (column_set l.a c.args.b (omega arith) l.could_cover _ w.add.ensures f _ _ l.invariant.0 (omega arith) (is ∙ w.if-pair_could_cover.true))
+        | else-pair_could_cover w ↦ column_kept f _ _ l.a _ l.could_cover _ l.invariant.0 c.loop-a-test.true (is ∙ w.if-pair_could_cover.false) w.could_cover-is
       ],
       omega arith,
     )

@@ -1,12 +1,7 @@
 -- The loop's invariant: the column is filled up to `a`.
-use Prim.Native.Nat.{ℕ, ◌-◌, ◌≤◌}
-use mathlib.Core.Path.{◌≡◌, sym, ◌∙◌}
-use mathlib.Core.Bool.{Bool}
-use mathlib.Core.Logic.{⊎_elim}
-use native.Mathlib.Omega.{arith}
-use borrow.Author.Rules.{rules}
+use Prim.Native.Nat.{◌-◌, ◌≤◌}
 use Rattle.marking.specs.Dense.{could_cover_at}
-use Rattle.marking.proofs.CoverTable.{ColumnTo, column_begins, column_kept, column_set}
+use Rattle.marking.proofs.CoverTable.{ColumnTo}
 use Rattle.marking.proofs.cover_table.fill_column.Given as goal
 
 abbrev pub invariant-loop-a : goal.invariant-loop-a

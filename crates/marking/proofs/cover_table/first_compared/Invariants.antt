@@ -1,6 +1,5 @@
 -- The loop goes down from the last variable.
 use Prim.Native.Nat.{◌≤◌}
-use borrow.Author.Rules.{rules}
 use Rattle.marking.proofs.cover_table.first_compared.Given as goal
 
 abbrev pub invariant-loop-v : goal.invariant-loop-v

@@ -1,7 +1,6 @@
 -- No variable is looked at that there is not.
 use mathlib.Core.Path.{refl}
 use borrow.Author.Tests.{lt-ltb, le-ltb}
-use borrow.Author.Rules.{rules}
 use Rattle.marking.proofs.cover_table.is_missing.Goals as goal
 
 pub returns-then-variables-v : goal.returns-then-variables-v

@@ -2,7 +2,6 @@
 use Prim.Native.Nat.{ℕ}
 use mathlib.Core.Path.{ap, ◌∙◌}
 use lib.Dec.{eqb}
-use borrow.Author.Rules.{rules}
 use Rattle.marking.proofs.NestedRows.{told_apart, not_told_apart}
 use Rattle.marking.proofs.cover_table.pair_could_cover.Goals as goal
 

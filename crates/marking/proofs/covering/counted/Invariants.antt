@@ -1,12 +1,8 @@
 -- The loop's invariant: each entry before `a` is the bit of its test.
 use Prim.Native.Nat.{ℕ, ◌-◌, ◌≤◌, ◌<◌}
-use mathlib.Core.Path.{◌≡◌, refl, ◌∙◌}
-use mathlib.Core.Bool.{Bool}
-use native.Mathlib.Omega.{arith}
-use lib.ListN.{length, length-set, get_or}
-use borrow.Author.Rules.{rules}
+use mathlib.Core.Path.{◌≡◌}
+use lib.ListN.{length, get_or}
 use Rattle.files.specs.Below.{bit}
-use Rattle.files.proofs.Filling.{filled_before}
 use Rattle.marking.specs.Dense.{covered_at, counted_at}
 use Rattle.marking.proofs.covering.counted.Given as goal
 

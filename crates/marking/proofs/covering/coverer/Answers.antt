@@ -1,6 +1,5 @@
 -- What the search behind the one from before finds covers; else the search from the first action on decides.
 use native.Mathlib.Omega.{arith}
-use borrow.Author.Rules.{rules}
 use Rattle.marking.proofs.CoverSearch.{coverer_found, coverer_first}
 use Rattle.marking.proofs.covering.coverer.Goals as goal
 

@@ -1,7 +1,5 @@
-use Prim.Native.Nat.{◌-◌}
 use mathlib.Core.Path.{sym, ◌∙◌}
-use borrow.Author.Rules.{rules}
-use Rattle.marking.proofs.CoverSearch.{Sought, sought_begin, sought_next, sought_found, sought_none}
+use Rattle.marking.proofs.CoverSearch.{sought_begin, sought_next, sought_found, sought_none}
 use Rattle.marking.proofs.covering.find_coverer.Goals as goal
 
 pub loop-b-init : goal.loop-b-init

@@ -1,8 +1,6 @@
 -- The loop's invariant: none of the actions from `from` on before `b` covers, and `b` could.
 use Prim.Native.Nat.{◌-◌}
-use mathlib.Core.Path.{sym, ◌∙◌}
-use borrow.Author.Rules.{rules}
-use Rattle.marking.proofs.CoverSearch.{Sought, sought_begin, sought_next, sought_found, sought_none}
+use Rattle.marking.proofs.CoverSearch.{Sought}
 use Rattle.marking.proofs.covering.find_coverer.Given as goal
 
 abbrev pub invariant-loop-b : goal.invariant-loop-b

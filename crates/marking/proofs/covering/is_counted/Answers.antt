@@ -1,7 +1,6 @@
 -- The tests in turn, and at level 4 the search.
 use mathlib.Core.Path.{refl}
 use borrow.Author.Tests.{eq-eqb, ne_eqb}
-use borrow.Author.Rules.{rules}
 use Rattle.marking.specs.Dense.{counted_at}
 use Rattle.files.proofs.LoopCounts.{leb_ltb}
 use Rattle.marking.proofs.covering.is_counted.Goals as goal

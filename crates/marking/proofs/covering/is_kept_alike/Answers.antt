@@ -1,7 +1,6 @@
 -- The tests in turn: b is kept, no tracked effect is unlike.
 use mathlib.Core.Path.{refl}
 use borrow.Author.Tests.{eq-eqb, ne_eqb}
-use borrow.Author.Rules.{rules}
 use Rattle.marking.specs.Dense.{kept_alike}
 use Rattle.marking.proofs.covering.is_kept_alike.Goals as goal
 

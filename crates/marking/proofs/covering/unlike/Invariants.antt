@@ -1,15 +1,7 @@
 -- The loop's invariant: the count is that of the variables before `v`.
-use Prim.Native.Nat.{ℕ, ◌+◌, ◌-◌, ◌≤◌}
-use mathlib.Core.Path.{◌≡◌, refl}
-use mathlib.Core.Bool.{Bool, not, ◌&&◌}
-use native.Mathlib.Omega.{arith}
-use lib.Dec.{eqb}
-use lib.ListN.{get_or}
-use borrow.Author.Rules.{rules}
-use Rattle.files.proofs.BelowLaws.{bit_most}
-use Rattle.marking.specs.Dense.{is_marked, unlike}
-use Rattle.marking.proofs.SetWhere.{at_end}
-use Rattle.files.proofs.LoopCounts.{count_next}
+use Prim.Native.Nat.{◌-◌, ◌≤◌}
+use mathlib.Core.Path.{◌≡◌}
+use Rattle.marking.specs.Dense.{unlike}
 use Rattle.marking.proofs.covering.unlike.Given as goal
 
 abbrev pub invariant-loop-v : goal.invariant-loop-v

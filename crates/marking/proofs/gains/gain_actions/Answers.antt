@@ -1,8 +1,6 @@
-use Prim.Native.Nat.{◌*◌, ◌/◌, ◌%◌, ◌-◌, ◌≤◌}
+use Prim.Native.Nat.{◌*◌, ◌/◌, ◌%◌}
 use mathlib.Core.Bool.{◌&&◌}
 use native.Mathlib.Omega.{arith}
-use lib.ListN.{length}
-use borrow.Author.Rules.{rules}
 use Rattle.marking.specs.Dense.{SetWhere, differ, sets, achieves}
 use Rattle.marking.proofs.SetWhere.{at_end, turns_begin, turns_next}
 use Rattle.marking.proofs.gains.gain_actions.Goals as goal

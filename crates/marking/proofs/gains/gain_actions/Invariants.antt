@@ -1,11 +1,7 @@
 -- The loop's invariant: the actions that set a fact before `i` that became unlinked are kept.
-use Prim.Native.Nat.{◌*◌, ◌/◌, ◌%◌, ◌-◌, ◌≤◌}
-use mathlib.Core.Bool.{◌&&◌}
-use native.Mathlib.Omega.{arith}
+use Prim.Native.Nat.{◌-◌, ◌≤◌}
 use lib.ListN.{length}
-use borrow.Author.Rules.{rules}
-use Rattle.marking.specs.Dense.{SetWhere, differ, sets, achieves}
-use Rattle.marking.proofs.SetWhere.{at_end, turns_begin, turns_next}
+use Rattle.marking.specs.Dense.{SetWhere, achieves}
 use Rattle.marking.proofs.gains.gain_actions.Given as goal
 
 abbrev pub invariant-loop-i : goal.invariant-loop-i

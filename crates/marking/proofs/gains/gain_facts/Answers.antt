@@ -1,8 +1,6 @@
-use Prim.Native.Nat.{◌*◌, ◌-◌, ◌≤◌}
+use Prim.Native.Nat.{◌*◌}
 use mathlib.Core.Bool.{◌&&◌}
 use native.Mathlib.Omega.{arith}
-use lib.ListN.{length}
-use borrow.Author.Rules.{rules}
 use Rattle.marking.specs.Dense.{SetWhere, differ, row_names, names_anew}
 use Rattle.marking.proofs.SetWhere.{at_end, turns_begin, turns_next}
 use Rattle.marking.proofs.gains.gain_facts.Goals as goal

@@ -1,11 +1,7 @@
 -- The loop's invariant: the facts that actions before `a` name are marked, where they are counted and were not before.
-use Prim.Native.Nat.{◌*◌, ◌-◌, ◌≤◌}
-use mathlib.Core.Bool.{◌&&◌}
-use native.Mathlib.Omega.{arith}
+use Prim.Native.Nat.{◌-◌, ◌≤◌}
 use lib.ListN.{length}
-use borrow.Author.Rules.{rules}
-use Rattle.marking.specs.Dense.{SetWhere, differ, row_names, names_anew}
-use Rattle.marking.proofs.SetWhere.{at_end, turns_begin, turns_next}
+use Rattle.marking.specs.Dense.{SetWhere, names_anew}
 use Rattle.marking.proofs.gains.gain_facts.Given as goal
 
 abbrev pub invariant-loop-a : goal.invariant-loop-a

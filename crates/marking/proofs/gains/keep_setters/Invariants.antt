@@ -1,12 +1,7 @@
 -- The loop's invariant: of the actions before `a`, those that set the variable to the value are kept.
-use Prim.Native.Nat.{ℕ, ◌+◌, ◌*◌, ◌-◌, ◌≤◌}
-use mathlib.Core.Bool.{Bool}
-use native.Mathlib.Omega.{arith}
-use lib.Dec.{eqb}
-use lib.ListN.{length, get_or}
-use borrow.Author.Rules.{rules}
+use Prim.Native.Nat.{◌-◌, ◌≤◌}
+use lib.ListN.{length}
 use Rattle.marking.specs.Dense.{SetWhere, sets}
-use Rattle.marking.proofs.SetWhere.{at_end, places_begin, places_next}
 use Rattle.marking.proofs.gains.keep_setters.Given as goal
 
 abbrev pub invariant-loop-a : goal.invariant-loop-a

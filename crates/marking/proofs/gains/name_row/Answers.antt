@@ -1,7 +1,6 @@
-use Prim.Native.Nat.{◌+◌, ◌-◌, ◌≤◌}
+use Prim.Native.Nat.{◌+◌}
 use native.Mathlib.Omega.{arith}
-use lib.ListN.{length, get_or}
-use borrow.Author.Rules.{rules}
+use lib.ListN.{get_or}
 use Rattle.marking.specs.Dense.{SetWhere, names_at, row_names}
 use Rattle.marking.proofs.SetWhere.{at_end, turns_begin, turns_next}
 use Rattle.marking.proofs.gains.name_row.Goals as goal

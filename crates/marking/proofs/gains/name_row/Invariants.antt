@@ -1,10 +1,7 @@
 -- The loop's invariant: the facts that entries before `v` name are marked.
-use Prim.Native.Nat.{◌+◌, ◌-◌, ◌≤◌}
-use native.Mathlib.Omega.{arith}
-use lib.ListN.{length, get_or}
-use borrow.Author.Rules.{rules}
-use Rattle.marking.specs.Dense.{SetWhere, names_at, row_names}
-use Rattle.marking.proofs.SetWhere.{at_end, turns_begin, turns_next}
+use Prim.Native.Nat.{◌-◌, ◌≤◌}
+use lib.ListN.{length}
+use Rattle.marking.specs.Dense.{SetWhere, row_names}
 use Rattle.marking.proofs.gains.name_row.Given as goal
 
 abbrev pub invariant-loop-v : goal.invariant-loop-v

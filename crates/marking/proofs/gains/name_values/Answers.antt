@@ -1,9 +1,7 @@
-use Prim.Native.Nat.{◌+◌, ◌*◌, ◌-◌, ◌≤◌}
+use Prim.Native.Nat.{◌+◌, ◌*◌}
 use mathlib.Core.Bool.{◌&&◌}
 use native.Mathlib.Omega.{arith}
 use lib.Dec.{eqb, ltb}
-use lib.ListN.{length}
-use borrow.Author.Rules.{rules}
 use Rattle.files.specs.Below.{any_below}
 use Rattle.marking.specs.Dense.{SetWhere}
 use Rattle.marking.proofs.SetWhere.{at_end, set_alike, set_place, turns_begin, turns_next}

@@ -1,14 +1,10 @@
 -- The loop's invariant: of the values before `d`, those below the size are marked. Turn `d` sets the place of value `d`.
 use Prim.Native.Nat.{◌+◌, ◌*◌, ◌-◌, ◌≤◌}
 use mathlib.Core.Bool.{◌&&◌}
-use native.Mathlib.Omega.{arith}
 use lib.Dec.{eqb, ltb}
 use lib.ListN.{length}
-use borrow.Author.Rules.{rules}
 use Rattle.files.specs.Below.{any_below}
 use Rattle.marking.specs.Dense.{SetWhere}
-use Rattle.marking.proofs.SetWhere.{at_end, set_alike, set_place, turns_begin, turns_next}
-use Rattle.marking.proofs.Places.{place_values}
 use Rattle.marking.proofs.gains.name_values.Given as goal
 
 abbrev pub invariant-loop-d : goal.invariant-loop-d

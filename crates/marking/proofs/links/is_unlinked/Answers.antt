@@ -1,7 +1,6 @@
 -- A fact that is not relevant is not unlinked; of another the link decides.
 use mathlib.Core.Path.{refl, ap}
 use mathlib.Core.Bool.{not}
-use borrow.Author.Rules.{rules}
 use borrow.Author.Tests.{eq-eqb, ne_eqb}
 use Rattle.marking.specs.Dense.{unlinked_at}
 use Rattle.marking.proofs.links.is_unlinked.Goals as goal

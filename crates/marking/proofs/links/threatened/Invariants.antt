@@ -1,11 +1,7 @@
 -- The loop's invariant: the variables that actions before `a` threaten are marked.
-use Prim.Native.Nat.{◌*◌, ◌-◌, ◌≤◌}
-use mathlib.Core.Bool.{◌&&◌}
-use native.Mathlib.Omega.{arith}
+use Prim.Native.Nat.{◌-◌, ◌≤◌}
 use lib.ListN.{length}
-use borrow.Author.Rules.{rules}
-use Rattle.marking.specs.Dense.{SetWhere, differ, threatens, threatens_anew}
-use Rattle.marking.proofs.SetWhere.{at_end, turns_begin, turns_next}
+use Rattle.marking.specs.Dense.{SetWhere, threatens_anew}
 use Rattle.marking.proofs.links.threatened.Given as goal
 
 abbrev pub invariant-loop-a : goal.invariant-loop-a

@@ -1,11 +1,8 @@
 -- The loop's invariant: the entries before `i` are told, and those from `i` on are zero.
 use Prim.Native.Nat.{ℕ, ◌-◌, ◌≤◌, ◌<◌}
-use mathlib.Core.Path.{◌≡◌, refl, ap, ◌∙◌}
-use native.Mathlib.Omega.{arith}
-use lib.ListN.{length, length-set, get_or}
-use borrow.Author.Rules.{rules}
+use mathlib.Core.Path.{◌≡◌}
+use lib.ListN.{length, get_or}
 use Rattle.files.specs.Below.{bit}
-use Rattle.files.proofs.Filling.{filled_before, filled_after, zeros_entry}
 use Rattle.marking.specs.Dense.{unlinked_at}
 use Rattle.marking.proofs.links.unlinked.Given as goal
 

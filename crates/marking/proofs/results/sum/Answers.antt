@@ -1,7 +1,5 @@
-use Prim.Native.Nat.{◌*◌, ◌-◌, ◌≤◌}
 use mathlib.Core.Path.{◌≡◌, refl}
 use native.Mathlib.Omega.{arith}
-use borrow.Author.Rules.{rules}
 use Rattle.files.specs.Below.{sum_of}
 use Rattle.marking.proofs.SetWhere.{at_end}
 use Rattle.files.proofs.LoopCounts.{sum_next}

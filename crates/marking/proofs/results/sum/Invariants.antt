@@ -1,11 +1,7 @@
 -- The loop's invariant: the total is that of the bytes before `i`.
 use Prim.Native.Nat.{◌*◌, ◌-◌, ◌≤◌}
-use mathlib.Core.Path.{◌≡◌, refl}
-use native.Mathlib.Omega.{arith}
-use borrow.Author.Rules.{rules}
+use mathlib.Core.Path.{◌≡◌}
 use Rattle.files.specs.Below.{sum_of}
-use Rattle.marking.proofs.SetWhere.{at_end}
-use Rattle.files.proofs.LoopCounts.{sum_next}
 use Rattle.marking.proofs.results.sum.Given as goal
 
 abbrev pub invariant-loop-i : goal.invariant-loop-i

@@ -1,10 +1,6 @@
-use Prim.Native.Nat.{◌+◌}
-use mathlib.Core.Path.{◌≡◌, refl, ◌∙◌}
+use mathlib.Core.Path.{refl, ◌∙◌}
 use native.Mathlib.Omega.{arith}
-use lib.ListN.{length, length-set, get_or}
-use borrow.Author.Rules.{rules}
-use Rattle.files.specs.Below.{tabulate_from, tabulate}
-use Rattle.files.specs.Bytes.{placed}
+use lib.ListN.{length-set, get_or}
 use Rattle.marking.proofs.ResultLaws.{bytes_none, bytes_next}
 use Rattle.marking.proofs.results.write_actions.Goals as goal
 

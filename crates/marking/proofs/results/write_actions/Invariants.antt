@@ -1,12 +1,9 @@
 -- The loop's invariant: the bytes left, placed behind those that stand, make all the bytes.
 use Prim.Native.Nat.{◌+◌}
-use mathlib.Core.Path.{◌≡◌, refl, ◌∙◌}
-use native.Mathlib.Omega.{arith}
-use lib.ListN.{length, length-set, get_or}
-use borrow.Author.Rules.{rules}
+use mathlib.Core.Path.{◌≡◌}
+use lib.ListN.{length, get_or}
 use Rattle.files.specs.Below.{tabulate_from, tabulate}
 use Rattle.files.specs.Bytes.{placed}
-use Rattle.marking.proofs.ResultLaws.{bytes_none, bytes_next}
 use Rattle.marking.proofs.results.write_actions.Given as goal
 
 abbrev pub invariant-loop-left : goal.invariant-loop-left

@@ -1,8 +1,6 @@
-use Prim.Native.Nat.{◌-◌, ◌≤◌}
 use mathlib.Core.Path.{◌≡◌, refl}
 use native.Mathlib.Omega.{arith}
-use lib.ListN.{length, get_or}
-use borrow.Author.Rules.{rules}
+use lib.ListN.{get_or}
 use Rattle.files.specs.Below.{join_below, sum_of}
 use Rattle.files.specs.Bytes.{placed}
 use Rattle.marking.specs.Dense.{fact_bytes}

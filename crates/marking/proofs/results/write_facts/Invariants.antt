@@ -1,15 +1,10 @@
 -- The loop's invariant: the bytes of the variables before `v` stand, and `at` is their number.
 use Prim.Native.Nat.{◌-◌, ◌≤◌}
-use mathlib.Core.Path.{◌≡◌, refl}
-use native.Mathlib.Omega.{arith}
+use mathlib.Core.Path.{◌≡◌}
 use lib.ListN.{length, get_or}
-use borrow.Author.Rules.{rules}
 use Rattle.files.specs.Below.{join_below, sum_of}
 use Rattle.files.specs.Bytes.{placed}
 use Rattle.marking.specs.Dense.{fact_bytes}
-use Rattle.marking.proofs.SetWhere.{at_end}
-use Rattle.files.proofs.LoopCounts.{sum_next, sum_within}
-use Rattle.marking.proofs.ResultLaws.{facts_next}
 use Rattle.marking.proofs.results.write_facts.Given as goal
 
 abbrev pub invariant-loop-v : goal.invariant-loop-v

@@ -1,12 +1,7 @@
-use Prim.Native.Nat.{ℕ, ◌+◌, ◌*◌}
-use mathlib.Core.Path.{◌≡◌, refl, ◌∙◌}
-use mathlib.Core.List.{List}
+use mathlib.Core.Path.{refl, ◌∙◌}
 use native.Mathlib.Omega.{arith}
-use lib.ListN.{length, length-set, get_or}
-use borrow.Author.Rules.{rules}
-use Rattle.files.specs.Below.{tabulate_from}
-use Rattle.files.specs.Bytes.{placed}
-use Rattle.marking.specs.Dense.{fact_byte, fact_bytes}
+use lib.ListN.{length-set}
+use Rattle.marking.specs.Dense.{fact_bytes}
 use Rattle.marking.proofs.ResultLaws.{bytes_none, bytes_next}
 use Rattle.marking.proofs.results.write_values.Invariants.{mark}
 use Rattle.marking.proofs.results.write_values.Goals as goal

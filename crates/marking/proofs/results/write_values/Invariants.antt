@@ -1,14 +1,11 @@
 -- The loop's invariant: the bytes left, placed behind those that stand, make all the bytes.
 use Prim.Native.Nat.{ℕ, ◌+◌, ◌*◌}
-use mathlib.Core.Path.{◌≡◌, refl, ◌∙◌}
+use mathlib.Core.Path.{◌≡◌}
 use mathlib.Core.List.{List}
-use native.Mathlib.Omega.{arith}
-use lib.ListN.{length, length-set, get_or}
-use borrow.Author.Rules.{rules}
+use lib.ListN.{length, get_or}
 use Rattle.files.specs.Below.{tabulate_from}
 use Rattle.files.specs.Bytes.{placed}
 use Rattle.marking.specs.Dense.{fact_byte, fact_bytes}
-use Rattle.marking.proofs.ResultLaws.{bytes_none, bytes_next}
 use Rattle.marking.proofs.results.write_values.Given as goal
 
 -- the byte of a variable's value

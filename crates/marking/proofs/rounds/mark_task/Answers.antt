@@ -12,7 +12,6 @@ use Rattle.marking.proofs.MarkLaws.{facts_held, action_bytes_lem, fact_bytes_lem
 use Rattle.files.proofs.Guards.{refusal_number}
 use Rattle.files.proofs.Stages.{first_short, second_short, both_fit}
 use Rattle.marking.proofs.MarkRow.{marks_refused, marks_written}
-use borrow.Author.Rules.{rules}
 use Rattle.marking.proofs.rounds.mark_task.Goals as goal
 
 pub sum-facts-requires : goal.sum-facts-requires

@@ -1,4 +1,4 @@
-use Prim.Native.Nat.{◌+◌, ◌-◌, ◌≤◌}
+use Prim.Native.Nat.{◌+◌, ◌≤◌}
 use mathlib.Core.Path.{ap₂}
 use native.Mathlib.Omega.{arith}
 use borrow.Author.Rules.{rules}
@@ -7,7 +7,7 @@ use Rattle.files.specs.Dense.{Arrays, held, arrays}
 use Rattle.files.proofs.Filling.{zeros_entry}
 use Rattle.files.proofs.Valid.{Valid, task_valid}
 use Rattle.files.proofs.HeldTask.{variables_held, actions_held}
-use Rattle.marking.proofs.Rounding.{limit, Rounding, rounding_begins, rounds_few, rounding_less, rounding_next, rounding_ends}
+use Rattle.marking.proofs.Rounding.{rounding_begins, rounds_few, rounding_less, rounding_next, rounding_ends}
 use Rattle.marking.proofs.rounds.run.Goals as goal
 
 pub fill-requires : goal.fill-requires
