@@ -1,5 +1,4 @@
 use Rattle.distances.proofs.BoundLaws.{greater_first, greater_second}
-use borrow.Author.Rules.{rules}
 use Rattle.distances.proofs.bounds.greater.Goals as goal
 
 pub returns-then-less : goal.returns-then-less

@@ -1,10 +1,8 @@
-use Prim.Native.Nat.{◌-◌}
 use mathlib.Core.Path.{subst}
 use native.Mathlib.Omega.{arith}
 use Rattle.distances.specs.Bounds.{Greater}
 use Rattle.distances.specs.declared.Entry.{Entry}
-use Rattle.distances.proofs.BoundLaws.{AboveBelow, above_none, above_next, above_end}
-use borrow.Author.Rules.{rules}
+use Rattle.distances.proofs.BoundLaws.{above_none, above_next, above_end}
 use Rattle.distances.proofs.bounds.greatest.Goals as goal
 
 pub loop-s-init : goal.loop-s-init

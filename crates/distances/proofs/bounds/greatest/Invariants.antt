@@ -1,11 +1,6 @@
 -- The loop's invariant: no entry of the states below `s` is above it.
 use Prim.Native.Nat.{◌-◌}
-use mathlib.Core.Path.{subst}
-use native.Mathlib.Omega.{arith}
-use Rattle.distances.specs.Bounds.{Greater}
-use Rattle.distances.specs.declared.Entry.{Entry}
-use Rattle.distances.proofs.BoundLaws.{AboveBelow, above_none, above_next, above_end}
-use borrow.Author.Rules.{rules}
+use Rattle.distances.proofs.BoundLaws.{AboveBelow}
 use Rattle.distances.proofs.bounds.greatest.Given as goal
 
 abbrev pub invariant-loop-s : goal.invariant-loop-s

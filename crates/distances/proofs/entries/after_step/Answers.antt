@@ -1,5 +1,4 @@
 use Rattle.distances.proofs.EntryLaws.{step_is}
-use borrow.Author.Rules.{rules}
 use Rattle.distances.proofs.entries.after_step.Goals as goal
 
 pub returns : goal.returns

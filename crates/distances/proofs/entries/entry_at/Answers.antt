@@ -1,5 +1,4 @@
 use Rattle.distances.proofs.EntryLaws.{entry_read}
-use borrow.Author.Rules.{rules}
 use Rattle.distances.proofs.entries.entry_at.Goals as goal
 
 pub returns : goal.returns

@@ -1,5 +1,4 @@
 use Rattle.distances.proofs.EntryLaws.{first_yes, first_no}
-use borrow.Author.Rules.{rules}
 use Rattle.distances.proofs.entries.first.Goals as goal
 
 pub returns-then-reached : goal.returns-then-reached

@@ -1,5 +1,4 @@
 use Rattle.distances.proofs.EntryLaws.{is_none_lem}
-use borrow.Author.Rules.{rules}
 use Rattle.distances.proofs.entries.is_none.Goals as goal
 
 pub returns : goal.returns

@@ -3,7 +3,6 @@ use native.Mathlib.Omega.{arith}
 use lib.ListN.{length-set}
 use Rattle.distances.specs.Table.{minutes_of}
 use Rattle.distances.proofs.EntryLaws.{entry_put}
-use borrow.Author.Rules.{rules}
 use Rattle.distances.proofs.entries.put_entry.Goals as goal
 
 pub bounds-entries-state-2 : goal.bounds-entries-state-2

@@ -1,6 +1,5 @@
 -- Neither is less than the other.
 use Rattle.distances.proofs.EntryLaws.{less_not_same, not_less_same}
-use borrow.Author.Rules.{rules}
 use Rattle.distances.proofs.entries.same.Goals as goal
 
 pub returns-then-less : goal.returns-then-less

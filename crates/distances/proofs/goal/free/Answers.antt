@@ -3,9 +3,8 @@ use mathlib.Core.Path.{◌≡◌, ap, ◌∙◌}
 use native.Mathlib.Omega.{arith}
 use lib.Dec.{eqb}
 use lib.ListN.{get_or}
-use borrow.Author.Rules.{rules}
 use Rattle.files.specs.Below.{bit}
-use Rattle.bits.proofs.WordLoops.{Marking, mark_begin, mark_fits, mark_most, mark_next, mark_below}
+use Rattle.bits.proofs.WordLoops.{mark_begin, mark_fits, mark_most, mark_next, mark_below}
 use Rattle.distances.proofs.goal.free.Goals as goal
 
 pub loop-v-init : goal.loop-v-init

@@ -1,8 +1,7 @@
-use Prim.Native.Nat.{◌+◌, ◌-◌, ◌*◌, ◌≤◌}
+use Prim.Native.Nat.{◌+◌, ◌*◌, ◌≤◌}
 use native.Mathlib.Omega.{arith}
 use lib.ListN.{get_or}
-use borrow.Author.Rules.{rules}
-use Rattle.distances.proofs.Goals.{Numbering, numbering_begin, number_fits, numbering_next, numbering_end}
+use Rattle.distances.proofs.Goals.{numbering_begin, number_fits, numbering_next, numbering_end}
 use Rattle.distances.proofs.goal.number.Goals as goal
 
 pub loop-v-init : goal.loop-v-init

@@ -1,9 +1,6 @@
 -- The loop's invariant: what the values of the variables before `v` add.
-use Prim.Native.Nat.{◌+◌, ◌-◌, ◌*◌, ◌≤◌}
-use native.Mathlib.Omega.{arith}
-use lib.ListN.{get_or}
-use borrow.Author.Rules.{rules}
-use Rattle.distances.proofs.Goals.{Numbering, numbering_begin, number_fits, numbering_next, numbering_end}
+use Prim.Native.Nat.{◌-◌}
+use Rattle.distances.proofs.Goals.{Numbering}
 use Rattle.distances.proofs.goal.number.Given as goal
 
 abbrev pub invariant-loop-v : goal.invariant-loop-v

@@ -5,7 +5,6 @@ use Rattle.distances.specs.Entries.{is_none}
 use Rattle.distances.specs.Settling.{Picked}
 use native.Mathlib.Nat.{le_of_lt, le_of_eq, le_trans}
 use native.Mathlib.Omega.{arith}
-use borrow.Author.Rules.{rules}
 use Rattle.distances.proofs.Picking.{pick_one, pick_not, join_first, join_lesser, lesser_most}
 use Rattle.distances.proofs.selection.better.Goals as goal
 

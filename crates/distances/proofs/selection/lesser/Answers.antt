@@ -1,6 +1,5 @@
 use mathlib.Core.Path.{◌≡◌, sym, ap₂, ◌∙◌}
 use native.Mathlib.Omega.{arith}
-use borrow.Author.Rules.{rules}
 use Rattle.distances.specs.Entries.{less_entry, entry_in}
 use Rattle.distances.proofs.Picking.{lesser_first, lesser_second, lesser_less, lesser_keep}
 use Rattle.distances.proofs.selection.lesser.Goals as goal

@@ -3,13 +3,12 @@ use native.Mathlib.Omega.{arith}
 use Rattle.distances.specs.Entries.{less_entry}
 use Rattle.distances.proofs.Blocks.{begins, known_lowered}
 use Rattle.distances.proofs.EntryLaws.{lower_yes, lower_no}
-use borrow.Author.Rules.{rules}
 use Rattle.distances.proofs.selection.lower.Goals as goal
 
 pub note-requires : goal.note-requires
 note-requires c =
     let pre = c.requires in
-    let same = c.put_entry.auto.0 in
+    let same = c.put_entry.auto.entries in
     record {
       blocks = record { few = pre.blocks.few; room = omega (arith, pre.blocks.room, same); marks = pre.blocks.marks; least_long = pre.blocks.least_long };
       below = pre.below;

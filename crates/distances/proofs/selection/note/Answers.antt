@@ -1,5 +1,4 @@
 use Rattle.distances.proofs.Blocks.{noted_open, noted_closed}
-use borrow.Author.Rules.{rules}
 use Rattle.distances.proofs.selection.note.Goals as goal
 
 pub returns-then-settled-state-eq0 : goal.returns-then-settled-state-eq0

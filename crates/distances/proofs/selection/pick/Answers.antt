@@ -1,6 +1,4 @@
-use Prim.Native.Nat.{◌-◌, ◌≤◌}
 use native.Mathlib.Omega.{arith}
-use Rattle.distances.specs.Settling.{Picked}
 use Rattle.distances.proofs.Picking.{pick_none, pick_to}
 use Rattle.distances.proofs.selection.pick.Goals as goal
 

@@ -1,8 +1,6 @@
 -- The loop's invariant: the best state below `s` is picked.
 use Prim.Native.Nat.{◌-◌, ◌≤◌}
-use native.Mathlib.Omega.{arith}
 use Rattle.distances.specs.Settling.{Picked}
-use Rattle.distances.proofs.Picking.{pick_none, pick_to}
 use Rattle.distances.proofs.selection.pick.Given as goal
 
 abbrev pub invariant-loop-s : goal.invariant-loop-s

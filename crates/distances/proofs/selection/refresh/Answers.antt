@@ -5,7 +5,6 @@ use lib.ListN.{length}
 use lib.Seq.{get_or-set_same, get_or-set_other}
 use Rattle.distances.specs.Settling.{Picked}
 use Rattle.distances.proofs.Picking.{pick_to}
-use borrow.Author.Rules.{rules}
 use Rattle.distances.proofs.selection.refresh.Goals as goal
 
 pub returns : goal.returns

@@ -1,9 +1,6 @@
 -- The loop's invariant: of the blocks before `b` the best state is picked.
 use Prim.Native.Nat.{◌-◌, ◌*◌, ◌≤◌}
-use mathlib.Core.Path.{sym, subst}
-use native.Mathlib.Omega.{arith}
 use Rattle.distances.specs.Settling.{Picked}
-use Rattle.distances.proofs.Picking.{pick_none, pick_block, pick_all, join_lesser}
 use Rattle.distances.proofs.selection.select.Given as goal
 
 abbrev pub invariant-loop-b : goal.invariant-loop-b

@@ -1,10 +1,6 @@
-use Prim.Native.Nat.{◌-◌, ◌≤◌}
-use mathlib.Core.Path.{◌≡◌}
 use native.Mathlib.Omega.{arith}
-use Rattle.lookup.specs.Moves.{row_weight}
 use Rattle.lookup.proofs.MoveLoops.{product_most}
 use Rattle.distances.proofs.StateLoops.{weight_first, weight_next, count_over, count_end}
-use borrow.Author.Rules.{rules}
 use Rattle.distances.proofs.states.count.Goals as goal
 
 pub loop-v-init : goal.loop-v-init

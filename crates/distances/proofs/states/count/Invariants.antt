@@ -1,11 +1,7 @@
 -- The loop's invariant: `states` is the count of the states of the variables before `v`.
 use Prim.Native.Nat.{◌-◌, ◌≤◌}
 use mathlib.Core.Path.{◌≡◌}
-use native.Mathlib.Omega.{arith}
 use Rattle.lookup.specs.Moves.{row_weight}
-use Rattle.lookup.proofs.MoveLoops.{product_most}
-use Rattle.distances.proofs.StateLoops.{weight_first, weight_next, count_over, count_end}
-use borrow.Author.Rules.{rules}
 use Rattle.distances.proofs.states.count.Given as goal
 
 abbrev pub invariant-loop-v : goal.invariant-loop-v

@@ -1,13 +1,8 @@
 -- The loop's invariant: `number` is that of the start values from `v` on.
 use Prim.Native.Nat.{◌-◌, ◌≤◌}
 use mathlib.Core.Path.{◌≡◌}
-use native.Mathlib.Omega.{arith}
-use native.Mathlib.Nat.{mul_comm}
 use Rattle.plans.specs.Tally.{list_state}
 use Rattle.distances.proofs.RowNumbers.{number_from}
-use Rattle.lookup.proofs.MoveLoops.{product_most}
-use Rattle.distances.proofs.StateLoops.{number_begin, number_next, number_few, number_end}
-use borrow.Author.Rules.{rules}
 use Rattle.distances.proofs.states.start_number.Given as goal
 
 abbrev pub invariant-loop-v : goal.invariant-loop-v

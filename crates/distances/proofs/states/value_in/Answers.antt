@@ -1,6 +1,5 @@
 use Prim.Native.Nat.{ℕ, ◌%◌}
 use mathlib.Core.Path.{sym, ap}
-use borrow.Author.Rules.{rules}
 use Rattle.distances.proofs.states.value_in.Goals as goal
 
 pub returns-then-size-eq2 : goal.returns-then-size-eq2

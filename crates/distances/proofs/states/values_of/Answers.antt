@@ -1,9 +1,7 @@
-use Prim.Native.Nat.{◌-◌}
 use mathlib.Core.Path.{refl}
 use native.Mathlib.Omega.{arith}
 use Rattle.files.proofs.Filling.{zeros_entry}
-use Rattle.distances.proofs.StateLoops.{Decoding, decode_begin, decode_next, decode_end, digit_below}
-use borrow.Author.Rules.{rules}
+use Rattle.distances.proofs.StateLoops.{decode_begin, decode_next, decode_end, digit_below}
 use Rattle.distances.proofs.states.values_of.Goals as goal
 
 pub loop-v-init : goal.loop-v-init

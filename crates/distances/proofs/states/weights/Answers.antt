@@ -1,13 +1,12 @@
-use Prim.Native.Nat.{ℕ, ◌-◌, ◌≤◌, ◌<◌}
+use Prim.Native.Nat.{◌≤◌}
 use mathlib.Core.Path.{◌≡◌, refl, ◌∙◌}
 use native.Mathlib.Omega.{arith}
-use lib.ListN.{length, length-set, get_or}
+use lib.ListN.{length-set}
 use Rattle.files.proofs.Filling.{filled_before}
 use Rattle.lookup.specs.Moves.{row_weight}
 use Rattle.distances.proofs.RowNumbers.{weight_most}
 use Rattle.lookup.proofs.MoveLoops.{product_most}
 use Rattle.distances.proofs.StateLoops.{weight_first, weight_next}
-use borrow.Author.Rules.{rules}
 use Rattle.distances.proofs.states.weights.Goals as goal
 
 pub loop-v-init : goal.loop-v-init

@@ -1,14 +1,8 @@
 -- The loop's invariant: the weights before `v` are there, and `weight` is that of `v`.
 use Prim.Native.Nat.{ℕ, ◌-◌, ◌≤◌, ◌<◌}
-use mathlib.Core.Path.{◌≡◌, refl, ◌∙◌}
-use native.Mathlib.Omega.{arith}
-use lib.ListN.{length, length-set, get_or}
-use Rattle.files.proofs.Filling.{filled_before}
+use mathlib.Core.Path.{◌≡◌}
+use lib.ListN.{length, get_or}
 use Rattle.lookup.specs.Moves.{row_weight}
-use Rattle.distances.proofs.RowNumbers.{weight_most}
-use Rattle.lookup.proofs.MoveLoops.{product_most}
-use Rattle.distances.proofs.StateLoops.{weight_first, weight_next}
-use borrow.Author.Rules.{rules}
 use Rattle.distances.proofs.states.weights.Given as goal
 
 abbrev pub invariant-loop-v : goal.invariant-loop-v

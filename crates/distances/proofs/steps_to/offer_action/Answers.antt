@@ -2,7 +2,6 @@
 use mathlib.Core.Path.{sym, ◌∙◌}
 use Rattle.distances.specs.Offers.{differs_from, free_of, number_before}
 use Rattle.distances.proofs.BoundLaws.{offers_none}
-use borrow.Author.Rules.{rules}
 use Rattle.distances.proofs.steps_to.offer_action.Goals as goal
 
 pub returns-else-less : goal.returns-else-less

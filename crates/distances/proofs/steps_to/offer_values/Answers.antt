@@ -1,10 +1,9 @@
-use Prim.Native.Nat.{◌+◌, ◌-◌, ◌*◌, ◌<◌}
+use Prim.Native.Nat.{◌<◌}
 use mathlib.Core.Path.{refl}
 use native.Mathlib.Omega.{arith}
-use lib.Dec.{eqb}
 use Rattle.distances.proofs.Blocks.{blocks_same}
 use Rattle.lookup.proofs.MoveLoops.{product_most}
-use Rattle.distances.proofs.OfferLoops.{Turns, turns_begin, turns_next, turns_end}
+use Rattle.distances.proofs.OfferLoops.{turns_begin, turns_next, turns_end}
 use Rattle.distances.proofs.steps_to.offer_values.Goals as goal
 
 pub loop-value-init : goal.loop-value-init
@@ -38,7 +37,7 @@ loop-value-smaller c = omega (arith, c.loop-value-test.true)
 pub loop-value-preserved : goal.loop-value-preserved
 loop-value-preserved c =
     let lower = c.lower in
-    turns_next _ _ _ _ _ _ _ _ _ _ c.loop-value.invariant _ _ c.loop-value-test.true lower.auto.0 lower.auto.1.1.0 lower.ensures
+    turns_next _ _ _ _ _ _ _ _ _ _ c.loop-value.invariant _ _ c.loop-value-test.true lower.auto.entries lower.auto.least lower.ensures
 
 pub shape_of-entries : goal.shape_of-entries
 shape_of-entries c = c.loop-value.invariant.same

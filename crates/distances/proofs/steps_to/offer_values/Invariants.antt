@@ -1,11 +1,7 @@
 -- The loop's invariant: the states with the values below `value` have been offered the entry.
-use Prim.Native.Nat.{◌+◌, ◌-◌, ◌*◌, ◌<◌}
-use mathlib.Core.Path.{refl}
-use native.Mathlib.Omega.{arith}
+use Prim.Native.Nat.{◌+◌, ◌-◌, ◌*◌}
 use lib.Dec.{eqb}
-use Rattle.distances.proofs.Blocks.{blocks_same}
-use Rattle.lookup.proofs.MoveLoops.{product_most}
-use Rattle.distances.proofs.OfferLoops.{Turns, turns_begin, turns_next, turns_end}
+use Rattle.distances.proofs.OfferLoops.{Turns}
 use Rattle.distances.proofs.steps_to.offer_values.Given as goal
 
 abbrev pub invariant-loop-value : goal.invariant-loop-value

@@ -1,10 +1,9 @@
-use Prim.Native.Nat.{◌-◌}
 use mathlib.Core.Path.{refl, sym}
 use mathlib.Core.List.{[]}
 use native.Mathlib.Omega.{arith}
 use Rattle.distances.proofs.Blocks.{blocks_same}
 use Rattle.distances.proofs.OfferActions.{taken_most, number_below, free_zero}
-use Rattle.distances.proofs.SettleLoops.{Actions, values_inside, leads, actions_begin, reaches, action_few, cost_few, step_on, step_near, actions_next, actions_end}
+use Rattle.distances.proofs.SettleLoops.{values_inside, leads, actions_begin, reaches, action_few, cost_few, step_on, step_near, actions_next, actions_end}
 use Rattle.distances.proofs.steps_to.settle.Goals as goal
 
 pub entry_at-own-requires : goal.entry_at-own-requires
@@ -54,7 +53,7 @@ offer_action-requires c =
             blocks = blocks_same c.args.entries.now _ _ c.args.least.now _ _ pre.blocks l.invariant.same l.invariant.same_least;
             known = l.invariant.known;
             near = step_near _ _ _ _ _ _ _ _ _ _ _ _ _ _ pre _ _ _ l.invariant h _ _ c.entry_at-own.ensures c.after_step-entry.ensures;
-            c = omega arith;
+            start = omega arith;
             below = number_below _ _ _ _ _ _ _ _ _ _ pre.numbered pre.tables _ pre.below _ h there;
             zero = λ v k. free_zero _ _ _ _ _ _ _ _ _ _ pre.numbered pre.tables _ pre.below _ h there v;
           };
@@ -77,7 +76,7 @@ pub loop-a-preserved : goal.loop-a-preserved
 loop-a-preserved c =
     let offer = c.offer_action in
     actions_next _ _ _ _ _ _ _ _ _ _ _ _ _ _ c.requires _ _ _ c.loop-a.invariant c.loop-a-test.true _ _ c.entry_at-own.ensures c.after_step-entry.ensures _ _ _
-    offer.auto.0 offer.auto.1.1.0 offer.ensures c.next_in-a-in-loop-a.ensures
+    offer.auto.entries offer.auto.least offer.ensures c.next_in-a-in-loop-a.ensures
 
 pub shape_of-entries : goal.shape_of-entries
 shape_of-entries c = c.loop-a.invariant.same

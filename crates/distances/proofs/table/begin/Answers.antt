@@ -5,7 +5,6 @@ use Rattle.distances.specs.Entries.{is_none}
 use Rattle.distances.specs.declared.Entry.{Entry}
 use Rattle.distances.proofs.Blocks.{blocks_same, known_cleared}
 use Rattle.distances.proofs.Begun.{weights_few, goal_below, goal_zero, goal_entries, first_near}
-use borrow.Author.Rules.{rules}
 use Rattle.distances.proofs.table.begin.Goals as goal
 
 pub number-at-requires : goal.number-at-requires
@@ -14,7 +13,7 @@ number-at-requires c = let pre = c.requires in record { variables_few = pre.numb
 pub offer-requires : goal.offer-requires
 offer-requires c =
     let pre = c.requires in
-    let same = c.clear.auto.0 in
+    let same = c.clear.auto.entries in
     let number = c.number-at.ensures _ pre.numbered.weights_are in
     let free = c.free-free.ensures in
     record {
@@ -22,7 +21,7 @@ offer-requires c =
       blocks = blocks_same c.args.entries.now _ _ c.args.least.now _ _ pre.blocks same refl;
       known = known_cleared _ _ _ c.args.least.now c.clear.ensures pre.no_state;
       near = subst (λ (e : Entry). is_none e ≡ _) (sym c.first-first.ensures) first_near;
-      c = omega arith;
+      start = omega arith;
       below = goal_below _ _ _ _ _ pre.numbered pre.goal_inside _ _ number free;
       zero = λ v k. goal_zero _ _ _ _ _ pre.numbered pre.goal_inside _ _ number free v;
     }

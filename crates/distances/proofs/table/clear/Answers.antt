@@ -1,7 +1,5 @@
-use Prim.Native.Nat.{◌-◌}
 use native.Mathlib.Omega.{arith}
-use borrow.Author.Rules.{rules}
-use Rattle.distances.proofs.Goals.{Clearing, clearing_begin, clearing_next, clearing_end}
+use Rattle.distances.proofs.Goals.{clearing_begin, clearing_next, clearing_end}
 use Rattle.distances.proofs.table.clear.Goals as goal
 
 pub loop-s-init : goal.loop-s-init
@@ -13,7 +11,7 @@ put_entry-requires c = omega (arith, c.requires, c.loop-s-test.true, c.loop-s.in
 pub loop-s-preserved : goal.loop-s-preserved
 loop-s-preserved c =
     let put = c.put_entry in
-    clearing_next _ _ _ _ _ _ c.loop-s.invariant c.loop-s-test.true put.auto.0 c.none.ensures put.ensures
+    clearing_next _ _ _ _ _ _ c.loop-s.invariant c.loop-s-test.true put.auto.entries c.none.ensures put.ensures
 
 pub shape_of-entries : goal.shape_of-entries
 shape_of-entries c = c.loop-s.invariant.full

@@ -1,8 +1,6 @@
 -- The loop's invariant: the entries of the states before `s` are none.
 use Prim.Native.Nat.{◌-◌}
-use native.Mathlib.Omega.{arith}
-use borrow.Author.Rules.{rules}
-use Rattle.distances.proofs.Goals.{Clearing, clearing_begin, clearing_next, clearing_end}
+use Rattle.distances.proofs.Goals.{Clearing}
 use Rattle.distances.proofs.table.clear.Given as goal
 
 abbrev pub invariant-loop-s : goal.invariant-loop-s

@@ -3,7 +3,6 @@ use mathlib.Core.Path.{refl}
 use native.Mathlib.Omega.{arith}
 use lib.ListN.{length-set}
 use Rattle.distances.proofs.Blocks.{begins, known_settled}
-use borrow.Author.Rules.{rules}
 use Rattle.distances.proofs.table.round.Goals as goal
 
 pub bounds-settled-state : goal.bounds-settled-state
@@ -29,7 +28,7 @@ settle-requires c =
       facts = pre.facts;
       moves_long = pre.moves_long;
       numbered = pre.numbered;
-      blocks = record { few = b.few; room = b.room; marks = omega (arith, length-set c.args.settled.now c.args.state 1, b.marks); least_long = omega (arith, fresh.auto.1.1.0, b.least_long) };
+      blocks = record { few = b.few; room = b.room; marks = omega (arith, length-set c.args.settled.now c.args.state 1, b.marks); least_long = omega (arith, fresh.auto.least, b.least_long) };
       known = known_settled _ c.args.settled.now _ c.args.least.now _ c.args.state pre.known fresh.ensures;
       below = pre.below;
       low = pre.low;
@@ -41,7 +40,7 @@ select-requires c =
     let b = c.requires.blocks in
     let k = c.settle in
     record {
-      blocks = record { few = b.few; room = omega (arith, k.auto.0, b.room); marks = omega (arith, length-set c.args.settled.now c.args.state 1, b.marks); least_long = omega (arith, k.auto.1.1.0, c.refresh.auto.1.1.0, b.least_long) };
+      blocks = record { few = b.few; room = omega (arith, k.auto.entries, b.room); marks = omega (arith, length-set c.args.settled.now c.args.state 1, b.marks); least_long = omega (arith, k.auto.least, c.refresh.auto.least, b.least_long) };
       known = k.ensures.known;
     }
 

@@ -1,17 +1,10 @@
 -- Each round settles the open state with the least entry; the states that are open grow fewer.
-use Prim.Native.Nat.{ℕ, ◌*◌, ◌≤◌}
-use mathlib.Core.Path.{◌≡◌, refl, sym, ◌∙◌}
-use mathlib.Core.List.{List}
-use native.Mathlib.Omega.{arith}
-use lib.ListN.{length, length-replicate, get_or-replicate}
-use Rattle.files.specs.Dense.{Arrays, arrays}
-use Rattle.distances.specs.Rows.{row_states, Searchable}
+use mathlib.Core.Path.{◌≡◌}
+use lib.ListN.{length}
+use Rattle.files.specs.Dense.{arrays}
 use Rattle.distances.specs.Settling.{Known}
 use Rattle.distances.specs.Bounds.{NoneAbove}
-use Rattle.lookup.specs.FactRows.{most_facts, FewFacts}
-use Rattle.distances.specs.Offers.{Numbered, SearchTables}
-use Rattle.distances.proofs.HeldStates.{held_states, held_start, held_sizes, held_starts, held_few, held_goal, held_facts, searchable}
-use Rattle.distances.proofs.Searching.{open_count, Searching, begin, fewer, low, next, end}
+use Rattle.distances.proofs.Searching.{open_count, Searching}
 use Rattle.distances.proofs.table.search.Given as goal
 
 abbrev pub invariant-loop-s : goal.invariant-loop-s
