@@ -1,0 +1,7 @@
+-- The arrays hold the reduced task and its origins, so the files written are theirs.
+use Rattle.reduction.proofs.ReduceStages.{writes_alike}
+use Rattle.reduction.proofs.arrays.write_reduced.Goals as goal
+
+pub returns : goal.returns
+returns c =
+    λ A bits. writes_alike _ _ _ _ _ _ _ _ _ _ (c.fill-counts.ensures.task A bits) (c.fill-counts.ensures.origins A bits) c.write.ensures

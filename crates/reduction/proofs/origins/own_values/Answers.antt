@@ -1,0 +1,20 @@
+use Prim.Native.Nat.{◌+◌, ◌*◌}
+use mathlib.Core.Path.{refl, ◌∙◌}
+use native.Mathlib.Omega.{arith}
+use borrow.Author.Count.{below_more}
+use Rattle.reduction.proofs.origins.own_values.Goals as goal
+
+pub loop-v-init : goal.loop-v-init
+loop-v-init c = (refl, λ w h. absurd (omega arith), omega arith)
+
+pub loop-v-preserved : goal.loop-v-preserved
+loop-v-preserved c =
+    let l = c.loop-v in
+    let row = c.count_up.ensures in
+    (row.same ∙ l.invariant.0, below_more _ _ (λ w h d m. row.earlier (32 * w + d) (omega arith) ∙ l.invariant.1 w h d m) row.row, omega arith)
+
+pub shape_of-values : goal.shape_of-values
+shape_of-values c = c.loop-v.invariant.0
+
+pub returns : goal.returns
+returns c = λ v d h k. c.loop-v.invariant.1 v (omega arith) d k
