@@ -12,7 +12,7 @@ use Rattle.files.specs.Task.{Variable, Task, variable, variable_count, action_of
 use Rattle.files.proofs.Logic.{split_option, split_le}
 use Rattle.files.proofs.Tabulate.{tabulate_from_length, tabulate_entry}
 use Rattle.files.proofs.Valid.{Valid, task_valid}
-use Rattle.plans.specs.State.{State, start_state}
+use Rattle.plans.specs.State.{State, start_state, apply}
 use Rattle.plans.specs.Plan.{IsPlan, Total, add_step, total_of, at_most, Best, FirstBest}
 use Rattle.plans.proofs.RunLaws.{Runs, runs_plan, plan_runs}
 use Rattle.distances.specs.States.{state_count, state_at}
@@ -45,12 +45,12 @@ module _ (t : Task) (n : ℕ) where
   from_started : (s : State) (plan : List ℕ) → Runs (started_at t n) s plan → Runs t s plan
   unfolding started_at
   from_started s [] r = r
-  from_started s (a ∷ plan) r = (r.0, r.1, from_started _ plan r.2)
+  from_started s (a ∷ plan) r = (r.0, r.1, from_started (apply (action_of t a) s) plan r.2)
 
   to_started : (s : State) (plan : List ℕ) → Runs t s plan → Runs (started_at t n) s plan
   unfolding started_at
   to_started s [] r = r
-  to_started s (a ∷ plan) r = (r.0, r.1, to_started _ plan r.2)
+  to_started s (a ∷ plan) r = (r.0, r.1, to_started (apply (action_of t a) s) plan r.2)
 
   started_total : (plan : List ℕ) → total_of (started_at t n) plan ≡ total_of t plan
   unfolding started_at total_of

@@ -8,9 +8,6 @@ pub mod FoundLaws
 pub mod StageLaws
 pub mod PlanFiles
 pub mod SearchLaws
-pub mod Hand
-pub mod EntrySlices
-pub mod Spelled
 pub mod TableFilling
 pub mod FirstBits
 pub mod Going
