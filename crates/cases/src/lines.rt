@@ -1,6 +1,9 @@
 // Lines of the input, numbers and texts of the output, and parts of buffers.
 ghost use Rattle.std.specs.Prelude.{◌≤◌, ◌<◌};
 
+use std::io;
+use std::io::Write;
+
 // Where the line that begins at `from` ends: at a line feed, or at `to`.
 pub fn line_end(text: &[u8], from: usize, to: usize) -> usize
     requires { from < to }
@@ -17,66 +20,70 @@ pub fn line_end(text: &[u8], from: usize, to: usize) -> usize
 }
 
 // Prints the bytes from `from` up to `to`.
-pub fn print_part(text: &[u8], from: usize, to: usize) {
+pub fn print_part<W: Write>(out: &mut W, text: &[u8], from: usize, to: usize) -> io::Result<()> {
     let mut at = from;
     while at < to {
-        print_byte((files::bytes::byte_at(text, at) % 256) as u8);
+        print_byte(out, (files::bytes::byte_at(text, at) % 256) as u8)?;
         at += 1;
     }
+    Ok(())
 }
 
-pub fn print_byte(byte: u8) {
-    let one = [byte];
-    io::write_all(1, &one);
+pub fn print_byte<W: Write>(out: &mut W, byte: u8) -> io::Result<()> {
+    out.write_all(&[byte])
 }
 
-pub fn print_number(n: usize) {
-    io::print_decimal(1, n as u64);
+pub fn print_number<W: Write>(out: &mut W, n: usize) -> io::Result<()> {
+    write!(out, "{n}")
 }
 
-pub fn print_minutes(minutes: plans::Minutes) {
-    io::print_decimal(1, minutes.0);
+pub fn print_minutes<W: Write>(out: &mut W, minutes: plans::Minutes) -> io::Result<()> {
+    let count = minutes.0;
+    write!(out, "{count}")
 }
 
 // Prints a number behind another.
-pub fn print_next(n: usize) {
-    print_byte(b' ');
-    print_number(n);
+pub fn print_next<W: Write>(out: &mut W, n: usize) -> io::Result<()> {
+    print_byte(out, b' ')?;
+    print_number(out, n)
 }
 
 // Prints the turns, unless there are none: all levels but 5.
-pub fn print_turns(turns: usize) {
+pub fn print_turns<W: Write>(out: &mut W, turns: usize) -> io::Result<()> {
     if 0 < turns {
-        io::write_all(1, b" turns ");
-        print_number(turns);
+        out.write_all(b" turns ")?;
+        print_number(out, turns)?;
     }
+    Ok(())
 }
 
 // Prints an outcome: number, file, place.
-pub fn print_outcome(o: files::Outcome) {
-    print_number(o.number as usize);
-    print_next(o.file as usize);
-    print_next(o.place);
+pub fn print_outcome<W: Write>(out: &mut W, o: files::Outcome) -> io::Result<()> {
+    print_number(out, o.number as usize)?;
+    print_next(out, o.file as usize)?;
+    print_next(out, o.place)
 }
 
 // Prints the first `count` marks, a digit each.
-pub fn print_marks(marks: &[u8], count: usize) {
+pub fn print_marks<W: Write>(out: &mut W, marks: &[u8], count: usize) -> io::Result<()> {
     let mut at: usize = 0;
     while at < count {
-        print_byte((48 + files::bytes::byte_at(marks, at) % 10) as u8);
+        print_byte(out, (48 + files::bytes::byte_at(marks, at) % 10) as u8)?;
         at += 1;
     }
+    Ok(())
 }
 
 // Prints bytes in hexadecimal, two digits each.
-pub fn print_hex(bytes: &[u8]) {
+pub fn print_hex<W: Write>(out: &mut W, bytes: &[u8]) -> io::Result<()> {
     let mut at: usize = 0;
     while at < bytes.len() {
         let byte = files::bytes::byte_at(bytes, at);
-        print_byte(hex_digit(byte / 16));
-        print_byte(hex_digit(byte));
+        print_byte(out, hex_digit(byte / 16))?;
+        print_byte(out, hex_digit(byte))?;
         at += 1;
     }
+    Ok(())
 }
 
 // The digit of the last four bits.

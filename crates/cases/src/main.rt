@@ -15,22 +15,37 @@ mod translated;
 
 ghost use Rattle.std.specs.Prelude.{◌≤◌, length};
 
-fn main() {
-    let mut text = [0u8; 655360];
-    let read = io::read_full(0, &mut text);
+use std::io;
+use std::io::{BufWriter, Read, Write};
+
+// At most so many bytes of the input are read.
+const MOST: u64 = 655360;
+
+fn main(rt: HostRuntime) -> io::Result<()> {
+    let mut text = Vec::new(rt.alloc());
+    let read = rt.reader().take(MOST).read_to_end(&mut text)?;
     let mut file = [0u8; 70000];
     let mut written = [0u8; 70000];
-    run_all(&text, read, &mut file, &mut written);
+    let mut out = BufWriter::new(rt.alloc(), io::writer(&rt))?;
+    run_all(&mut out, text.as_slice(), read, &mut file, &mut written)?;
+    out.flush()
 }
 
 // The lines of the first `read` bytes.
-fn run_all(text: &[u8], read: usize, file: &mut [u8], written: &mut [u8; 70000])
+fn run_all<W: Write>(
+    out: &mut W,
+    text: &[u8],
+    read: usize,
+    file: &mut [u8],
+    written: &mut [u8; 70000],
+) -> io::Result<()>
     requires { read ≤ length text.now }
 {
     let mut at: usize = 0;
     while at < read {
         let end = lines::line_end(text, at, read);
-        run::run_line(text, at, end, file, written);
+        run::run_line(out, text, at, end, file, written)?;
         at = end + 1;
     }
+    Ok(())
 }

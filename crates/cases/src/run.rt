@@ -1,5 +1,7 @@
 // What a line calls.
 use crate::{hex, lines, numbers, planner, reduced, sheet, translated};
+use std::io;
+use std::io::Write;
 
 // t: a task file is checked. o: an origin file is checked. p: a plan file is checked against a
 // task of so many actions as the first byte says. a: a task file is read and written again.
@@ -20,104 +22,122 @@ use crate::{hex, lines, numbers, planner, reduced, sheet, translated};
 // buffer for the task file, which holds 9s.
 // d: a number in decimal; eight bytes are the number. e: an entry of the table of digits; two bytes
 // are its place.
-pub fn run_line(text: &[u8], from: usize, to: usize, file: &mut [u8], written: &mut [u8; 70000]) {
+pub fn run_line<W: Write>(
+    out: &mut W,
+    text: &[u8],
+    from: usize,
+    to: usize,
+    file: &mut [u8],
+    written: &mut [u8; 70000],
+) -> io::Result<()> {
     let letter = files::bytes::byte_at(text, from) as u8;
     if letter == b'#' {
-        lines::print_part(text, from, to);
-        lines::print_byte(b'\n');
-        return;
+        lines::print_part(out, text, from, to)?;
+        lines::print_byte(out, b'\n')?;
+        return Ok(());
     }
     let count = hex::read(text, from, to, file);
-    run_call(letter, &file[..count], written);
-    lines::print_byte(b'\n');
+    run_call(out, letter, &file[..count], written)?;
+    lines::print_byte(out, b'\n')
 }
 
-fn run_call(letter: u8, file: &[u8], written: &mut [u8; 70000]) {
+fn run_call<W: Write>(
+    out: &mut W,
+    letter: u8,
+    file: &[u8],
+    written: &mut [u8; 70000],
+) -> io::Result<()> {
     if letter == b't' {
-        lines::print_outcome(files::check_task(file));
+        lines::print_outcome(out, files::check_task(file))?;
     }
     if letter == b'o' {
-        lines::print_outcome(files::check_origin(file));
+        lines::print_outcome(out, files::check_origin(file))?;
     }
     if letter == b'p' && 0 < file.len() {
         let actions = files::bytes::byte_at(file, 0);
-        lines::print_outcome(files::plan::check(&file[1..], actions));
+        lines::print_outcome(out, files::plan::check(&file[1..], actions))?;
     }
     if letter == b'a' {
-        write_again(file, written);
+        write_again(out, file, written)?;
     }
     if letter == b'c' {
-        check_both(file);
+        check_both(out, file)?;
     }
-    run_stage(letter, file);
+    run_stage(out, letter, file)
 }
 
 // The calls above plans, and those beside the layers.
-fn run_stage(letter: u8, file: &[u8]) {
+fn run_stage<W: Write>(out: &mut W, letter: u8, file: &[u8]) -> io::Result<()> {
     if letter == b'm' {
         let mut actions = [9u8; 600];
         let mut facts = [9u8; 2100];
-        mark_file(file, &mut actions, &mut facts);
+        mark_file(out, file, &mut actions, &mut facts)?;
     }
     if letter == b'r' {
         let mut actions = [9u8; 600];
         let mut facts = [9u8; 2100];
         let mut task = [9u8; 1000];
         let mut origin = [9u8; 1000];
-        reduced::reduce_file(file, &mut actions, &mut facts, &mut task, &mut origin);
+        reduced::reduce_file(out, file, &mut actions, &mut facts, &mut task, &mut origin)?;
     }
     if letter == b's' {
-        reduced::show_stretch(file);
+        reduced::show_stretch(out, file)?;
     }
     if letter == b'P' {
-        planner::plan_file(file);
+        planner::plan_file(out, file)?;
     }
     if letter == b'S' {
-        sheet::lay_file(file);
+        sheet::lay_file(out, file)?;
     }
     if letter == b'T' {
-        translated::translate_text(file);
+        translated::translate_text(out, file)?;
     }
     if letter == b'd' {
-        numbers::show_decimal(file);
+        numbers::show_decimal(out, file)?;
     }
     if letter == b'e' {
-        numbers::show_entry(file);
+        numbers::show_entry(out, file)?;
     }
+    Ok(())
 }
 
 // Checks a plan against a task, and prints the outcome, the cost and the steps.
-fn check_both(file: &[u8]) {
+fn check_both<W: Write>(out: &mut W, file: &[u8]) -> io::Result<()> {
     if file.len() < 2 {
-        return;
+        return Ok(());
     }
     let middle = 2 + files::bytes::u16_at(file, 0);
     if file.len() < middle {
-        return;
+        return Ok(());
     }
     let checked = plans::check_plan(&file[2..middle], &file[middle..]);
     let outcome = checked.outcome;
     let cost = checked.cost;
     let steps = checked.steps;
-    lines::print_outcome(outcome);
-    lines::print_byte(b' ');
-    lines::print_minutes(cost);
-    lines::print_byte(b' ');
-    lines::print_number(steps.0 as usize);
+    lines::print_outcome(out, outcome)?;
+    lines::print_byte(out, b' ')?;
+    lines::print_minutes(out, cost)?;
+    lines::print_byte(out, b' ')?;
+    lines::print_number(out, steps.0 as usize)
 }
 
 // Marks a task, and prints the outcome, both lengths, the rounds and both buffers.
-fn mark_file(file: &[u8], actions: &mut [u8], facts: &mut [u8]) {
+fn mark_file<W: Write>(
+    out: &mut W,
+    file: &[u8],
+    actions: &mut [u8],
+    facts: &mut [u8],
+) -> io::Result<()> {
     if file.len() < 5 {
-        return;
+        return Ok(());
     }
     let kept = files::bytes::u16_at(file, 1);
     let relevant = files::bytes::u16_at(file, 3);
     if actions.len() < kept {
-        return;
+        return Ok(());
     }
     if facts.len() < relevant {
-        return;
+        return Ok(());
     }
     let marked = marking::mark(
         &file[5..],
@@ -126,21 +146,21 @@ fn mark_file(file: &[u8], actions: &mut [u8], facts: &mut [u8]) {
         &mut facts[..relevant],
     );
     let outcome = marked.outcome;
-    lines::print_outcome(outcome);
-    lines::print_byte(b' ');
-    lines::print_number(marked.action_marks);
-    lines::print_byte(b' ');
-    lines::print_number(marked.fact_marks);
-    lines::print_byte(b' ');
-    lines::print_number(marked.rounds);
-    lines::print_byte(b' ');
-    lines::print_marks(actions, kept);
-    lines::print_byte(b' ');
-    lines::print_marks(facts, relevant);
+    lines::print_outcome(out, outcome)?;
+    lines::print_byte(out, b' ')?;
+    lines::print_number(out, marked.action_marks)?;
+    lines::print_byte(out, b' ')?;
+    lines::print_number(out, marked.fact_marks)?;
+    lines::print_byte(out, b' ')?;
+    lines::print_number(out, marked.rounds)?;
+    lines::print_byte(out, b' ')?;
+    lines::print_marks(out, actions, kept)?;
+    lines::print_byte(out, b' ')?;
+    lines::print_marks(out, facts, relevant)
 }
 
 // Reads a task, and writes it again where it is accepted.
-fn write_again(file: &[u8], written: &mut [u8; 70000]) {
+fn write_again<W: Write>(out: &mut W, file: &[u8], written: &mut [u8; 70000]) -> io::Result<()> {
     let mut sizes = [0u8; 64];
     let mut starts = [0u8; 64];
     let mut goal = [0u8; 64];
@@ -157,10 +177,11 @@ fn write_again(file: &[u8], written: &mut [u8; 70000]) {
         &mut effects,
     );
     if outcome.number != 0 {
-        lines::print_outcome(outcome);
-        return;
+        lines::print_outcome(out, outcome)?;
+        return Ok(());
     }
     write_held(
+        out,
         file,
         written,
         &sizes,
@@ -169,12 +190,13 @@ fn write_again(file: &[u8], written: &mut [u8; 70000]) {
         &costs,
         &conditions,
         &effects,
-    );
+    )
 }
 
 // Writes the task that arrays hold under the signer of `file`, its own file, and compares the two.
 // An accepted file passes both tests.
-fn write_held(
+fn write_held<W: Write>(
+    out: &mut W,
     file: &[u8],
     written: &mut [u8; 70000],
     sizes: &[u8; 64],
@@ -183,15 +205,15 @@ fn write_held(
     costs: &[u32; 512],
     conditions: &[u8; 32768],
     effects: &[u8; 32768],
-) {
+) -> io::Result<()> {
     let variables = files::task::variables_in(file);
     let actions = files::task::actions_in(file);
     if 64 < variables || 512 < actions || 65536 < file.len() {
-        return;
+        return Ok(());
     }
     let needed = files::write::task_needed(variables, actions, goal, conditions, effects);
     if 70000 < needed {
-        return;
+        return Ok(());
     }
     files::write::write_task(
         written,
@@ -205,16 +227,21 @@ fn write_held(
         effects,
         files::records::signer(file),
     );
-    print_alike(file, needed, written);
+    print_alike(out, file, needed, written)
 }
 
 // Prints both lengths, and how many bytes at the front agree.
-fn print_alike(file: &[u8], needed: usize, written: &[u8]) {
-    lines::print_number(file.len());
-    lines::print_byte(b' ');
-    lines::print_number(needed);
-    lines::print_byte(b' ');
-    lines::print_number(alike(file, written));
+fn print_alike<W: Write>(
+    out: &mut W,
+    file: &[u8],
+    needed: usize,
+    written: &[u8],
+) -> io::Result<()> {
+    lines::print_number(out, file.len())?;
+    lines::print_byte(out, b' ')?;
+    lines::print_number(out, needed)?;
+    lines::print_byte(out, b' ')?;
+    lines::print_number(out, alike(file, written))
 }
 
 // How many bytes at the front of `file` the buffer has alike.

@@ -5,12 +5,13 @@ use crate::usage::Command;
 use crate::words::Words;
 use crate::{input, marks, output, show, usage};
 use files::limits;
+use std::rt::Files;
 
 // `plan` plans at this level where no word says another.
 const PLAN_LEVEL: u32 = 4;
 
 // Runs the command of a line or of the arguments.
-pub fn run(out: Printer, text: &[u8], given: Words) -> Printer {
+pub fn run(rt: &(impl Files + Eprint), out: Printer, text: &[u8], given: Words) -> Printer {
     let command = usage::named(given.at(text, 0));
     if !usage::fits(command, text, given) {
         return usage::failed(out, command);
@@ -18,46 +19,66 @@ pub fn run(out: Printer, text: &[u8], given: Words) -> Printer {
     match command {
         // standard input has no command that reads it
         Command::Lines => usage::failed(out, Command::Unknown),
-        _ => run_on_name(out, command, text, given),
+        _ => run_on_name(rt, out, command, text, given),
     }
 }
 
 // Reads the file that a command names first.
-fn run_on_name(out: Printer, command: Command, text: &[u8], given: Words) -> Printer {
+fn run_on_name(
+    rt: &(impl Files + Eprint),
+    out: Printer,
+    command: Command,
+    text: &[u8],
+    given: Words,
+) -> Printer {
     let name = given.at(text, 1);
     let mut space = [0u8; input::ROOM];
-    let read = input::read(name, &mut space);
+    let read = input::read(rt, name, &mut space);
     if !read.is_whole {
         return out.failed(name);
     }
     let length = read.length;
-    run_on_file(out, command, &space[..length], text, given)
+    run_on_file(rt, out, command, &space[..length], text, given)
 }
 
 // Runs a command on its file.
-fn run_on_file(out: Printer, command: Command, file: &[u8], text: &[u8], given: Words) -> Printer {
+fn run_on_file(
+    rt: &(impl Files + Eprint),
+    out: Printer,
+    command: Command,
+    file: &[u8],
+    text: &[u8],
+    given: Words,
+) -> Printer {
     match command {
         Command::Check => check(out, file),
         Command::Show => show(out, file),
         Command::Mark => mark(out, file, given.number(text, 2)),
-        Command::Reduce => reduce(out, file, text, given),
-        Command::Plan => plan(out, file, text, given),
-        Command::Translate => translate(out, file, given.number(text, 2), given.at(text, 3)),
-        _ => run_on_task(out, command, file, text, given),
+        Command::Reduce => reduce(rt, out, file, text, given),
+        Command::Plan => plan(rt, out, file, text, given),
+        Command::Translate => translate(rt, out, file, given.number(text, 2), given.at(text, 3)),
+        _ => run_on_task(rt, out, command, file, text, given),
     }
 }
 
 // Reads the plan file that a command names second, and runs the command on its two files.
-fn run_on_task(out: Printer, command: Command, task: &[u8], text: &[u8], given: Words) -> Printer {
+fn run_on_task(
+    rt: &(impl Files + Eprint),
+    out: Printer,
+    command: Command,
+    task: &[u8],
+    text: &[u8],
+    given: Words,
+) -> Printer {
     let name = given.at(text, 2);
     let mut space = [0u8; input::ROOM];
-    let read = input::read(name, &mut space);
+    let read = input::read(rt, name, &mut space);
     if !read.is_whole {
         return out.failed(name);
     }
     let length = read.length;
     match command {
-        Command::Sheet => sheet(out, task, &space[..length], name, given.at(text, 3)),
+        Command::Sheet => sheet(rt, out, task, &space[..length], name, given.at(text, 3)),
         _ => check_plan(out, task, &space[..length], name),
     }
 }
@@ -90,13 +111,18 @@ fn mark(out: Printer, file: &[u8], level: u32) -> Printer {
     if outcome.number != 0 {
         return out.refused(outcome, b"");
     }
-    let table = digits::table::whole();
-    let next = marks::put_kept(out, file, &actions, &table);
-    let next = marks::put_relevant(next, file, &facts, &table);
+    let next = marks::put_kept(out, file, &actions);
+    let next = marks::put_relevant(next, file, &facts);
     next.labelled(b"done rounds ", marked.rounds).end()
 }
 
-fn reduce(out: Printer, file: &[u8], text: &[u8], given: Words) -> Printer {
+fn reduce(
+    rt: &(impl Files + Eprint),
+    out: Printer,
+    file: &[u8],
+    text: &[u8],
+    given: Words,
+) -> Printer {
     let mut actions = [0u8; limits::MOST_ACTIONS];
     let mut facts = [0u8; limits::MOST_FACTS];
     let mut task = [0u8; limits::MOST_BYTES];
@@ -115,6 +141,7 @@ fn reduce(out: Printer, file: &[u8], text: &[u8], given: Words) -> Printer {
         return out.refused(outcome, b"");
     }
     write_reduced(
+        rt,
         out,
         reduced,
         &task,
@@ -125,6 +152,7 @@ fn reduce(out: Printer, file: &[u8], text: &[u8], given: Words) -> Printer {
 }
 
 fn write_reduced(
+    rt: &(impl Files + Eprint),
     out: Printer,
     reduced: reduction::Reduced,
     task: &[u8],
@@ -133,6 +161,7 @@ fn write_reduced(
     origin_name: &[u8],
 ) -> Printer {
     let written = output::write_two(
+        rt,
         task_name,
         task,
         reduced.reduced,
@@ -163,7 +192,13 @@ fn plan_level(text: &[u8], given: Words) -> u32 {
     PLAN_LEVEL
 }
 
-fn plan(out: Printer, file: &[u8], text: &[u8], given: Words) -> Printer {
+fn plan(
+    rt: &(impl Files + Eprint),
+    out: Printer,
+    file: &[u8],
+    text: &[u8],
+    given: Words,
+) -> Printer {
     let mut actions = [0u8; limits::MOST_ACTIONS];
     let mut facts = [0u8; limits::MOST_FACTS];
     let mut reduced = [0u8; limits::MOST_BYTES];
@@ -184,20 +219,26 @@ fn plan(out: Printer, file: &[u8], text: &[u8], given: Words) -> Printer {
         return out.refused(outcome, b"");
     }
     let name = given.at(text, 3);
-    if !output::write(name, &plan, planned.plan) {
+    if !output::write(rt, name, &plan, planned.plan) {
         return out.failed(name);
     }
     put_turns(put_total(out, planned.cost, planned.steps), planned.turns).end()
 }
 
-fn translate(out: Printer, text: &[u8], signer: u32, name: &[u8]) -> Printer {
+fn translate(
+    rt: &(impl Files + Eprint),
+    out: Printer,
+    text: &[u8],
+    signer: u32,
+    name: &[u8],
+) -> Printer {
     let mut task = [0u8; limits::MOST_BYTES];
     let translated = translator::translate(text, signer, &mut task);
     let outcome = translated.outcome;
     if outcome.number != 0 {
         return out.refused(outcome, b"");
     }
-    if !output::write(name, &task, translated.file) {
+    if !output::write(rt, name, &task, translated.file) {
         return out.failed(name);
     }
     out.labelled(b"done task ", translated.file).end()
@@ -212,14 +253,21 @@ fn check_plan(out: Printer, task: &[u8], plan: &[u8], plan_name: &[u8]) -> Print
     put_total(out, checked.cost, checked.steps).end()
 }
 
-fn sheet(out: Printer, task: &[u8], plan: &[u8], plan_name: &[u8], name: &[u8]) -> Printer {
+fn sheet(
+    rt: &(impl Files + Eprint),
+    out: Printer,
+    task: &[u8],
+    plan: &[u8],
+    plan_name: &[u8],
+    name: &[u8],
+) -> Printer {
     let mut page = [0u8; sheets::MOST_PAGE];
     let laid = sheets::sheet(task, plan, &mut page);
     let outcome = laid.outcome;
     if outcome.number != 0 {
         return out.refused(outcome, plan_name);
     }
-    if !output::write(name, &page, laid.page) {
+    if !output::write(rt, name, &page, laid.page) {
         return out.failed(name);
     }
     put_total(out, laid.cost, laid.steps)

@@ -8,17 +8,19 @@ mod output;
 mod printer;
 mod script;
 mod show;
+mod system;
 mod usage;
 mod words;
 
 use printer::Printer;
 
-fn main() {
+fn main(rt: HostRuntime) {
     let mut text = [0u8; words::LINE];
-    let given = words::from_arguments(&mut text);
+    let given = words::from_arguments(&rt, &mut text);
+    let out = Printer::new(rt.stdout());
     if given.are(1) && words::alike(given.at(&text, 0), b"-") {
-        script::run(&mut text);
+        script::run(&rt, out, &mut text);
         return;
     }
-    commands::run(Printer::new(), &text, given).flush();
+    commands::run(&rt, out, &text, given).flush();
 }

@@ -1,13 +1,17 @@
 // Files written under another name and then put in place, so that a name always has a whole file.
-ghost use Rattle.io.specs.Counts.{IsPrefixLen};
+ghost use Rattle.std.specs.Prelude.{◌≡◌, ◌≤◌, length, take};
 
-use crate::words;
+use crate::{system, words};
+use std::fs::{File, OpenFile, OpenOptions};
+use std::io::{ErrorKind, Write};
+use std::rt::Files;
+use std::{fs, io};
 
 // Room for a name with its ending.
 const ROOM: usize = words::LINE + 4;
 
 // How far two files have come.
-#[derive(Drop)]
+#[derive(Clone, Copy)]
 pub enum Written {
     Both,
     NotFirst,
@@ -15,12 +19,13 @@ pub enum Written {
 }
 
 // Writes the first `count` bytes to a file.
-pub fn write(name: &[u8], bytes: &[u8], count: usize) -> bool {
-    prepare(name, bytes, count) && place(name)
+pub fn write(rt: &(impl Files + Eprint), name: &[u8], bytes: &[u8], count: usize) -> bool {
+    prepare(rt, name, bytes, count) && place(rt, name)
 }
 
 // Writes two files, both of them whole before the first gets its name.
 pub fn write_two(
+    rt: &(impl Files + Eprint),
     first: &[u8],
     first_bytes: &[u8],
     first_count: usize,
@@ -28,18 +33,18 @@ pub fn write_two(
     second_bytes: &[u8],
     second_count: usize,
 ) -> Written {
-    if !prepare(first, first_bytes, first_count) {
+    if !prepare(rt, first, first_bytes, first_count) {
         return Written::NotFirst;
     }
-    if !prepare_apart(second, second_bytes, second_count, first) {
-        withdraw(first);
+    if !prepare_apart(rt, second, second_bytes, second_count, first) {
+        withdraw(rt, first);
         return Written::NotSecond;
     }
-    if !place(first) {
-        withdraw(second);
+    if !place(rt, first) {
+        withdraw(rt, second);
         return Written::NotFirst;
     }
-    if !place(second) {
+    if !place(rt, second) {
         return Written::NotSecond;
     }
     Written::Both
@@ -47,102 +52,145 @@ pub fn write_two(
 
 // Writes the first `count` bytes, which are there, to a file NAME.new, which is not. Where the system
 // refuses, it says why, and the file is not left behind.
-fn prepare(name: &[u8], bytes: &[u8], count: usize) -> bool {
+fn prepare(rt: &(impl Files + Eprint), name: &[u8], bytes: &[u8], count: usize) -> bool {
     if bytes.len() < count {
         return false;
     }
     let mut path = [0u8; ROOM];
     let length = new_name(name, &mut path);
-    if !is_for_files(name) {
-        os::fail(name);
+    if !is_for_files(rt, name) {
         return false;
     }
-    let fd = os::create(&path[..length]);
-    if fd < 0 {
-        os::fail(&path[..length]);
-        return false;
-    }
-    let is_written = write_whole(fd, &bytes[0..count], &path[..length]);
+    let file = match create(rt, &path[..length]) {
+        Ok(file) => file,
+        Err(error) => {
+            system::fail(rt, &path[..length], &error);
+            return false;
+        }
+    };
+    let is_written = write_whole(rt, file, &bytes[0..count], &path[..length]);
     if !is_written {
-        os::unlink(&path[..length]);
+        remove(rt, &path[..length]);
     }
     is_written
 }
 
 // The same for a second file, where the first does not take the name under which this one is written.
-fn prepare_apart(name: &[u8], bytes: &[u8], count: usize, first: &[u8]) -> bool {
-    let was_there = is_there(first);
-    if !prepare(name, bytes, count) {
+fn prepare_apart(
+    rt: &(impl Files + Eprint),
+    name: &[u8],
+    bytes: &[u8],
+    count: usize,
+    first: &[u8],
+) -> bool {
+    let was_there = is_there(rt, first);
+    if !prepare(rt, name, bytes, count) {
         return false;
     }
-    if was_there || !is_there(first) {
+    if was_there || !is_there(rt, first) {
         return true;
     }
-    withdraw(name);
-    io::write_all(libc::STDERR_FILENO, first);
-    io::write_all(libc::STDERR_FILENO, b": the other file is written here\n");
+    withdraw(rt, name);
+    system::say(rt, first, "the other file is written here");
     false
 }
 
 // Gives a file that is prepared its name. Where the system refuses, it says why, and the file is not
 // left behind.
-fn place(name: &[u8]) -> bool {
+fn place(rt: &(impl Files + Eprint), name: &[u8]) -> bool {
     let mut path = [0u8; ROOM];
     let length = new_name(name, &mut path);
-    let is_placed = os::rename(&path[..length], name) == 0;
-    if !is_placed {
-        os::fail(name);
-        os::unlink(&path[..length]);
+    match rename(rt, &path[..length], name) {
+        Ok(()) => true,
+        Err(error) => {
+            system::fail(rt, name, &error);
+            remove(rt, &path[..length]);
+            false
+        }
     }
-    is_placed
 }
 
 // Removes a file that is prepared.
-fn withdraw(name: &[u8]) {
+fn withdraw(rt: &impl Files, name: &[u8]) {
     let mut path = [0u8; ROOM];
     let length = new_name(name, &mut path);
-    os::unlink(&path[..length]);
+    remove(rt, &path[..length]);
 }
 
 // Whether a file may take the name: it is not that of a folder, a pipe or a terminal. The last two cannot
-// be written up to a device.
-fn is_for_files(name: &[u8]) -> bool {
-    let fd = os::open_update(name);
-    if fd < 0 {
-        return os::errno() != libc::EISDIR;
+// be written up to a device. Where a file may not, it says why.
+fn is_for_files(rt: &(impl Files + Eprint), name: &[u8]) -> bool {
+    let synced = match open_update(rt, name) {
+        Ok(file) => file.sync_all(),
+        Err(error) if error.kind() == ErrorKind::IsADirectory => Err(error),
+        Err(_) => Ok(()),
+    };
+    if let Err(error) = &synced {
+        system::fail(rt, name, error);
     }
-    let is_file = libc::fsync(fd) == 0;
-    libc::close(fd);
-    is_file
+    synced.is_ok()
 }
 
 // Whether the name can be read, as that of a file that this run has made can.
-fn is_there(name: &[u8]) -> bool {
-    let fd = os::open_read(name);
-    if fd < 0 {
-        return false;
+fn is_there(rt: &impl Files, name: &[u8]) -> bool {
+    match system::path(name) {
+        Ok(path) => File::open(rt, path).is_ok(),
+        Err(_) => false,
     }
-    libc::close(fd);
-    true
 }
 
-// Writes to a file up to its device, and closes it.
-fn write_whole(fd: i32, bytes: &[u8], path: &[u8]) -> bool {
-    let is_written = io::write_all(fd, bytes) && libc::fsync(fd) == 0;
-    if !is_written {
-        os::fail(path);
+// Opens a file for reading and writing, and leaves it as it is.
+fn open_update<R: Files>(rt: &R, name: &[u8]) -> io::Result<R::File> {
+    OpenOptions::new()
+        .read(true)
+        .write(true)
+        .open(rt, system::path(name)?)
+}
+
+// Makes a file, whose name is not taken.
+fn create<R: Files>(rt: &R, path: &[u8]) -> io::Result<R::File> {
+    OpenOptions::new()
+        .write(true)
+        .create_new(true)
+        .open(rt, system::path(path)?)
+}
+
+fn rename(rt: &impl Files, from: &[u8], to: &[u8]) -> io::Result<()> {
+    fs::rename(rt, system::path(from)?, system::path(to)?)
+}
+
+// Removes a file, where the system lets it.
+fn remove(rt: &impl Files, path: &[u8]) {
+    if let Ok(path) = system::path(path) {
+        let _ = fs::remove_file(rt, path);
     }
-    let is_closed = libc::close(fd) == 0;
-    if is_written && !is_closed {
-        os::fail(path);
+}
+
+// Writes to a file up to its device, and closes it. Where the system refuses, it says why.
+fn write_whole<F: Write + OpenFile + Drop>(
+    rt: &impl Eprint,
+    file: F,
+    bytes: &[u8],
+    path: &[u8],
+) -> bool {
+    let mut file = file;
+    let written = write_to_device(&mut file, bytes);
+    if let Err(error) = &written {
+        system::fail(rt, path, error);
     }
-    is_written && is_closed
+    written.is_ok()
+}
+
+fn write_to_device(file: &mut (impl Write + OpenFile), bytes: &[u8]) -> io::Result<()> {
+    file.write_all(bytes)?;
+    file.sync_all()
 }
 
 // Puts a name with its ending into `path`, and answers its length; 0, which no file's name has, where there is no
 // room.
 fn new_name(name: &[u8], path: &mut [u8]) -> usize
-    ensures { IsPrefixLen result path.new }
+    ensures in_bounds { result ≤ length path.new }
+    ensures front { result ≡ length (take result path.new) }
 {
     let length = name.len();
     if path.len() < 4 {
@@ -158,7 +206,8 @@ fn new_name(name: &[u8], path: &mut [u8]) -> usize
 
 // So many bytes, or 0 where there are fewer.
 fn within(bytes: &[u8], count: usize) -> usize
-    ensures { IsPrefixLen result bytes.now }
+    ensures in_bounds { result ≤ length bytes.now }
+    ensures front { result ≡ length (take result bytes.now) }
 {
     if bytes.len() < count {
         return 0;

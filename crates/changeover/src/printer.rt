@@ -1,31 +1,31 @@
 // Standard output. Text waits, and goes out where it is much and after each command.
-ghost use Rattle.digits.specs.Groups.{DigitTable};
-
-use digits::table::Table;
+use std::io::Stdout;
 
 // How many bytes may wait.
 const ROOM: usize = 512;
 
-// The bytes that wait, how many they are, and whether standard output has refused any: then nothing
+// Standard output, the bytes that wait, how many they are, and whether it has refused any: then nothing
 // more is printed.
-#[derive(Drop)]
+#[derive(Clone, Copy)]
 pub struct Printer {
+    pub to: Stdout,
     pub bytes: [u8; ROOM],
     pub waiting: usize,
     pub is_cut: bool,
 }
 
 // Writes the first `count` bytes to standard output.
-fn print(bytes: &[u8], count: usize) -> bool {
+fn print(to: Stdout, bytes: &[u8], count: usize) -> bool {
     if bytes.len() < count {
         return false;
     }
-    io::write_all(libc::STDOUT_FILENO, &bytes[0..count])
+    to.write_all(&bytes[0..count]).is_ok()
 }
 
 impl Printer {
-    pub fn new() -> Printer {
+    pub fn new(to: Stdout) -> Printer {
         Printer {
+            to,
             bytes: [0; ROOM],
             waiting: 0,
             is_cut: false,
@@ -38,7 +38,7 @@ impl Printer {
         let bytes = self.bytes;
         let waiting = self.waiting;
         next.waiting = 0;
-        next.is_cut = self.is_cut || !print(&bytes, waiting);
+        next.is_cut = self.is_cut || !print(self.to, &bytes, waiting);
         next
     }
 
@@ -65,25 +65,14 @@ impl Printer {
 
     // A number behind its label.
     pub fn labelled(self, label: &[u8], number: usize) -> Printer {
-        let table = digits::table::whole();
-        self.listed(label, number, &table)
-    }
-
-    // The same for one number of many, by a table of digits that is lent.
-    pub fn listed(self, label: &[u8], number: usize, table: &Table) -> Printer
-        requires { DigitTable table.now }
-    {
         let mut digits = [0u8; 20];
-        let count = digits::lent::decimal(number as u64, &mut digits, table);
+        let count = digits::decimal(number as u64, &mut digits);
         self.text(label).text(&digits[..count])
     }
 
     // A fact behind a blank.
-    pub fn fact(self, variable: usize, value: usize, table: &Table) -> Printer
-        requires { DigitTable table.now }
-    {
-        self.listed(b" ", variable, table)
-            .listed(b"=", value, table)
+    pub fn fact(self, variable: usize, value: usize) -> Printer {
+        self.labelled(b" ", variable).labelled(b"=", value)
     }
 
     // The last line of a command whose call is refused; `second` is the name of the second file.

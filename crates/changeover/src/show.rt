@@ -1,8 +1,5 @@
 // What files hold, as lines.
-ghost use Rattle.digits.specs.Groups.{DigitTable};
-
 use crate::printer::Printer;
-use digits::table::Table;
 use files::limits;
 use plans::ReducedAction;
 
@@ -11,14 +8,14 @@ const NO_PAIR: usize = limits::NO_PAIR as usize;
 // The cells of all actions.
 const CELLS: usize = limits::MOST_ACTIONS * limits::ROW;
 
-#[derive(Drop)]
+#[derive(Clone, Copy)]
 pub enum Kind {
     Task,
     Origin,
     Plan,
 }
 
-#[derive(Drop)]
+#[derive(Clone, Copy)]
 pub struct Checked {
     pub kind: Kind,
     pub outcome: files::Outcome,
@@ -89,17 +86,14 @@ fn put_signer(out: Printer, file: &[u8]) -> Printer {
 
 // What an accepted file holds.
 pub fn put_file(out: Printer, kind: Kind, file: &[u8]) -> Printer {
-    let table = digits::table::whole();
     match kind {
-        Kind::Task => put_task(put_signer(out.text(b"task"), file), file, &table),
-        Kind::Origin => put_origin(put_signer(out.text(b"origin"), file), file, &table),
-        Kind::Plan => put_steps(put_signer(out.text(b"plan"), file), file, &table),
+        Kind::Task => put_task(put_signer(out.text(b"task"), file), file),
+        Kind::Origin => put_origin(put_signer(out.text(b"origin"), file), file),
+        Kind::Plan => put_steps(put_signer(out.text(b"plan"), file), file),
     }
 }
 
-fn put_task(out: Printer, file: &[u8], table: &Table) -> Printer
-    requires { DigitTable table.now }
-{
+fn put_task(out: Printer, file: &[u8]) -> Printer {
     let mut sizes = [0u8; limits::MOST_VARIABLES];
     let mut starts = [0u8; limits::MOST_VARIABLES];
     let mut goal = [0u8; limits::MOST_VARIABLES];
@@ -115,9 +109,9 @@ fn put_task(out: Printer, file: &[u8], table: &Table) -> Printer
         &mut conditions,
         &mut effects,
     );
-    let next = put_variables(out, file, &sizes, &starts, table);
-    let next = put_goal(next, &goal, table);
-    put_actions(next, file, &costs, &conditions, &effects, table)
+    let next = put_variables(out, file, &sizes, &starts);
+    let next = put_goal(next, &goal);
+    put_actions(next, file, &costs, &conditions, &effects)
 }
 
 fn put_variables(
@@ -125,28 +119,23 @@ fn put_variables(
     file: &[u8],
     sizes: &[u8; limits::MOST_VARIABLES],
     starts: &[u8; limits::MOST_VARIABLES],
-    table: &Table,
-) -> Printer
-    requires { DigitTable table.now }
-{
+) -> Printer {
     let variables = files::task::variables_in(file);
     let mut next = out;
     let mut v: usize = 0;
     while v < variables {
-        next = next.listed(b"variable ", v, table);
-        next = next.listed(b" size ", files::bytes::byte_at(sizes, v), table);
+        next = next.labelled(b"variable ", v);
+        next = next.labelled(b" size ", files::bytes::byte_at(sizes, v));
         next = next
-            .listed(b" start ", files::bytes::byte_at(starts, v), table)
+            .labelled(b" start ", files::bytes::byte_at(starts, v))
             .end();
         v += 1;
     }
     next
 }
 
-fn put_goal(out: Printer, goal: &[u8; limits::MOST_VARIABLES], table: &Table) -> Printer
-    requires { DigitTable table.now }
-{
-    put_pairs(out.text(b"goal"), b"", goal, table).end()
+fn put_goal(out: Printer, goal: &[u8; limits::MOST_VARIABLES]) -> Printer {
+    put_pairs(out.text(b"goal"), b"", goal).end()
 }
 
 fn put_actions(
@@ -155,42 +144,23 @@ fn put_actions(
     costs: &[u32; limits::MOST_ACTIONS],
     conditions: &[u8; CELLS],
     effects: &[u8; CELLS],
-    table: &Table,
-) -> Printer
-    requires { DigitTable table.now }
-{
+) -> Printer {
     let actions = files::task::actions_in(file);
     let mut next = out;
     let mut a: usize = 0;
     while a < actions && a < costs.len() {
-        next = put_action(
-            next,
-            a,
-            costs[a],
-            row(conditions, a),
-            row(effects, a),
-            table,
-        );
+        next = put_action(next, a, costs[a], row(conditions, a), row(effects, a));
         a += 1;
     }
     next
 }
 
-fn put_action(
-    out: Printer,
-    a: usize,
-    cost: u32,
-    conditions: &[u8],
-    effects: &[u8],
-    table: &Table,
-) -> Printer
-    requires { DigitTable table.now }
-{
+fn put_action(out: Printer, a: usize, cost: u32, conditions: &[u8], effects: &[u8]) -> Printer {
     let next = out
-        .listed(b"action ", a, table)
-        .listed(b" cost ", cost as usize, table);
-    let next = put_pairs(next, b" if", conditions, table);
-    put_pairs(next, b" set", effects, table).end()
+        .labelled(b"action ", a)
+        .labelled(b" cost ", cost as usize);
+    let next = put_pairs(next, b" if", conditions);
+    put_pairs(next, b" set", effects).end()
 }
 
 // The cells of an action.
@@ -204,16 +174,14 @@ fn row<'a>(cells: &'a [u8], action: usize) -> &'a [u8] {
 }
 
 // The pairs of a row behind their label, which is left out where there are none.
-fn put_pairs(out: Printer, label: &[u8], row: &[u8], table: &Table) -> Printer
-    requires { DigitTable table.now }
-{
+fn put_pairs(out: Printer, label: &[u8], row: &[u8]) -> Printer {
     let mut next = out;
     let mut is_begun = false;
     let mut v: usize = 0;
     while v < row.len() {
         let value = files::bytes::byte_at(row, v);
         if value != NO_PAIR {
-            next = begin(next, label, is_begun).fact(v, value, table);
+            next = begin(next, label, is_begun).fact(v, value);
             is_begun = true;
         }
         v += 1;
@@ -229,71 +197,61 @@ fn begin(out: Printer, label: &[u8], is_begun: bool) -> Printer {
     out.text(label)
 }
 
-fn put_origin(out: Printer, file: &[u8], table: &Table) -> Printer
-    requires { DigitTable table.now }
-{
-    let next = put_variable_origins(out, file, table);
+fn put_origin(out: Printer, file: &[u8]) -> Printer {
+    let next = put_variable_origins(out, file);
     if files::origin::actions_in(file) == 0 {
         return next;
     }
-    put_action_origins(next.text(b"actions"), file, table).end()
+    put_action_origins(next.text(b"actions"), file).end()
 }
 
-fn put_variable_origins(out: Printer, file: &[u8], table: &Table) -> Printer
-    requires { DigitTable table.now }
-{
+fn put_variable_origins(out: Printer, file: &[u8]) -> Printer {
     let variables = files::origin::variables_in(file);
     let mut next = out;
     let mut v: usize = 0;
     while v < variables {
-        next = put_variable_origin(next, file, v as u16, table).end();
+        next = put_variable_origin(next, file, v as u16).end();
         v += 1;
     }
     next
 }
 
 // A variable's original number, and the new values of its old values.
-fn put_variable_origin(out: Printer, file: &[u8], v: u16, table: &Table) -> Printer
-    requires { DigitTable table.now }
-{
+fn put_variable_origin(out: Printer, file: &[u8], v: u16) -> Printer {
     let at = files::origin::variable_place(file, v as usize);
     let values = files::origin::values_in(file, at);
     let mut next = out
-        .listed(b"variable ", files::origin::variable_at(file, at), table)
+        .labelled(b"variable ", files::origin::variable_at(file, at))
         .text(b" values");
     let mut d: usize = 0;
     while d < values {
-        next = next.listed(b" ", files::origin::value_at(file, at, d), table);
+        next = next.labelled(b" ", files::origin::value_at(file, at, d));
         d += 1;
     }
     next
 }
 
-fn put_action_origins(out: Printer, file: &[u8], table: &Table) -> Printer
-    requires { DigitTable table.now }
-{
+fn put_action_origins(out: Printer, file: &[u8]) -> Printer {
     let actions = files::origin::actions_in(file);
     let place = files::origin::actions_place(file);
     let mut next = out;
     let mut a: usize = 0;
     while a < actions {
         let action = files::origin::original(file, place, ReducedAction(a as u16));
-        next = next.listed(b" ", action.0 as usize, table);
+        next = next.labelled(b" ", action.0 as usize);
         a += 1;
     }
     next
 }
 
-fn put_steps(out: Printer, file: &[u8], table: &Table) -> Printer
-    requires { DigitTable table.now }
-{
+fn put_steps(out: Printer, file: &[u8]) -> Printer {
     let steps = files::plan::steps(file);
     let count = steps.0 as usize;
     let mut next = out;
     let mut i: usize = 0;
     while i < count {
         let action = files::plan::step(file, i);
-        next = next.listed(b"step ", action.0 as usize, table).end();
+        next = next.labelled(b"step ", action.0 as usize).end();
         i += 1;
     }
     next

@@ -3,7 +3,7 @@ use crate::printer::Printer;
 use crate::words;
 use crate::words::Words;
 
-#[derive(Drop)]
+#[derive(Clone, Copy)]
 pub enum Command {
     Check,
     Show,

@@ -1,4 +1,6 @@
 // The words of a command: parts of a text, one behind the other.
+use std::env::FillError;
+use std::rt::Env;
 
 // How many words are told apart: more than any command has.
 const MOST: usize = 8;
@@ -12,7 +14,7 @@ const LARGEST: u64 = u32::MAX as u64;
 const TOO_LARGE: u64 = LARGEST + 1;
 
 // Where each word begins and ends. Where a word is empty, has a line feed or has found no room, they are not whole.
-#[derive(Drop)]
+#[derive(Clone, Copy)]
 pub struct Words {
     pub count: usize,
     pub starts: [usize; MOST],
@@ -60,12 +62,14 @@ pub fn split(line: &[u8]) -> Words {
 }
 
 // The program's arguments, copied into a text.
-pub fn from_arguments(text: &mut [u8]) -> Words {
+pub fn from_arguments(rt: &impl Env, text: &mut [u8]) -> Words {
     let mut words = none();
     let mut start: usize = 0;
     let mut i: usize = 1;
-    while i <= MOST && i < os::arg_count() {
-        let end = put_argument(text, start, i);
+    while i <= MOST {
+        let Some(end) = put_argument(rt, text, start, i) else {
+            break;
+        };
         words = with(words, start, end);
         start = end;
         i += 1;
@@ -86,16 +90,17 @@ fn is_line(text: &[u8], count: usize) -> bool {
     true
 }
 
-// Copies argument `i` into a text, and answers where it ends; an argument that finds no room is empty.
-fn put_argument(text: &mut [u8], start: usize, i: usize) -> usize {
+// Copies argument `i` into a text, and answers where it ends; an argument that finds no room is empty. There is
+// nothing to answer behind the last argument.
+fn put_argument(rt: &impl Env, text: &mut [u8], start: usize, i: usize) -> Option<usize> {
     if text.len() < start {
-        return start;
+        return Some(start);
     }
-    let length = os::arg(i, &mut text[start..]);
-    if os::errno() != 0 {
-        return start;
+    match rt.arg(i, &mut text[start..]) {
+        Ok(length) => Some(start + length),
+        Err(FillError::TooLong) => Some(start),
+        Err(FillError::NotPresent) => None,
     }
-    start + length
 }
 
 impl Words {

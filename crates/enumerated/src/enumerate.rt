@@ -14,7 +14,7 @@ const NEVER: usize = 1000000000000;
 
 // What there is to find: 0 with the cost and the steps of a best plan, the length of its file, and whether
 // there are several; or 24 where there is no plan.
-#[derive(Drop)]
+#[derive(Clone, Copy)]
 pub struct Found {
     pub number: u32,
     pub cost: usize,
@@ -24,7 +24,7 @@ pub struct Found {
 }
 
 // An action to go on with, the cost by it, and whether a later one does as well.
-#[derive(Drop)]
+#[derive(Clone, Copy)]
 struct Choice {
     action: usize,
     cost: usize,
@@ -32,14 +32,14 @@ struct Choice {
 }
 
 // The least cost from the start state, and the fewest steps at that cost.
-#[derive(Drop)]
+#[derive(Clone, Copy)]
 struct Least {
     cost: usize,
     steps: usize,
 }
 
 // The length of a plan file, and whether another plan is as good.
-#[derive(Drop)]
+#[derive(Clone, Copy)]
 struct Written {
     length: usize,
     tied: bool,

@@ -13,6 +13,8 @@ mod random;
 mod states;
 
 use crate::enumerate::Found;
+use std::io;
+use std::io::{BufWriter, Write};
 
 const TASKS: usize = 4000;
 
@@ -42,15 +44,17 @@ const TURNED: usize = 14;
 
 const RENUMBERED: usize = 15;
 
-fn main() {
+fn main(rt: HostRuntime) -> io::Result<()> {
+    let mut out = BufWriter::new(rt.alloc(), io::writer(&rt))?;
     let mut state: u64 = 20240608;
     let mut sums = [0usize; 16];
     let mut task: usize = 0;
     while task < TASKS {
-        run_task(task, &mut state, &mut sums);
+        run_task(&mut out, task, &mut state, &mut sums)?;
         task += 1;
     }
-    print_totals(&sums);
+    print_totals(&mut out, &sums)?;
+    out.flush()
 }
 
 // Adds a number to the total of a place. A total stays far below the bound.
@@ -68,7 +72,12 @@ fn add(sums: &mut [usize; 16], place: usize, number: usize) {
 }
 
 // One task: generated, enumerated, planned and reduced.
-fn run_task(task: usize, state: &mut u64, sums: &mut [usize; 16]) {
+fn run_task<W: Write>(
+    out: &mut W,
+    task: usize,
+    state: &mut u64,
+    sums: &mut [usize; 16],
+) -> io::Result<()> {
     let mut file = [0u8; 512];
     let count = generate::put_task(&mut file, task, state);
     let signer = 1 + task % 4096 * 1048573;
@@ -76,32 +85,46 @@ fn run_task(task: usize, state: &mut u64, sums: &mut [usize; 16]) {
     let found = enumerate::find(&file, signer, &mut plan);
     add_found(sums, found);
     let differs = compare::planner_differs(&file, count, 4, signer as u32, found, &plan);
-    add_difference(sums, task, b"planned otherwise at level 4: task ", differs);
+    add_difference(
+        out,
+        sums,
+        task,
+        b"planned otherwise at level 4: task ",
+        differs,
+    )?;
     let differs = compare::planner_differs(&file, count, 5, signer as u32, found, &plan);
-    add_difference(sums, task, b"planned otherwise at level 5: task ", differs);
+    add_difference(
+        out,
+        sums,
+        task,
+        b"planned otherwise at level 5: task ",
+        differs,
+    )?;
     if found.number == 0 {
         let differs = compare::checker_differs(&file, count, found, &plan);
-        add_difference(sums, task, b"checked otherwise: task ", differs);
+        add_difference(out, sums, task, b"checked otherwise: task ", differs)?;
     }
-    run_level(&file, count, 1, found, task, sums);
-    run_level(&file, count, 2, found, task, sums);
-    run_level(&file, count, 3, found, task, sums);
-    let kept = run_level(&file, count, 4, found, task, sums);
-    let left = run_level(&file, count, 5, found, task, sums);
+    run_level(out, &file, count, 1, found, task, sums)?;
+    run_level(out, &file, count, 2, found, task, sums)?;
+    run_level(out, &file, count, 3, found, task, sums)?;
+    let kept = run_level(out, &file, count, 4, found, task, sums)?;
+    let left = run_level(out, &file, count, 5, found, task, sums)?;
     add(sums, FEWER, (left < kept) as usize);
     add(sums, COVERED, covering::by_cheaper_alone(&file, count));
+    Ok(())
 }
 
 // One task reduced at a level: what is found in the reduced task is the same. Answers how many actions
 // are left.
-fn run_level(
+fn run_level<W: Write>(
+    out: &mut W,
     file: &[u8; 512],
     count: usize,
     level: u32,
     found: Found,
     task: usize,
     sums: &mut [usize; 16],
-) -> usize {
+) -> io::Result<usize> {
     let mut reduced = [0u8; 512];
     let mut plan = [0u8; 512];
     let answer = compare::reduce(file, count, level, 7, &mut reduced);
@@ -109,7 +132,7 @@ fn run_level(
     let differs = compare::reducer_differs(answer, level);
     let again = enumerate::find(&reduced, 7, &mut plan);
     let differs = differs || compare::found_differ(again, found);
-    add_difference(sums, task, b"other when reduced: task ", differs);
+    add_difference(out, sums, task, b"other when reduced: task ", differs)?;
     let left = bytes::number(&reduced, 6);
     add(
         sums,
@@ -122,7 +145,7 @@ fn run_level(
         RENUMBERED,
         (1 < turns && compare::same_counts(file, &reduced)) as usize,
     );
-    left
+    Ok(left)
 }
 
 fn add_found(sums: &mut [usize; 16], found: Found) {
@@ -137,39 +160,49 @@ fn add_found(sums: &mut [usize; 16], found: Found) {
 }
 
 // Counts and prints a difference.
-fn add_difference(sums: &mut [usize; 16], task: usize, label: &[u8], differs: bool) {
+fn add_difference<W: Write>(
+    out: &mut W,
+    sums: &mut [usize; 16],
+    task: usize,
+    label: &[u8],
+    differs: bool,
+) -> io::Result<()> {
     if !differs {
-        return;
+        return Ok(());
     }
     add(sums, DIFFERENCES, 1);
-    print_line(label, task);
+    print_line(out, label, task)
 }
 
 // Prints a line: a label and a number.
-fn print_line(label: &[u8], number: usize) {
-    io::write_all(1, label);
-    io::print_decimal(1, number as u64);
-    io::write_all(1, b"\n");
+fn print_line<W: Write>(out: &mut W, label: &[u8], number: usize) -> io::Result<()> {
+    out.write_all(label)?;
+    writeln!(out, "{number}")
 }
 
-fn print_totals(sums: &[usize; 16]) {
-    print_line(b"tasks ", TASKS);
-    print_line(b"without a plan ", sums[NONE]);
-    print_line(b"with an empty plan ", sums[EMPTY]);
-    print_line(b"with several best plans ", sums[TIED]);
-    print_line(b"steps ", sums[STEPS]);
-    print_line(b"most steps of a plan ", sums[MOST]);
-    print_line(b"with actions struck at level 1: ", sums[7]);
-    print_line(b"with actions struck at level 2: ", sums[8]);
-    print_line(b"with actions struck at level 3: ", sums[9]);
-    print_line(b"with actions struck at level 4: ", sums[10]);
-    print_line(b"with actions struck at level 5: ", sums[11]);
+fn print_totals<W: Write>(out: &mut W, sums: &[usize; 16]) -> io::Result<()> {
+    print_line(out, b"tasks ", TASKS)?;
+    print_line(out, b"without a plan ", sums[NONE])?;
+    print_line(out, b"with an empty plan ", sums[EMPTY])?;
+    print_line(out, b"with several best plans ", sums[TIED])?;
+    print_line(out, b"steps ", sums[STEPS])?;
+    print_line(out, b"most steps of a plan ", sums[MOST])?;
+    print_line(out, b"with actions struck at level 1: ", sums[7])?;
+    print_line(out, b"with actions struck at level 2: ", sums[8])?;
+    print_line(out, b"with actions struck at level 3: ", sums[9])?;
+    print_line(out, b"with actions struck at level 4: ", sums[10])?;
+    print_line(out, b"with actions struck at level 5: ", sums[11])?;
     print_line(
+        out,
         b"with fewer actions at level 5 than at level 4: ",
         sums[FEWER],
-    );
-    print_line(b"with 4 turns or more at level 5: ", sums[TURNED]);
-    print_line(b"with turns that only renumber: ", sums[RENUMBERED]);
-    print_line(b"actions that only a cheaper one covers: ", sums[COVERED]);
-    print_line(b"differences ", sums[DIFFERENCES]);
+    )?;
+    print_line(out, b"with 4 turns or more at level 5: ", sums[TURNED])?;
+    print_line(out, b"with turns that only renumber: ", sums[RENUMBERED])?;
+    print_line(
+        out,
+        b"actions that only a cheaper one covers: ",
+        sums[COVERED],
+    )?;
+    print_line(out, b"differences ", sums[DIFFERENCES])
 }

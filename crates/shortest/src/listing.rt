@@ -1,46 +1,48 @@
-// The lines that the program prints, by the table of digits.
-ghost use Rattle.digits.specs.Groups.{DigitTable};
-
+// The lines that the program prints.
 use crate::printer::Printer;
-use digits::table::Table;
+use std::io;
+use std::io::Write;
 
-pub fn put_refusal(out: Printer, outcome: files::Outcome, table: &Table) -> Printer
-    requires { DigitTable table.now }
-{
-    out.labelled(b"refused ", outcome.number as u64, table)
-        .labelled(b" at ", outcome.place as u64, table)
+pub fn put_refusal<W: Write + Drop>(
+    out: Printer<W>,
+    outcome: files::Outcome,
+) -> io::Result<Printer<W>> {
+    out.labelled(b"refused ", outcome.number as u64)?
+        .labelled(b" at ", outcome.place as u64)?
         .end()
 }
 
 // The counts of variables and actions of an accepted task file.
-pub fn put_counts(out: Printer, label: &[u8], file: &[u8], table: &Table) -> Printer
-    requires { DigitTable table.now }
-{
-    out.labelled(label, files::task::variables_in(file) as u64, table)
-        .labelled(b" ", files::task::actions_in(file) as u64, table)
+pub fn put_counts<W: Write + Drop>(
+    out: Printer<W>,
+    label: &[u8],
+    file: &[u8],
+) -> io::Result<Printer<W>> {
+    out.labelled(label, files::task::variables_in(file) as u64)?
+        .labelled(b" ", files::task::actions_in(file) as u64)?
         .end()
 }
 
 // A line for each step of a plan file, with its action number.
-pub fn put_steps(out: Printer, plan: &[u8], table: &Table) -> Printer
-    requires { DigitTable table.now }
-{
+pub fn put_steps<W: Write + Drop>(out: Printer<W>, plan: &[u8]) -> io::Result<Printer<W>> {
     let steps = files::plan::steps(plan);
     let count = steps.0 as usize;
     let mut next = out;
     let mut i: usize = 0;
     while i < count {
         let action = files::plan::step(plan, i);
-        next = next.labelled(b"step ", action.0 as u64, table).end();
+        next = next.labelled(b"step ", action.0 as u64)?.end()?;
         i += 1;
     }
-    next
+    Ok(next)
 }
 
-pub fn put_total(out: Printer, cost: plans::Minutes, steps: plans::Steps, table: &Table) -> Printer
-    requires { DigitTable table.now }
-{
-    out.labelled(b"cost ", cost.0, table)
-        .labelled(b" steps ", steps.0 as u64, table)
+pub fn put_total<W: Write + Drop>(
+    out: Printer<W>,
+    cost: plans::Minutes,
+    steps: plans::Steps,
+) -> io::Result<Printer<W>> {
+    out.labelled(b"cost ", cost.0)?
+        .labelled(b" steps ", steps.0 as u64)?
         .end()
 }

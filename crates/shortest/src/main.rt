@@ -6,19 +6,23 @@ mod listing;
 mod printer;
 
 use printer::Printer;
+use std::io;
+use std::io::Read;
 
 // It plans at this level.
 const LEVEL: u32 = 4;
 
-fn main() {
-    // one byte more than a file may have, so that a file over the limit is told from one at it
-    let mut input = [0u8; 65537];
-    let read = io::read_full(0, &mut input);
-    print_plan(&input[..read]);
+// One byte more than a file may have, so that a file over the limit is told from one at it.
+const MOST: u64 = 65537;
+
+fn main(rt: HostRuntime) -> io::Result<()> {
+    let mut input = Vec::new(rt.alloc());
+    rt.reader().take(MOST).read_to_end(&mut input)?;
+    print_plan(&rt, input.as_slice())
 }
 
 // Plans with buffers that are long enough for every task.
-fn print_plan(file: &[u8]) {
+fn print_plan(rt: &impl Print, file: &[u8]) -> io::Result<()> {
     let mut actions = [0u8; 512];
     let mut facts = [0u8; 2048];
     let mut reduced = [0u8; 65536];
@@ -35,16 +39,16 @@ fn print_plan(file: &[u8]) {
         &mut plan,
     );
     let outcome = planned.outcome;
-    let out = Printer::new();
-    let table = digits::table::whole();
+    let out = Printer::new(io::writer(rt));
     if outcome.number != 0 {
-        listing::put_refusal(out, outcome, &table).flush();
-        return;
+        listing::put_refusal(out, outcome)?.flush()?;
+        return Ok(());
     }
-    let out = listing::put_counts(out, b"task ", file, &table);
-    let out = listing::put_counts(out, b"kept ", &reduced, &table);
-    let out = listing::put_steps(out, &plan, &table);
-    listing::put_total(out, planned.cost, planned.steps, &table).flush();
+    let out = listing::put_counts(out, b"task ", file)?;
+    let out = listing::put_counts(out, b"kept ", &reduced)?;
+    let out = listing::put_steps(out, &plan)?;
+    listing::put_total(out, planned.cost, planned.steps)?.flush()?;
+    Ok(())
 }
 
 // The signer of the file; of a file over the limit, which is refused under any signer, 0.
