@@ -8,7 +8,7 @@ use lib.Dec.{eqb, leb}
 use lib.ListN.{take, set}
 use borrow.Author.Tests.{eq-eqb, ne_eqb}
 use Rattle.files.proofs.Logic.{split, cond_case}
-use Rattle.files.specs.Rows.{cleared, filled}
+use Rattle.files.specs.Rows.{cleared, filled, stored as row_stored}
 use Rattle.files.specs.Task.{Pair}
 use Rattle.digits.specs.Decimal.{ascii}
 use Rattle.translator.specs.declared.fields.Cursor.{Cursor}
@@ -37,7 +37,7 @@ cost_written metric cost d = rw (ne_eqb metric 0 d) refl
 filled_both : (row : List ℕ) (base : ℕ) (ps qs : List Pair) → filled (filled row base ps) base qs ≡ filled row base (ps ++ qs)
 unfolding filled
 filled_both row base [] qs = refl
-filled_both row base (p ∷ ps) qs = filled_both _ base ps qs
+filled_both row base (p ∷ ps) qs = filled_both (row_stored row base p.variable p.value) base ps qs
 
 -- the limit is the written cost's
 pub cost_read_lem : (s : List ℕ) (c : Cursor) (metric : ℕ) (n : ReadNumber) (spent : ℕ) (j : Cursor) (r : ReadNumber) → n ≡ number_after line_feed s c → spent ≡ cost_by metric n.value
