@@ -16,7 +16,7 @@ mod translated;
 ghost use Rattle.std.specs.Prelude.{◌≤◌, length};
 
 use std::io;
-use std::io::{BufWriter, Read, Write};
+use std::io::{Read, Write};
 
 // At most so many bytes of the input are read.
 const MOST: u64 = 655360;
@@ -26,9 +26,8 @@ fn main(rt: HostRuntime) -> io::Result<()> {
     let read = rt.reader().take(MOST).read_to_end(&mut text)?;
     let mut file = [0u8; 70000];
     let mut written = [0u8; 70000];
-    let mut out = BufWriter::new(rt.alloc(), io::writer(&rt))?;
-    run_all(&mut out, text.as_slice(), read, &mut file, &mut written)?;
-    out.flush()
+    let mut out = io::writer(&rt);
+    run_all(&mut out, text.as_slice(), read, &mut file, &mut written)
 }
 
 // The lines of the first `read` bytes.

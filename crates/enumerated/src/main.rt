@@ -14,7 +14,7 @@ mod states;
 
 use crate::enumerate::Found;
 use std::io;
-use std::io::{BufWriter, Write};
+use std::io::Write;
 
 const TASKS: usize = 4000;
 
@@ -45,7 +45,7 @@ const TURNED: usize = 14;
 const RENUMBERED: usize = 15;
 
 fn main(rt: HostRuntime) -> io::Result<()> {
-    let mut out = BufWriter::new(rt.alloc(), io::writer(&rt))?;
+    let mut out = io::writer(&rt);
     let mut state: u64 = 20240608;
     let mut sums = [0usize; 16];
     let mut task: usize = 0;
@@ -53,8 +53,7 @@ fn main(rt: HostRuntime) -> io::Result<()> {
         run_task(&mut out, task, &mut state, &mut sums)?;
         task += 1;
     }
-    print_totals(&mut out, &sums)?;
-    out.flush()
+    print_totals(&mut out, &sums)
 }
 
 // Adds a number to the total of a place. A total stays far below the bound.

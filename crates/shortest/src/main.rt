@@ -5,6 +5,8 @@
 mod listing;
 mod printer;
 
+ghost use Rattle.std.specs.Io.{ReadsAtMost};
+
 use printer::Printer;
 use std::io;
 use std::io::Read;
@@ -12,13 +14,26 @@ use std::io::Read;
 // It plans at this level.
 const LEVEL: u32 = 4;
 
-// One byte more than a file may have, so that a file over the limit is told from one at it.
-const MOST: u64 = 65537;
-
 fn main(rt: HostRuntime) -> io::Result<()> {
-    let mut input = Vec::new(rt.alloc());
-    rt.reader().take(MOST).read_to_end(&mut input)?;
-    print_plan(&rt, input.as_slice())
+    // one byte more than a file may have, so that a file over the limit is told from one at it
+    let mut input = [0u8; 65537];
+    let read = read_full(&mut rt.reader(), &mut input)?;
+    print_plan(&rt, &input[..read])
+}
+
+// Reads until the buffer is full or the input ends, and answers how much was read.
+fn read_full(source: &mut impl Read, buffer: &mut [u8]) -> io::Result<usize>
+    ensures { ReadsAtMost result buffer.new }
+{
+    let mut length: usize = 0;
+    while length < buffer.len() {
+        let count = source.read(&mut buffer[length..])?;
+        if count == 0 {
+            break;
+        }
+        length += count;
+    }
+    Ok(length)
 }
 
 // Plans with buffers that are long enough for every task.
