@@ -1,6 +1,6 @@
 //! Links the proved library, `libcapi.a`, from the folder `SHORTEST_LIB` (a
 //! full path) or from the repository's `target/staticlib`, where
-//! `rt staticlib capi` writes it.
+//! `tools/build` writes it.
 
 use std::env;
 use std::path::PathBuf;
@@ -16,7 +16,7 @@ fn main() {
     println!("cargo::rerun-if-changed={}", archive.display());
     if !archive.exists() {
         println!(
-            "cargo::error=no {}: `rt staticlib capi` makes it",
+            "cargo::error=no {}: `tools/build` makes it",
             archive.display()
         );
     }

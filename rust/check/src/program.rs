@@ -6,14 +6,14 @@ use std::io::Write;
 use std::path::{Path, PathBuf};
 use std::process::{Command, Output, Stdio};
 
-/// The program that `rt check NAME` builds.
+/// A program that `tools/build` builds.
 fn built(name: &str) -> PathBuf {
     let root = Path::new(env!("CARGO_MANIFEST_DIR")).join("../..");
     let program = root.join("target/bin").join(name);
     let found = program.canonicalize();
     found.unwrap_or_else(|_| {
         let missing = program.display();
-        panic!("no {missing}: `rt check {name}` builds it")
+        panic!("no {missing}: `tools/build` builds it")
     })
 }
 
