@@ -1,5 +1,5 @@
 /*
- * The planner's calls for C: link libcapi.a, which `rt staticlib capi` writes to target/staticlib.
+ * The planner's calls for C: link libcapi.a, which `tools/build` writes to target/staticlib.
  *
  * Every call takes arbitrary bytes and buffers of any length, and refuses what does not serve.
  * A buffer is a pointer and the number of its elements. The pointer is not null, also where the

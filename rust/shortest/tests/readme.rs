@@ -110,7 +110,7 @@ fn the_command_lines() {
             .current_dir(at_root("."))
             .output()
             .unwrap();
-        let hint = "after `rt check changeover shortest cases`";
+        let hint = "after `tools/build`";
         assert!(run.status.success(), "{hint}: {command}");
         assert_eq!(String::from_utf8(run.stdout).unwrap(), printed, "{command}");
     }
