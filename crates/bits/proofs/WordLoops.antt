@@ -34,9 +34,9 @@ module _ (limit : ℕ) (test : ℕ → Bool) where
     pub mark_fits : limit ≤ 64 → word < 9223372036854775808
     mark_fits few = omega (arith, c.small, pow_mono {i = limit - v} {j = 63} (omega (arith, h)))
 
-    module _ (b : ℕ) (b-is : b ≡ bit (test (v - 1))) where
+    module _ (b : ℕ) (b_is : b ≡ bit (test (v - 1))) where
       one : b ≤ 1
-      one = omega (arith, b-is, bit_most (test (v - 1)))
+      one = omega (arith, b_is, bit_most (test (v - 1)))
 
       pub mark_most : limit ≤ 64 → 2 * word + b < 18446744073709551616
       mark_most few = omega (arith, mark_fits few, one)
@@ -44,7 +44,7 @@ module _ (limit : ℕ) (test : ℕ → Bool) where
       mark_bits : (k : ℕ) → in_word (2 * word + b) k ≡ ltb (v - 1 + k) limit && test (v - 1 + k)
       mark_bits zero =
           in_first word b one
-          ∙ ap (λ (n : ℕ). eqb n 1) b-is
+          ∙ ap (λ (n : ℕ). eqb n 1) b_is
           ∙ bit_marked (test (v - 1))
           ∙ sym (ap (λ (x : Bool). x && test (v - 1)) (lt-ltb (v - 1) limit (omega (arith, h, c.within))))
           ∙ ap (λ (n : ℕ). ltb n limit && test n) (sym (add-zero (v - 1)))

@@ -15,7 +15,7 @@ use Rattle.files.proofs.Truth.{same_truth}
 use Rattle.plans.specs.Plan.{no_steps, at_most}
 use Rattle.plans.specs.State.{State, all_hold}
 use Rattle.plans.specs.Tally.{meets_cell}
-use Rattle.plans.proofs.RowStates.{meets_none, meets_some, meetsAt, hold_below}
+use Rattle.plans.proofs.RowStates.{meets_none, meets_some, meets_at, hold_below}
 use Rattle.distances.specs.States.{state_at}
 use Rattle.distances.specs.Table.{entry_of}
 use Rattle.distances.specs.Entries.{no_entry, first_entry, is_none, less_entry, lowered, entry_in}
@@ -69,7 +69,7 @@ module _ (variables count : ℕ) (sizes weights goal : List ℕ) (w : Numbered v
     unfolding asked goal_values
     goal_zero v h e = ap (λ (s : State). s v) goal_state ∙ rw (lt-ltb v variables h, sym (free_is v h) ∙ e) refl
 
-    one_test : (r : State) (v : ℕ) → v < variables → cond (leb 0 v && in_word free v) true (eqb (r v) (asked v)) ≡ meetsAt goal 0 r v
+    one_test : (r : State) (v : ℕ) → v < variables → cond (leb 0 v && in_word free v) true (eqb (r v) (asked v)) ≡ meets_at goal 0 r v
     unfolding asked goal_values
     one_test r v h =
         let at : get_or goal (0 + v) 0 ≡ get_or goal v 0 = ap (λ (u : ℕ). get_or goal u 0) (zero-add v) in
@@ -88,7 +88,7 @@ module _ (variables count : ℕ) (sizes weights goal : List ℕ) (w : Numbered v
     goal_test starts s =
         let r : State = row_state variables sizes s in
         ap (λ (g : State). differs_in (in_word free) variables 0 g r) goal_state
-        ∙ all_same variables (λ v. cond (leb 0 v && in_word free v) true (eqb (r v) (asked v))) (meetsAt goal 0 r) (one_test r)
+        ∙ all_same variables (λ v. cond (leb 0 v && in_word free v) true (eqb (r v) (asked v))) (meets_at goal 0 r) (one_test r)
         ∙ sym (hold_below goal 0 r variables)
         ∙ ap (all_hold (row_pairs goal 0 0 variables)) (state_alike sizes [] starts variables s)
 

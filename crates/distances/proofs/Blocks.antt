@@ -53,7 +53,7 @@ known_cleared entries settled count least none none_left b h =
     }
 
 module _ (entries settled entries' settled' : List ℕ) (count from limit best : ℕ)
-    (alike : (s : ℕ) → from ≤ s → s < limit → entry_in entries' s ≡ entry_in entries s) (open-alike : (s : ℕ) → from ≤ s → s < limit → get_or settled' s 0 ≡ get_or settled s 0) where
+    (alike : (s : ℕ) → from ≤ s → s < limit → entry_in entries' s ≡ entry_in entries s) (open_alike : (s : ℕ) → from ≤ s → s < limit → get_or settled' s 0 ≡ get_or settled s 0) where
   none_alike : (s : ℕ) → from ≤ s → s < limit → is_none (entry_in entries' s) ≡ is_none (entry_in entries s)
   none_alike s a b = ap is_none (alike s a b)
 
@@ -63,14 +63,14 @@ module _ (entries settled entries' settled' : List ℕ) (count from limit best :
       record {
         range = p.range;
         inside = p.inside;
-        unsettled = λ h. open-alike best (p.inside h).0 (p.inside h).1 ∙ p.unsettled h;
+        unsettled = λ h. open_alike best (p.inside h).0 (p.inside h).1 ∙ p.unsettled h;
         has_entry = λ h. none_alike best (p.inside h).0 (p.inside h).1 ∙ p.has_entry h;
         least =
             λ h s a b c z w.
             ap (λ (e : Entry). less_entry e (entry_in entries' best)) (alike s a b)
             ∙ ap (less_entry (entry_in entries s)) (alike best (p.inside h).0 (p.inside h).1)
-            ∙ p.least h s a b c (sym (open-alike s a b) ∙ z) (sym (none_alike s a b) ∙ w);
-        none_left = λ e s a b c z w. p.none_left e s a b c (sym (open-alike s a b) ∙ z) (sym (none_alike s a b) ∙ w);
+            ∙ p.least h s a b c (sym (open_alike s a b) ∙ z) (sym (none_alike s a b) ∙ w);
+        none_left = λ e s a b c z w. p.none_left e s a b c (sym (open_alike s a b) ∙ z) (sym (none_alike s a b) ∙ w);
       }
 
 -- after state u is settled and its block is looked through anew

@@ -13,11 +13,11 @@ use Rattle.files.specs.Dense.{row_pairs}
 use Rattle.files.proofs.Logic.{split}
 use Rattle.plans.specs.State.{State, all_hold}
 use Rattle.plans.specs.Tally.{list_state, meets_cell}
-use Rattle.plans.proofs.RowStates.{meets_some, meetsAt, hold_below}
+use Rattle.plans.proofs.RowStates.{meets_some, meets_at, hold_below}
 use Rattle.lookup.specs.FactRows.{can_have, leads_to_fact, fact_number, RowsByFact, InAllRows}
 use Rattle.distances.specs.Rows.{can_reach}
 use Rattle.bits.specs.Sets.{in_words}
-use Rattle.distances.proofs.Predecessors.{reachAt}
+use Rattle.distances.proofs.Predecessors.{reach_at}
 
 -- tests that agree below the bound
 pub all_same : (n : ℕ) (f g : ℕ → Bool) → ((i : ℕ) → i < n → f i ≡ g i) → all_below n f ≡ all_below n g
@@ -32,7 +32,7 @@ pub words_reach : (variables actions : ℕ) (sizes conditions effects rows value
 unfolding can_reach list_state leads_to_fact
 words_reach variables actions sizes conditions effects rows values words has all inside a h few =
     all a few
-    ∙ all_same variables (λ v. in_words rows (8 * fact_number sizes v (get_or values v 0)) a) (reachAt conditions effects (64 * a) (list_state values))
+    ∙ all_same variables (λ v. in_words rows (8 * fact_number sizes v (get_or values v 0)) a) (reach_at conditions effects (64 * a) (list_state values))
     (λ v l. has v (get_or values v 0) a l (inside v l) h)
 
 have_meets : (condition value : ℕ) → can_have condition condition value ≡ meets_cell condition value
@@ -47,5 +47,5 @@ pub reach_holds : (conditions : List ℕ) (base variables : ℕ) (s : State)
     → can_reach conditions conditions base variables s ≡ all_hold (row_pairs conditions base 0 variables) s
 unfolding can_reach
 reach_holds conditions base variables s =
-    all_same variables (reachAt conditions conditions base s) (meetsAt conditions base s) (λ v l. have_meets (get_or conditions (base + v) 0) (s v))
+    all_same variables (reach_at conditions conditions base s) (meets_at conditions base s) (λ v l. have_meets (get_or conditions (base + v) 0) (s v))
     ∙ sym (hold_below conditions base s variables)

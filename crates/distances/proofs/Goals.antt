@@ -25,23 +25,23 @@ module _ (variables : ℕ) (goal weights : List ℕ) where
   unfolding weighted
   numbering_begin = record { within = omega arith; few = omega arith; is = λ sizes weight. refl }
 
-  module _ (v number cell x : ℕ) (c : Numbering v number) (h : v < variables) (light : get_or weights v 0 ≤ 4096) (cell-few : cell < 256) (x_is : x ≡ cond (eqb cell 255) 0 cell) where
+  module _ (v number cell x : ℕ) (c : Numbering v number) (h : v < variables) (light : get_or weights v 0 ≤ 4096) (cell_few : cell < 256) (x_is : x ≡ cond (eqb cell 255) 0 cell) where
     more : get_or weights v 0 * x + number ≤ 1048576 * (v + 1)
-    more = omega (arith, cell_product (get_or weights v 0) cell (eqb cell 255) x light cell-few x_is, c.few)
+    more = omega (arith, cell_product (get_or weights v 0) cell (eqb cell 255) x light cell_few x_is, c.few)
 
     pub number_fits : variables ≤ 64 → get_or weights v 0 * x + number ≤ 67108864
     number_fits few = omega (arith, more)
 
     value_at : cell ≡ get_or goal v 0 → x ≡ goal_values goal v
     unfolding goal_values
-    value_at cell-is = x_is ∙ ap (λ (n : ℕ). cond (eqb n 255) 0 n) cell-is
+    value_at cell_is = x_is ∙ ap (λ (n : ℕ). cond (eqb n 255) 0 n) cell_is
 
     pub numbering_next : cell ≡ get_or goal v 0 → Numbering (v + 1) (get_or weights v 0 * x + number)
-    numbering_next cell-is =
+    numbering_next cell_is =
         record {
           within = omega arith;
           few = more;
-          is = λ sizes weight. weighted_next sizes (goal_values goal) v _ x number (weight v h) (value_at cell-is) (c.is sizes weight);
+          is = λ sizes weight. weighted_next sizes (goal_values goal) v _ x number (weight v h) (value_at cell_is) (c.is sizes weight);
         }
 
   pub numbering_end : (v number : ℕ) → Numbering v number → variables ≤ v → (sizes : List ℕ) → WeightsOf variables sizes weights → number ≡ weighted sizes (goal_values goal) variables

@@ -94,18 +94,18 @@ any_alike (suc n) f g h = rw (h n (omega arith), any_alike n f g (λ i l. h i (o
 
 -- states that differ only in free variables from one on
 module _ (free : ℕ → Bool) (n from : ℕ) (s r : State) where
-  abbrev isFree : ℕ → Bool
-  isFree v = leb from v && free v
+  abbrev is_free : ℕ → Bool
+  is_free v = leb from v && free v
 
-  pub differs_elim : differs_in free n from s r ≡ true → (v : ℕ) → v < n → isFree v ≡ false → r v ≡ s v
+  pub differs_elim : differs_in free n from s r ≡ true → (v : ℕ) → v < n → is_free v ≡ false → r v ≡ s v
   unfolding differs_in
-  differs_elim e v h f = eqb-true (r v) (s v) (sym (ap (λ (b : Bool). cond b true (eqb (r v) (s v))) f) ∙ all_below_elim n (λ u. cond (isFree u) true (eqb (r u) (s u))) e v h)
+  differs_elim e v h f = eqb-true (r v) (s v) (sym (ap (λ (b : Bool). cond b true (eqb (r v) (s v))) f) ∙ all_below_elim n (λ u. cond (is_free u) true (eqb (r u) (s u))) e v h)
 
-  pub differs_intro : ((v : ℕ) → v < n → isFree v ≡ false → r v ≡ s v) → differs_in free n from s r ≡ true
+  pub differs_intro : ((v : ℕ) → v < n → is_free v ≡ false → r v ≡ s v) → differs_in free n from s r ≡ true
   unfolding differs_in
   differs_intro f =
-      all_below_intro n (λ u. cond (isFree u) true (eqb (r u) (s u)))
-      (λ v h. split (isFree v) (λ b. rw b refl) (λ b. rw b (eq-eqb (r v) (s v) (f v h b))))
+      all_below_intro n (λ u. cond (is_free u) true (eqb (r u) (s u)))
+      (λ v h. split (is_free v) (λ b. rw b refl) (λ b. rw b (eq-eqb (r v) (s v) (f v h b))))
 
 pub free_true : (free : ℕ → Bool) (from v : ℕ) → from ≤ v → free v ≡ true → leb from v && free v ≡ true
 free_true free from v h f = and_join (le-leb from v h) f
@@ -150,7 +150,7 @@ module _ (sizes weights : List ℕ) (n count free : ℕ) (w : Numbered n count s
     here : in_word free v ≡ true
     here = first.there inside
 
-    module _ (weight z : ℕ) (weight_is : weight ≡ get_or weights v 0) (z-inside : z < get_or sizes v 0) where
+    module _ (weight z : ℕ) (weight_is : weight ≡ get_or weights v 0) (z_inside : z < get_or sizes v 0) where
       number_is : number + weight * z ≡ number - row_weight sizes v * row_state n sizes number v + row_weight sizes v * z
       number_is =
           let none : row_weight sizes v * row_state n sizes number v ≡ 0 = ap (λ (k : ℕ). row_weight sizes v * k) zero ∙ mul-zero (row_weight sizes v) in
@@ -158,10 +158,10 @@ module _ (sizes weights : List ℕ) (n count free : ℕ) (w : Numbered n count s
           omega (arith, none, plain)
 
       pub value_below_lem : number + weight * z < count
-      value_below_lem = omega (arith, number_is, w.states, change_below sizes n w.size_least number v z (omega (arith, w.states)) inside z-inside)
+      value_below_lem = omega (arith, number_is, w.states, change_below sizes n w.size_least number v z (omega (arith, w.states)) inside z_inside)
 
       value_state : row_state n sizes (number + weight * z) ≡ changed (row_state n sizes number) v z
-      value_state = ap (row_state n sizes) number_is ∙ change_state sizes n w.size_least number v z (omega (arith, w.states)) inside z-inside
+      value_state = ap (row_state n sizes) number_is ∙ change_state sizes n w.size_least number v z (omega (arith, w.states)) inside z_inside
 
       -- the other variables are as they were
       pub value_zero : (u : ℕ) → v < u → row_state n sizes number u ≡ 0 → row_state n sizes (number + weight * z) u ≡ 0

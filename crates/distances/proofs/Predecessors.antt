@@ -14,7 +14,7 @@ use Rattle.files.proofs.BelowLaws.{all_below_intro, all_below_elim}
 use Rattle.files.proofs.Logic.{split, split_le, and_split, and_join}
 use Rattle.plans.specs.State.{State, all_hold, applicable, apply}
 use Rattle.plans.specs.Tally.{meets_cell}
-use Rattle.plans.proofs.RowStates.{after_none, after_some, meetsAt, hold_below, apply_row, apply_behind}
+use Rattle.plans.proofs.RowStates.{after_none, after_some, meets_at, hold_below, apply_row, apply_behind}
 use Rattle.files.proofs.Truth.{same_truth}
 use Rattle.distances.specs.States.{state_number, state_at}
 use Rattle.distances.specs.Rows.{row_variables, row_states, row_state, can_reach, differs_only, leads_to}
@@ -32,24 +32,24 @@ module _ (conditions effects : List ℕ) (base : ℕ) where
   abbrev pub effect_at : ℕ → ℕ
   effect_at v = get_or effects (base + v) 0
 
-  abbrev pub reachAt : State → ℕ → Bool
-  reachAt s v = can_have (condition_at v) (effect_at v) (s v)
+  abbrev pub reach_at : State → ℕ → Bool
+  reach_at s v = can_have (condition_at v) (effect_at v) (s v)
 
   module _ (s : State) where
     -- each variable of a state that can be reached
     pub reached_set : (n v : ℕ) → can_reach conditions effects base n s ≡ true → v < n → (effect_at v ≡ 255 → ⊥) → effect_at v ≡ s v
     unfolding can_reach
-    reached_set n v e h d = eqb-true (effect_at v) (s v) (have_effect (condition_at v) (effect_at v) (s v) d ∙ all_below_elim n (reachAt s) e v h)
+    reached_set n v e h d = eqb-true (effect_at v) (s v) (have_effect (condition_at v) (effect_at v) (s v) d ∙ all_below_elim n (reach_at s) e v h)
 
     reached_left : (n v : ℕ) → can_reach conditions effects base n s ≡ true → v < n → effect_at v ≡ 255 → meets_cell (condition_at v) (s v) ≡ true
     unfolding can_reach
-    reached_left n v e h d = have_left (condition_at v) (effect_at v) (s v) d ∙ all_below_elim n (reachAt s) e v h
+    reached_left n v e h d = have_left (condition_at v) (effect_at v) (s v) d ∙ all_below_elim n (reach_at s) e v h
 
     reached_all : (n : ℕ) → ((v : ℕ) → v < n → (effect_at v ≡ 255 → ⊥) → effect_at v ≡ s v)
         → ((v : ℕ) → v < n → effect_at v ≡ 255 → meets_cell (condition_at v) (s v) ≡ true) → can_reach conditions effects base n s ≡ true
     unfolding can_reach
     reached_all n f g =
-        all_below_intro n (reachAt s)
+        all_below_intro n (reach_at s)
         (λ v h.
         split (eqb (effect_at v) 255)
         (λ e. let d : effect_at v ≡ 255 = eqb-true (effect_at v) 255 e in sym (have_left (condition_at v) (effect_at v) (s v) d) ∙ g v h d)
@@ -134,7 +134,7 @@ module _ (sizes conditions effects : List ℕ) (n base : ℕ) (positive : RowSiz
   leads_reaches e =
       let both = and_split (all_hold (row_pairs conditions base 0 n) r) (eqb (weighted sizes (apply a r) n) x) e in
       let met : (v : ℕ) → v < n → meets_cell (condition_at conditions effects base v) (r v) ≡ true =
-      λ v h. all_below_elim n (meetsAt conditions base r) (sym (hold_below conditions base r n) ∙ both.0) v h in
+      λ v h. all_below_elim n (meets_at conditions base r) (sym (hold_below conditions base r n) ∙ both.0) v h in
       let is : t ≡ apply a r = ap (row_state n sizes) (sym (eqb-true (weighted sizes (apply a r) n) x both.1)) ∙ weights_state sizes n positive (apply a r) after_in after_behind in
       let value : (v : ℕ) → t v ≡ apply a r v = λ v. ap (λ (q : State). q v) is in
       and_join
@@ -167,7 +167,7 @@ module _ (sizes conditions effects : List ℕ) (n base : ℕ) (positive : RowSiz
       let d : effect_at conditions effects base v ≡ 255 → ⊥ = eqb-false (effect_at conditions effects base v) 255 q in
       set_value v h d ∙ reached_set conditions effects base t n v both.0 h d) in
       and_join
-      (hold_below conditions base r n ∙ all_below_intro n (meetsAt conditions base r) met)
+      (hold_below conditions base r n ∙ all_below_intro n (meets_at conditions base r) met)
       (eq-eqb (weighted sizes (apply a r) n) x (weighted_alike sizes (apply a r) t n value ∙ number_weights sizes n positive x below))
 
   pub leads_is : leads_to (row_variables n sizes starts) a s x

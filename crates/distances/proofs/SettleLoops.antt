@@ -35,12 +35,12 @@ module _ (variables actions count x : ℕ) (bound : Entry) (sizes costs rows mov
   abbrev pub Leading : Type 0
   Leading = (conditions effects : List ℕ) → Tables conditions effects → (a : ℕ) → a < actions → in_words words 0 a ≡ can_reach conditions effects (64 * a) variables (row_state variables sizes x)
 
-  abbrev offeredBy : List ℕ → List ℕ → List ℕ → ℕ → ℕ → Entry
-  offeredBy starts conditions effects s a = offered (row_variables variables sizes starts) (row_action variables costs conditions effects) x (entry_in entries₀ x) s (entry_in entries₀ s) a
+  abbrev offered_by : List ℕ → List ℕ → List ℕ → ℕ → ℕ → Entry
+  offered_by starts conditions effects s a = offered (row_variables variables sizes starts) (row_action variables costs conditions effects) x (entry_in entries₀ x) s (entry_in entries₀ s) a
 
   -- the entries that the actions before a offer
   abbrev Before : List ℕ → ℕ → Type 0
-  Before entries a = (starts conditions effects : List ℕ) → Tables conditions effects → (s : ℕ) → s < count → entry_in entries s ≡ offeredBy starts conditions effects s a
+  Before entries a = (starts conditions effects : List ℕ) → Tables conditions effects → (s : ℕ) → s < count → entry_in entries s ≡ offered_by starts conditions effects s a
 
   pub record Actions (entries least : List ℕ) (a : ℕ) : Type 0 where
     pub leading : Leading
@@ -54,10 +54,10 @@ module _ (variables actions count x : ℕ) (bound : Entry) (sizes costs rows mov
 
   module _ (weights : List ℕ) (pre : CanSettle variables actions count x bound sizes weights costs rows moves entries₀ settled least₀) where
     -- the words are those of the rows of its values
-    module _ (values : List ℕ) (values-are : (starts : List ℕ) → list_state values ≡ state_at (row_variables variables sizes starts) x) where
+    module _ (values : List ℕ) (values_are : (starts : List ℕ) → list_state values ≡ state_at (row_variables variables sizes starts) x) where
       own : list_state values ≡ row_state variables sizes x
       unfolding row_state
-      own = values-are []
+      own = values_are []
 
       pub values_inside : (v : ℕ) → v < variables → get_or values v 0 < get_or sizes v 0
       unfolding list_state
@@ -110,7 +110,7 @@ module _ (variables actions count x : ℕ) (bound : Entry) (sizes costs rows mov
         cost_few = pre.tables.asked.cost_most a h
 
         pub step_on : (e : Entry) (cost : ℕ) → e ≡ entry_in entries₀ x → cost ≡ get_or costs a 0 → StepOn e cost
-        step_on e cost is is-cost = record { low = subst Low (sym is) pre.low; cost_most = omega (arith, is-cost, cost_few) }
+        step_on e cost is is_cost = record { low = subst Low (sym is) pre.low; cost_most = omega (arith, is_cost, cost_few) }
 
         row_cost : (conditions effects : List ℕ) → (row_action variables costs conditions effects a).cost ≡ get_or costs a 0
         unfolding row_action
@@ -141,7 +141,7 @@ module _ (variables actions count x : ℕ) (bound : Entry) (sizes costs rows mov
                     o.offered s l
                     ∙ ap (λ (b : Bool). cond b (lowered new (entry_in entries s)) (entry_in entries s)) (leads_free variables actions count sizes weights costs conditions effects rows moves pre.numbered t x pre.below a h (reaches conditions effects t) starts s)
                     ∙ ap₂ (λ (y old : Entry). cond (leads_to (row_variables variables sizes starts) action s x) (lowered y old) old) step (c.offers starts conditions effects t s l)
-                    ∙ ap (offeredBy starts conditions effects s) (sym (add-one a)))
+                    ∙ ap (offered_by starts conditions effects s) (sym (add-one a)))
                     f;
                 known = o.known;
                 above = above_offered (differs_from sizes variables (free_of moves a) 0 (number_before moves a x)) count new entries bound c.above entries' o.offered;
@@ -150,4 +150,4 @@ module _ (variables actions count x : ℕ) (bound : Entry) (sizes costs rows mov
       pub actions_end : actions ≤ a → StepsOffered variables actions count x bound sizes costs rows moves settled entries₀ entries least
       actions_end h =
           let is : a ≡ actions = omega (arith, c.within) in
-          record { offers = λ starts conditions effects t s l. c.offers starts conditions effects t s l ∙ ap (offeredBy starts conditions effects s) is; known = c.known; above = c.above }
+          record { offers = λ starts conditions effects t s l. c.offers starts conditions effects t s l ∙ ap (offered_by starts conditions effects s) is; known = c.known; above = c.above }

@@ -58,9 +58,9 @@ module _ (t : Task) (valid : Valid t) where
 
   -- the least of those left is settled
   module _ (f g : ℕ → Distance) (D E : ℕ → Bool) (u : ℕ) (w : Going t f D) (r : Relaxed t f g u) (lu : u < state_count t.variables)
-      (open-u : D u ≡ false)
+      (open_u : D u ≡ false)
       (least : (n : ℕ) → n < state_count t.variables → D n ≡ false → Le (f u) (f n))
-      (at-u : E u ≡ true)
+      (at_u : E u ≡ true)
       (elsewhere : (n : ℕ) → (n ≡ u → ⊥) → E n ≡ D n) where
     -- what is settled stays
     stays : (n : ℕ) → n < state_count t.variables → Le (f n) (f u) → g n ≡ f n
@@ -74,12 +74,12 @@ module _ (t : Task) (valid : Valid t) where
     low n l e =
         split_eq n u
         (λ q. subst (λ (m : ℕ). Le (f m) (f u)) (sym q) (le_refl (f u)))
-        (λ q. w.order n u l lu (sym (elsewhere n q) ∙ e) open-u)
+        (λ q. w.order n u l lu (sym (elsewhere n q) ∙ e) open_u)
 
     high : (n : ℕ) → n < state_count t.variables → E n ≡ false → Le (f u) (g n)
     high n l e =
         split_eq n u
-        (λ q. clash at-u (ap E (sym q) ∙ e))
+        (λ q. clash at_u (ap E (sym q) ∙ e))
         (λ q.
         ⊎_elim
         (λ z. subst (λ (x : Distance). Le (f u) x) (sym z) (least n l (sym (elsewhere n q) ∙ e)))

@@ -13,7 +13,7 @@ use Rattle.files.proofs.Filling.{filled_before, filled_after}
 use Rattle.files.proofs.Logic.{split_le}
 use Rattle.plans.specs.State.{State, apply}
 use Rattle.plans.specs.Tally.{list_state}
-use Rattle.plans.proofs.RowStates.{after_none, after_some, afterRow, apply_row}
+use Rattle.plans.proofs.RowStates.{after_none, after_some, after_row, apply_row}
 use Rattle.distances.specs.States.{state_number, state_at}
 use Rattle.distances.specs.Rows.{row_variables, row_states, Counted}
 use Rattle.lookup.specs.Moves.{row_weight}
@@ -74,7 +74,7 @@ module _ (sizes : List ℕ) (s : State) (n : ℕ) where
 -- the state after a row's effects
 module _ (sizes effects : List ℕ) (base n : ℕ) (s : State) where
   pub after_inside : RowInside n sizes s → ((v : ℕ) → v < n → (get_or effects (base + v) 0 ≡ 255 → ⊥) → get_or effects (base + v) 0 < get_or sizes v 0)
-      → RowInside n sizes (afterRow effects base s)
+      → RowInside n sizes (after_row effects base s)
   after_inside h k v l =
       let x = get_or effects (base + v) 0 in
       split_le x 255
@@ -84,12 +84,12 @@ module _ (sizes effects : List ℕ) (base n : ℕ) (s : State) where
       (λ b. omega (arith, k v l (λ e. omega arith), after_some x (s v) (λ e. omega arith))))
       (λ a. omega (arith, k v l (λ e. omega arith), after_some x (s v) (λ e. omega arith)))
 
-  pub after_number : (starts : List ℕ) (a : Action) (number : ℕ) → a.effects ≡ row_pairs effects base 0 n → number ≡ state_number (row_variables n sizes starts) (afterRow effects base s)
+  pub after_number : (starts : List ℕ) (a : Action) (number : ℕ) → a.effects ≡ row_pairs effects base 0 n → number ≡ state_number (row_variables n sizes starts) (after_row effects base s)
       → number ≡ state_number (row_variables n sizes starts) (apply a s)
   after_number starts a number is e =
       e
-      ∙ row_number sizes starts (afterRow effects base s) n
-      ∙ number_alike sizes (afterRow effects base s) (apply a s) 0 n (λ w b l. sym (apply_row effects base s a n w is (omega arith)))
+      ∙ row_number sizes starts (after_row effects base s) n
+      ∙ number_alike sizes (after_row effects base s) (apply a s) 0 n (λ w b l. sym (apply_row effects base s a n w is (omega arith)))
       ∙ sym (row_number sizes starts (apply a s) n)
 
 -- the values of a number, from the first variable on

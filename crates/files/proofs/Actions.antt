@@ -34,17 +34,17 @@ record Parts (f : List ℕ) (at : ℕ) (a : Action) : Type 0 where
   effects : Stands f (at + 12 + 4 * length a.conditions) (pair_bytes a.effects)
 
 module _ (a : Action) where
-  abbrev cost-bytes : List ℕ
-  cost-bytes = u32_bytes a.cost
+  abbrev cost_bytes : List ℕ
+  cost_bytes = u32_bytes a.cost
 
-  abbrev condition-count-bytes : List ℕ
-  condition-count-bytes = u16_bytes (length a.conditions)
+  abbrev condition_count_bytes : List ℕ
+  condition_count_bytes = u16_bytes (length a.conditions)
 
-  abbrev effect-count-bytes : List ℕ
-  effect-count-bytes = u16_bytes (length a.effects)
+  abbrev effect_count_bytes : List ℕ
+  effect_count_bytes = u16_bytes (length a.effects)
 
   abbrev counts : List ℕ
-  counts = cost-bytes ++ condition-count-bytes ++ effect-count-bytes
+  counts = cost_bytes ++ condition_count_bytes ++ effect_count_bytes
 
   abbrev front : List ℕ
   front = counts ++ pair_bytes a.conditions
@@ -56,14 +56,14 @@ module _ (a : Action) where
   parts : {f : List ℕ} {at : ℕ} → Stands f (at + 4) (action_body a) → Parts f at a
   unfolding action_body u32_bytes u16_bytes
   parts s =
-      let in-front = stands_left front (pair_bytes a.effects) s in
-      let in-counts = stands_left counts (pair_bytes a.conditions) in-front in
-      let in_first = stands_left (cost-bytes ++ condition-count-bytes) effect-count-bytes in-counts in
+      let in_front = stands_left front (pair_bytes a.effects) s in
+      let in_counts = stands_left counts (pair_bytes a.conditions) in_front in
+      let in_first = stands_left (cost_bytes ++ condition_count_bytes) effect_count_bytes in_counts in
       record {
-        cost = stands_left cost-bytes condition-count-bytes in_first;
-        condition_count = stands_right cost-bytes condition-count-bytes (omega arith) in_first;
-        effect_count = stands_right (cost-bytes ++ condition-count-bytes) effect-count-bytes (omega arith) in-counts;
-        conditions = stands_right counts (pair_bytes a.conditions) (omega arith) in-front;
+        cost = stands_left cost_bytes condition_count_bytes in_first;
+        condition_count = stands_right cost_bytes condition_count_bytes (omega arith) in_first;
+        effect_count = stands_right (cost_bytes ++ condition_count_bytes) effect_count_bytes (omega arith) in_counts;
+        conditions = stands_right counts (pair_bytes a.conditions) (omega arith) in_front;
         effects = stands_right front (pair_bytes a.effects) (omega (arith, front_length)) s;
       }
 
@@ -72,8 +72,8 @@ module _ (a : Action) where
   parts_stand p =
       stands_join front (pair_bytes a.effects) (omega (arith, front_length))
       (stands_join counts (pair_bytes a.conditions) (omega arith)
-      (stands_join (cost-bytes ++ condition-count-bytes) effect-count-bytes (omega arith)
-      (stands_join cost-bytes condition-count-bytes (omega arith) p.cost p.condition_count)
+      (stands_join (cost_bytes ++ condition_count_bytes) effect_count_bytes (omega arith)
+      (stands_join cost_bytes condition_count_bytes (omega arith) p.cost p.condition_count)
       p.effect_count)
       p.conditions)
       p.effects

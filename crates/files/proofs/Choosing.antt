@@ -51,8 +51,8 @@ row_pushed false l k x h = ap (λ (n : ℕ). row_numbers l 0 n) (omega arith) �
 -- from one number to the next
 pub chosen_next : (f : ℕ → Bool) (t : Bool) (l new : List ℕ) (v count next : ℕ) → count < length l → row_numbers l 0 count ≡ chosen_below v f → t ≡ f v
     → new ≡ cond t (set l count v) l → next ≡ count + bit t → row_numbers new 0 next ≡ chosen_below (v + 1) f
-chosen_next f t l new v count next h before e set_new is-next =
-    ap₂ (λ (a : List ℕ) (n : ℕ). row_numbers a 0 n) set_new is-next
+chosen_next f t l new v count next h before e set_new is_next =
+    ap₂ (λ (a : List ℕ) (n : ℕ). row_numbers a 0 n) set_new is_next
     ∙ row_pushed t l count v h
     ∙ ap₂ (λ (a : List ℕ) (b : Bool). a ++ cond b (v ∷ []) []) before e
     ∙ sym (ap (λ (n : ℕ). chosen_below n f) (add-one v))

@@ -39,20 +39,20 @@ module _ (o : Origin) (signer : ℕ) (a : accepted_origin o ≡ true) (v : valid
   abbrev written : List ℕ
   written = origin_file o signer
 
-  abbrev variableRecords : List ℕ
-  variableRecords = variable_origin_bytes o.variables
+  abbrev variable_records : List ℕ
+  variable_records = variable_origin_bytes o.variables
 
-  abbrev actionRecord : List ℕ
-  actionRecord = record_bytes 7 (number_bytes o.actions)
+  abbrev action_record : List ℕ
+  action_record = record_bytes 7 (number_bytes o.actions)
 
   valid : ValidOrigin o
   valid = origin_valid o a
 
-  records_small : length (variableRecords ++ actionRecord) + 12 ≤ 65536
+  records_small : length (variable_records ++ action_record) + 12 ≤ 65536
   records_small =
       omega (
         arith,
-        length-append variableRecords actionRecord,
+        length-append variable_records action_record,
         number_record_length 7 o.actions,
         origin_bytes_few o.variables valid.variables,
         valid.variables_few,
@@ -63,19 +63,19 @@ module _ (o : Origin) (signer : ℕ) (a : accepted_origin o ≡ true) (v : valid
   unfolding origin_file
   variables_read =
       origins_read written 0 o.variables 0
-      (stands_left variableRecords actionRecord (records_stand signer (variableRecords ++ actionRecord)))
+      (stands_left variable_records action_record (records_stand signer (variable_records ++ action_record)))
       valid.variables_rise
       valid.variables
 
   -- the record of action origins stands behind the variables
-  place : records_end written 0 (length o.variables) ≡ length variableRecords
+  place : records_end written 0 (length o.variables) ≡ length variable_records
   place = omega (arith, variables_read.end)
 
-  actions_recorded : Recorded written (length variableRecords) 7 (number_bytes o.actions)
+  actions_recorded : Recorded written (length variable_records) 7 (number_bytes o.actions)
   unfolding origin_file
   actions_recorded =
       recorded 7 (number_bytes o.actions)
-      (stands_right variableRecords actionRecord (omega arith) (records_stand signer (variableRecords ++ actionRecord)))
+      (stands_right variable_records action_record (omega arith) (records_stand signer (variable_records ++ action_record)))
       (omega arith)
       (omega (arith, number_bytes_length o.actions, valid.actions_few))
 
@@ -85,16 +85,16 @@ module _ (o : Origin) (signer : ℕ) (a : accepted_origin o ≡ true) (v : valid
       variables_read.counted 65 (omega (arith, valid.variables_few))
       (λ e. omega (arith, actions_recorded.named, ap (kind_at written) (sym place) ∙ e))
 
-  place_read : origin_actions_place written ≡ length variableRecords
+  place_read : origin_actions_place written ≡ length variable_records
   unfolding origin_actions_place
   place_read = rw count_read place
 
   actions_read : numbers_from written (origin_actions_place written + 4) (body_length written (origin_actions_place written) / 2) ≡ o.actions
   actions_read =
-      let count : body_length written (length variableRecords) / 2 ≡ length o.actions =
+      let count : body_length written (length variable_records) / 2 ≡ length o.actions =
       omega (arith, actions_recorded.long, number_bytes_length o.actions) in
       rw (place_read, count)
-      (numbers_read 512 written o.actions (length variableRecords + 4) (omega arith) actions_recorded.stands
+      (numbers_read 512 written o.actions (length variable_records + 4) (omega arith) actions_recorded.stands
       (rising_under 512 0 o.actions valid.actions_rise))
 
   origin_read_lem : origin_of written ≡ o
@@ -110,15 +110,15 @@ module _ (o : Origin) (signer : ℕ) (a : accepted_origin o ≡ true) (v : valid
       let long = number_bytes_length o.actions in
       let small = records_small in
       simp facts (
-        omega (arith, signed_length signer (variableRecords ++ actionRecord)),
+        omega (arith, signed_length signer (variable_records ++ action_record)),
         (
           rw count_read variables_read.pass,
           (
             omega (arith, r.long, r.named, r.stands.room, valid.actions_few),
             (
               action_origins_pass written 0 (origin_actions_place written + 4) (body_length written (origin_actions_place written) / 2) (rw actions_read valid.actions_rise),
-              signed_done signer (variableRecords ++ actionRecord) (omega arith) v (record_end written (origin_actions_place written))
-                  (omega (arith, length-append variableRecords actionRecord, number_record_length 7 o.actions, place_read, r.long)),
+              signed_done signer (variable_records ++ action_record) (omega arith) v (record_end written (origin_actions_place written))
+                  (omega (arith, length-append variable_records action_record, number_record_length 7 o.actions, place_read, r.long)),
             ),
           ),
         ),
@@ -129,7 +129,7 @@ module _ (o : Origin) (signer : ℕ) (a : accepted_origin o ≡ true) (v : valid
   origin_reads_back =
       let small = records_small in
       reads_as (check_origin written) (origin_of written) (signer_of written) o signer origin_done origin_read_lem
-      (signed_signer signer (variableRecords ++ actionRecord) (omega arith) v)
+      (signed_signer signer (variable_records ++ action_record) (omega arith) v)
 
 -- a file whose check is done
 record Checked (f : List ℕ) : Type 0 where

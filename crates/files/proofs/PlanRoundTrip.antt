@@ -52,7 +52,7 @@ module _ (actions : ℕ) (plan : List ℕ) (signer : ℕ) (few : actions ≤ 655
   plan_done : (check_plan_file actions written).number ≡ 0
   unfolding check_plan_file plan_file plan_of size_fits head_at body_fits body_rule record_end
   plan_done =
-      let few-steps = steps_few in
+      let few_steps = steps_few in
       let short = number_record_length 8 plan in
       let long = number_bytes_length plan in
       let r = plan_recorded in

@@ -82,9 +82,9 @@ module _ {f : List ℕ} {at : ℕ} where
       let second : get_or f (at + 1) 0 ≡ n / 256 % 256 = s.same 1 (omega arith) in
       let third : get_or f (at + 2) 0 ≡ n / 65536 % 256 = s.same 2 (omega arith) in
       let fourth : get_or f (at + 3) 0 ≡ n / 16777216 % 256 = s.same 3 (omega arith) in
-      let above-first : n / 256 ≡ n / 256 % 256 + n / 65536 * 256 = omega arith in
-      let above-second : n / 65536 ≡ n / 65536 % 256 + n / 16777216 * 256 = omega arith in
-      let above-third : n / 16777216 % 256 ≡ n / 16777216 = omega arith in
+      let above_first : n / 256 ≡ n / 256 % 256 + n / 65536 * 256 = omega arith in
+      let above_second : n / 65536 ≡ n / 65536 % 256 + n / 16777216 * 256 = omega arith in
+      let above_third : n / 16777216 % 256 ≡ n / 16777216 = omega arith in
       let whole : n ≡ n % 256 + n / 256 * 256 = omega arith in
       omega arith
 

@@ -18,7 +18,7 @@ use Rattle.files.proofs.SignOff.{signed_off_lem, file_signed}
 use Rattle.files.proofs.Variables.{variables_length, variables_stand, variables_checked, States, states}
 use Rattle.files.proofs.Pairs.{pairs_length, pairs_stand, pairs_checked}
 use Rattle.files.proofs.Actions.{actions_length, actions_stand, actions_end, actions_signed, actions_checked}
-use Rattle.files.proofs.TaskLaid.{Laid, laid_records, headerBody, goalStart, actionsStart}
+use Rattle.files.proofs.TaskLaid.{Laid, laid_records, header_body, goal_start, actions_start}
 
 module _ (f : List ℕ) where
   pub variable_count_lem : variable_count (task_of f) ≡ variables_in f
@@ -78,7 +78,7 @@ module _ (f : List ℕ) (o : Octets f) (e : (check_task f).number ≡ 0) where
   checked : Checked f
   checked = check_found f e
 
-  header_stands : Stands f 0 (record_bytes 1 (headerBody (task_of f)))
+  header_stands : Stands f 0 (record_bytes 1 (header_body (task_of f)))
   unfolding variables_in actions_in u16_bytes
   header_stands =
       let c = checked in
@@ -93,11 +93,11 @@ module _ (f : List ℕ) (o : Octets f) (e : (check_task f).number ≡ 0) where
         stands = stands_join (u16_bytes (variable_count (task_of f))) (u16_bytes (action_count (task_of f))) (omega arith) first second;
       })
 
-  goal_place_lem : goal_place f ≡ goalStart (task_of f)
+  goal_place_lem : goal_place f ≡ goal_start (task_of f)
   unfolding goal_place variable_place
   goal_place_lem = omega (arith, variable_count_lem f)
 
-  actions_place_lem : actions_place f ≡ actionsStart (task_of f)
+  actions_place_lem : actions_place f ≡ actions_start (task_of f)
   unfolding actions_place record_end
   actions_place_lem = omega (arith, goal_place_lem, goal_count f, checked.goal_long)
 

@@ -18,31 +18,31 @@ use Rattle.files.proofs.Pairs.{pairs_read, pairs_pass}
 use Rattle.files.proofs.Actions.{actions_read, actions_pass}
 
 module _ (t : Task) where
-  abbrev pub headerBody : List ℕ
-  headerBody = u16_bytes (variable_count t) ++ u16_bytes (action_count t)
+  abbrev pub header_body : List ℕ
+  header_body = u16_bytes (variable_count t) ++ u16_bytes (action_count t)
 
   -- the records up to the variables, and up to the goal
-  abbrev toVariables : List ℕ
-  toVariables = record_bytes 1 headerBody ++ variable_bytes t.variables
+  abbrev to_variables_here : List ℕ
+  to_variables_here = record_bytes 1 header_body ++ variable_bytes t.variables
 
-  abbrev toGoal : List ℕ
-  toGoal = toVariables ++ record_bytes 3 (pair_bytes t.goal)
+  abbrev to_goal_here : List ℕ
+  to_goal_here = to_variables_here ++ record_bytes 3 (pair_bytes t.goal)
 
-  abbrev pub goalStart : ℕ
-  goalStart = 8 + 8 * variable_count t
+  abbrev pub goal_start : ℕ
+  goal_start = 8 + 8 * variable_count t
 
-  abbrev pub actionsStart : ℕ
-  actionsStart = 12 + 8 * variable_count t + 4 * length t.goal
+  abbrev pub actions_start : ℕ
+  actions_start = 12 + 8 * variable_count t + 4 * length t.goal
 
-  to_variables_length : length toVariables ≡ goalStart
+  to_variables_length : length to_variables_here ≡ goal_start
   unfolding record_bytes u16_bytes
   to_variables_length = omega (arith, variable_bytes_length t.variables)
 
-  to_goal_length : length toGoal ≡ actionsStart
+  to_goal_length : length to_goal_here ≡ actions_start
   to_goal_length =
       omega (
         arith,
-        length-append toVariables (record_bytes 3 (pair_bytes t.goal)),
+        length-append to_variables_here (record_bytes 3 (pair_bytes t.goal)),
         to_variables_length,
         record_bytes_length 3 (pair_bytes t.goal),
         pair_bytes_length t.goal,
@@ -50,38 +50,38 @@ module _ (t : Task) where
 
 -- the records of a task, each at its place
 pub record Laid (f : List ℕ) (t : Task) : Type 0 where
-  pub header : Stands f 0 (record_bytes 1 (headerBody t))
+  pub header : Stands f 0 (record_bytes 1 (header_body t))
   pub variables : Stands f 8 (variable_bytes t.variables)
-  pub goal : Stands f (goalStart t) (record_bytes 3 (pair_bytes t.goal))
-  pub actions : Stands f (actionsStart t) (action_bytes t.actions)
+  pub goal : Stands f (goal_start t) (record_bytes 3 (pair_bytes t.goal))
+  pub actions : Stands f (actions_start t) (action_bytes t.actions)
 
 module _ {f : List ℕ} (t : Task) where
   pub records_laid : Stands f 0 (task_records t) → Laid f t
   unfolding task_records record_bytes u16_bytes
   records_laid s =
-      let to-goal = stands_left (toGoal t) (action_bytes t.actions) s in
-      let to-variables = stands_left (toVariables t) (record_bytes 3 (pair_bytes t.goal)) to-goal in
+      let to_goal = stands_left (to_goal_here t) (action_bytes t.actions) s in
+      let to_variables = stands_left (to_variables_here t) (record_bytes 3 (pair_bytes t.goal)) to_goal in
       record {
-        header = stands_left (record_bytes 1 (headerBody t)) (variable_bytes t.variables) to-variables;
-        variables = stands_right (record_bytes 1 (headerBody t)) (variable_bytes t.variables) (omega arith) to-variables;
-        goal = stands_right (toVariables t) (record_bytes 3 (pair_bytes t.goal)) (omega (arith, to_variables_length t)) to-goal;
-        actions = stands_right (toGoal t) (action_bytes t.actions) (omega (arith, to_goal_length t)) s;
+        header = stands_left (record_bytes 1 (header_body t)) (variable_bytes t.variables) to_variables;
+        variables = stands_right (record_bytes 1 (header_body t)) (variable_bytes t.variables) (omega arith) to_variables;
+        goal = stands_right (to_variables_here t) (record_bytes 3 (pair_bytes t.goal)) (omega (arith, to_variables_length t)) to_goal;
+        actions = stands_right (to_goal_here t) (action_bytes t.actions) (omega (arith, to_goal_length t)) s;
       }
 
   pub laid_records : Laid f t → Stands f 0 (task_records t)
   unfolding task_records record_bytes u16_bytes
   laid_records l =
-      stands_join (toGoal t) (action_bytes t.actions) (omega (arith, to_goal_length t))
-      (stands_join (toVariables t) (record_bytes 3 (pair_bytes t.goal)) (omega (arith, to_variables_length t))
-      (stands_join (record_bytes 1 (headerBody t)) (variable_bytes t.variables) (omega arith) l.header l.variables)
+      stands_join (to_goal_here t) (action_bytes t.actions) (omega (arith, to_goal_length t))
+      (stands_join (to_variables_here t) (record_bytes 3 (pair_bytes t.goal)) (omega (arith, to_variables_length t))
+      (stands_join (record_bytes 1 (header_body t)) (variable_bytes t.variables) (omega arith) l.header l.variables)
       l.goal)
       l.actions
 
 -- a valid task that is laid out is read
 module _ (f : List ℕ) (t : Task) (l : Laid f t) (v : Valid t) where
-  header_recorded : Recorded f 0 1 (headerBody t)
+  header_recorded : Recorded f 0 1 (header_body t)
   unfolding u16_bytes
-  header_recorded = recorded 1 (headerBody t) l.header (omega arith) (omega arith)
+  header_recorded = recorded 1 (header_body t) l.header (omega arith) (omega arith)
 
   variables_in_lem : variables_in f ≡ variable_count t
   unfolding variables_in
@@ -101,7 +101,7 @@ module _ (f : List ℕ) (t : Task) (l : Laid f t) (v : Valid t) where
   stated : States f t
   stated = states f t variables_in_lem variables_same
 
-  goal_place_lem : goal_place f ≡ goalStart t
+  goal_place_lem : goal_place f ≡ goal_start t
   unfolding goal_place variable_place
   goal_place_lem = omega (arith, variables_in_lem)
 
@@ -113,12 +113,12 @@ module _ (f : List ℕ) (t : Task) (l : Laid f t) (v : Valid t) where
       let count : body_length f (goal_place f) / 4 ≡ length t.goal = omega (arith, goal_recorded.long, pair_bytes_length t.goal) in
       rw count (pairs_read f t v 0 t.goal (goal_place f + 4) goal_recorded.stands v.goal)
 
-  actions_place_lem : actions_place f ≡ actionsStart t
+  actions_place_lem : actions_place f ≡ actions_start t
   unfolding actions_place record_end
   actions_place_lem = omega (arith, goal_recorded.long, pair_bytes_length t.goal, goal_place_lem)
 
   actions_same : actions_from f (actions_place f) (actions_in f) ≡ t.actions
-  actions_same = rw (actions_place_lem, actions_in_lem) (actions_read f t stated v t.actions (actionsStart t) l.actions v.actions)
+  actions_same = rw (actions_place_lem, actions_in_lem) (actions_read f t stated v t.actions (actions_start t) l.actions v.actions)
 
   pub laid_task : task_of f ≡ t
   unfolding task_of
@@ -139,7 +139,7 @@ module _ (f : List ℕ) (t : Task) (l : Laid f t) (v : Valid t) where
                 pairs_pass f t stated 0 (goal_place f + 4) (body_length f (goal_place f) / 4) (rw goal_same v.goal),
               ),
               rw (actions_place_lem, actions_in_lem)
-                  (actions_pass f t stated v t.actions (actionsStart t) (length (task_records t)) l.actions v.actions (omega (arith, task_records_length t)) e),
+                  (actions_pass f t stated v t.actions (actions_start t) (length (task_records t)) l.actions v.actions (omega (arith, task_records_length t)) e),
             ),
           ),
         ),

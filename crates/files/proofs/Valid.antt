@@ -43,9 +43,9 @@ module _ (t : Task) where
       go : (b : Bool) → eqb p.variable v ≡ b → cond b (some p.value) (value_in ps v) ≡ some x → (value_in ps v ≡ some x → ValidPair t (p.variable + 1) (pair v x)) → ValidPair t at_least (pair v x)
       go true q r rest =
           let first = simp facts at h in
-          let same-variable : p.variable ≡ v = eqb-true p.variable v q in
+          let same_variable : p.variable ≡ v = eqb-true p.variable v q in
           let same_value : p.value ≡ x = cc in
-          record { above = omega arith; known = omega arith; inside = rw (← same-variable, ← same_value) first.1.1.0 }
+          record { above = omega arith; known = omega arith; inside = rw (← same_variable, ← same_value) first.1.1.0 }
       go false q r rest =
           let first = simp facts at h in
           let found = rest r in

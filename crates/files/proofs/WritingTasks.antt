@@ -67,11 +67,11 @@ pub placed_action : (action : Action) (b head counts conditions effects : List �
 unfolding action_body u32_bytes u16_bytes
 placed_action action b head counts conditions effects at asked set middle p q h n e m f =
     let counted = u32_bytes action.cost ++ u16_bytes (length action.conditions) ++ u16_bytes (length action.effects) in
-    let counts-placed : counts ≡ placed head (at + 4) counted = n ∙ ap₂ (λ (i j : ℕ). placed head (at + 4) (u32_bytes action.cost ++ u16_bytes i ++ u16_bytes j)) p q in
-    let conditions-placed : conditions ≡ placed head (at + 4) (counted ++ pair_bytes action.conditions) = e ∙ placed_then head counts (at + 4) (at + 12) counted (pair_bytes action.conditions) counts-placed (omega arith) in
+    let counts_placed : counts ≡ placed head (at + 4) counted = n ∙ ap₂ (λ (i j : ℕ). placed head (at + 4) (u32_bytes action.cost ++ u16_bytes i ++ u16_bytes j)) p q in
+    let conditions_placed : conditions ≡ placed head (at + 4) (counted ++ pair_bytes action.conditions) = e ∙ placed_then head counts (at + 4) (at + 12) counted (pair_bytes action.conditions) counts_placed (omega arith) in
     placed_record b head effects at 4 (8 + 4 * asked + 4 * set) (action_body action) h (omega (arith, action_body_length action))
     (f
-    ∙ placed_then head conditions (at + 4) middle (counted ++ pair_bytes action.conditions) (pair_bytes action.effects) conditions-placed
+    ∙ placed_then head conditions (at + 4) middle (counted ++ pair_bytes action.conditions) (pair_bytes action.effects) conditions_placed
     (omega (arith, pair_bytes_length action.conditions)))
 
 -- the file of a task from its parts: header, variables, goal, actions, sign-off
@@ -89,13 +89,13 @@ placed_task d signer b header variables goal actions all first end h v g f a e s
     let t = held d in
     let counted = tabulate_from_length (row_variable d.sizes d.starts) 0 d.variables in
     let numbered = tabulate_from_length (row_action d.variables d.costs d.conditions d.effects) 0 d.actions in
-    let toHeader = record_bytes 1 (u16_bytes (variable_count t) ++ u16_bytes (action_count t)) in
-    let toVariables = toHeader ++ variable_bytes t.variables in
-    let toGoal = toVariables ++ record_bytes 3 (pair_bytes t.goal) in
-    let header-placed : header ≡ placed b 0 toHeader = h ∙ sym (ap₂ (λ (m n : ℕ). placed b 0 (record_bytes 1 (u16_bytes m ++ u16_bytes n))) counted numbered) in
-    let variables-placed : variables ≡ placed b 0 toVariables = v ∙ placed_then b header 0 8 toHeader (variable_bytes t.variables) header-placed (simp (record_bytes_length, length-append, u16_bytes_length) (omega arith)) in
-    let goal-placed : goal ≡ placed b 0 toGoal = g ∙ placed_then b variables 0 (8 + 8 * d.variables) toVariables (record_bytes 3 (pair_bytes t.goal)) variables-placed (simp (record_bytes_length, length-append, u16_bytes_length, variable_bytes_length) (omega arith)) in
-    let actions-placed : actions ≡ placed b 0 (task_records t) = a ∙ placed_then b goal 0 first toGoal (action_bytes t.actions) goal-placed (simp (record_bytes_length, length-append, u16_bytes_length, variable_bytes_length, pair_bytes_length) (omega arith)) in
-    placed_signed b actions all end signer (task_records t) actions-placed
+    let to_header = record_bytes 1 (u16_bytes (variable_count t) ++ u16_bytes (action_count t)) in
+    let to_variables_here = to_header ++ variable_bytes t.variables in
+    let to_goal_here = to_variables_here ++ record_bytes 3 (pair_bytes t.goal) in
+    let header_placed : header ≡ placed b 0 to_header = h ∙ sym (ap₂ (λ (m n : ℕ). placed b 0 (record_bytes 1 (u16_bytes m ++ u16_bytes n))) counted numbered) in
+    let variables_placed : variables ≡ placed b 0 to_variables_here = v ∙ placed_then b header 0 8 to_header (variable_bytes t.variables) header_placed (simp (record_bytes_length, length-append, u16_bytes_length) (omega arith)) in
+    let goal_placed : goal ≡ placed b 0 to_goal_here = g ∙ placed_then b variables 0 (8 + 8 * d.variables) to_variables_here (record_bytes 3 (pair_bytes t.goal)) variables_placed (simp (record_bytes_length, length-append, u16_bytes_length, variable_bytes_length) (omega arith)) in
+    let actions_placed : actions ≡ placed b 0 (task_records t) = a ∙ placed_then b goal 0 first to_goal_here (action_bytes t.actions) goal_placed (simp (record_bytes_length, length-append, u16_bytes_length, variable_bytes_length, pair_bytes_length) (omega arith)) in
+    placed_signed b actions all end signer (task_records t) actions_placed
     (omega (arith, task_records_length t, action_bytes_length d.variables d.costs d.conditions d.effects 0 d.actions))
     s

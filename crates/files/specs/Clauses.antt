@@ -74,9 +74,9 @@ pub record VariableRoom (count : ℕ) (sizes starts : List ℕ) : Type 0 where
   pub starts_room : 64 ≤ length starts
 
 -- arrays before and after the sizes and the starts of variables are stored
-pub record VariablesRead (variables : List Variable) (sizes starts sizesAfter startsAfter : List ℕ) : Type 0 where
-  pub sizes_read : sizesAfter ≡ placed sizes 0 (stored_sizes variables)
-  pub starts_read : startsAfter ≡ placed starts 0 (stored_starts variables)
+pub record VariablesRead (variables : List Variable) (sizes starts sizes_after starts_after : List ℕ) : Type 0 where
+  pub sizes_read : sizes_after ≡ placed sizes 0 (stored_sizes variables)
+  pub starts_read : starts_after ≡ placed starts 0 (stored_starts variables)
 
 -- arrays have room for action a, whose record stands at `at`, and for the first `count` actions
 pub record ActionRoom (costs conditions effects : List ℕ) (at a : ℕ) : Type 0 where
@@ -94,15 +94,15 @@ pub record ActionsRoom (costs conditions effects : List ℕ) (at count : ℕ) : 
   pub reach : at + 65540 * count < offset_limit
 
 -- arrays before and after action a is stored, and after the actions from 0 on are
-pub record ActionRead (s : List ℕ) (at a : ℕ) (costs conditions effects costsAfter conditionsAfter effectsAfter : List ℕ) : Type 0 where
-  pub cost_read : costsAfter ≡ set costs a (u32_at s (at + 4))
-  pub conditions_read : conditionsAfter ≡ filled (cleared conditions (64 * a) 64) (64 * a) (pairs_from s (at + 12) (conditions_in s at))
-  pub effects_read : effectsAfter ≡ filled (cleared effects (64 * a) 64) (64 * a) (pairs_from s (effects_place s at) (effects_in s at))
+pub record ActionRead (s : List ℕ) (at a : ℕ) (costs conditions effects costs_after conditions_after effects_after : List ℕ) : Type 0 where
+  pub cost_read : costs_after ≡ set costs a (u32_at s (at + 4))
+  pub conditions_read : conditions_after ≡ filled (cleared conditions (64 * a) 64) (64 * a) (pairs_from s (at + 12) (conditions_in s at))
+  pub effects_read : effects_after ≡ filled (cleared effects (64 * a) 64) (64 * a) (pairs_from s (effects_place s at) (effects_in s at))
 
-pub record ActionsRead (actions : List Action) (costs conditions effects costsAfter conditionsAfter effectsAfter : List ℕ) : Type 0 where
-  pub costs_read : costsAfter ≡ placed costs 0 (stored_costs actions)
-  pub conditions_read : conditionsAfter ≡ filled_rows conditions 0 (condition_lists actions)
-  pub effects_read : effectsAfter ≡ filled_rows effects 0 (effect_lists actions)
+pub record ActionsRead (actions : List Action) (costs conditions effects costs_after conditions_after effects_after : List ℕ) : Type 0 where
+  pub costs_read : costs_after ≡ placed costs 0 (stored_costs actions)
+  pub conditions_read : conditions_after ≡ filled_rows conditions 0 (condition_lists actions)
+  pub effects_read : effects_after ≡ filled_rows effects 0 (effect_lists actions)
 
 -- arrays with the counts that a file's header states
 abbrev pub file_arrays : List ℕ → List ℕ → List ℕ → List ℕ → List ℕ → List ℕ → List ℕ → Arrays

@@ -64,7 +64,7 @@ module _ (variables base : ℕ) (weights conditions effects : List ℕ) where
   unfolding weighted
   sums_begin = record { within = omega arith; set_few = omega arith; asked_few = omega arith; is = λ sizes h. record { set_is = refl; asked_is = refl } }
 
-  module _ (v effect condition : ℕ) (effect_is : effect ≡ get_or effects (base + v) 0) (condition-is : condition ≡ get_or conditions (base + v) 0) (effect-few : effect < 256) (condition-few : condition < 256)
+  module _ (v effect condition : ℕ) (effect_is : effect ≡ get_or effects (base + v) 0) (condition_is : condition ≡ get_or conditions (base + v) 0) (effect_few : effect < 256) (condition_few : condition < 256)
       (light : get_or weights v 0 ≤ 4096) where
     set_at : (x : ℕ) → x ≡ cond (eqb effect 255) 0 effect → x ≡ set_by effects base v
     unfolding set_by
@@ -72,19 +72,19 @@ module _ (variables base : ℕ) (weights conditions effects : List ℕ) where
 
     asked_at : (y : ℕ) → y ≡ cond (eqb effect 255 || eqb condition 255) 0 condition → y ≡ asked_of conditions effects base v
     unfolding asked_of
-    asked_at y y-is = y-is ∙ ap₂ (λ (n m : ℕ). cond (eqb n 255 || eqb m 255) 0 m) effect_is condition-is
+    asked_at y y_is = y_is ∙ ap₂ (λ (n m : ℕ). cond (eqb n 255 || eqb m 255) 0 m) effect_is condition_is
 
     pub sums_next : (set asked x y : ℕ) → x ≡ cond (eqb effect 255) 0 effect → y ≡ cond (eqb effect 255 || eqb condition 255) 0 condition → v < variables → Summing v set asked
         → Summing (v + 1) (get_or weights v 0 * x + set) (get_or weights v 0 * y + asked)
-    sums_next set asked x y x_is y-is h c =
+    sums_next set asked x y x_is y_is h c =
         record {
           within = omega arith;
-          set_few = omega (arith, cell_product (get_or weights v 0) effect (eqb effect 255) x light effect-few x_is, c.set_few);
-          asked_few = omega (arith, cell_product (get_or weights v 0) condition (eqb effect 255 || eqb condition 255) y light condition-few y-is, c.asked_few);
+          set_few = omega (arith, cell_product (get_or weights v 0) effect (eqb effect 255) x light effect_few x_is, c.set_few);
+          asked_few = omega (arith, cell_product (get_or weights v 0) condition (eqb effect 255 || eqb condition 255) y light condition_few y_is, c.asked_few);
           is = λ sizes weight.
               record {
                 set_is = weighted_next sizes (set_by effects base) v _ x set (weight v h) (set_at x x_is) (c.is sizes weight).set_is;
-                asked_is = weighted_next sizes (asked_of conditions effects base) v _ y asked (weight v h) (asked_at y y-is) (c.is sizes weight).asked_is;
+                asked_is = weighted_next sizes (asked_of conditions effects base) v _ y asked (weight v h) (asked_at y y_is) (c.is sizes weight).asked_is;
               };
         }
 
@@ -114,43 +114,43 @@ module _ (variables : ℕ) (weights conditions effects : List ℕ) where
       }
 
   module _ (moves₀ moves : List ℕ) (a x y z : ℕ) (room : most_moves ≤ length moves₀) (few : a < 512) (c : Moved moves₀ a moves) where
-    abbrev first-in : List ℕ
-    first-in = set moves (3 * a) x
+    abbrev first_in : List ℕ
+    first_in = set moves (3 * a) x
 
-    abbrev second-in : List ℕ
-    second-in = set first-in (3 * a + 1) y
+    abbrev second_in : List ℕ
+    second_in = set first_in (3 * a + 1) y
 
-    abbrev third-in : List ℕ
-    third-in = set second-in (3 * a + 2) z
+    abbrev third_in : List ℕ
+    third_in = set second_in (3 * a + 2) z
 
-    first_long : length first-in ≡ length moves₀
+    first_long : length first_in ≡ length moves₀
     first_long = length-set moves (3 * a) x ∙ c.full
 
-    second_long : length second-in ≡ length moves₀
-    second_long = length-set first-in (3 * a + 1) y ∙ first_long
+    second_long : length second_in ≡ length moves₀
+    second_long = length-set first_in (3 * a + 1) y ∙ first_long
 
-    kept : (i : ℕ) → i < 3 * a → get_or third-in i 0 ≡ get_or moves i 0
+    kept : (i : ℕ) → i < 3 * a → get_or third_in i 0 ≡ get_or moves i 0
     kept i h =
-        get_or-set_other second-in (3 * a + 2) i z 0 (omega arith)
-        ∙ get_or-set_other first-in (3 * a + 1) i y 0 (omega arith)
+        get_or-set_other second_in (3 * a + 2) i z 0 (omega arith)
+        ∙ get_or-set_other first_in (3 * a + 1) i y 0 (omega arith)
         ∙ get_or-set_other moves (3 * a) i x 0 (omega arith)
 
-    at_first : get_or third-in (3 * a) 0 ≡ x
+    at_first : get_or third_in (3 * a) 0 ≡ x
     at_first =
-        get_or-set_other second-in (3 * a + 2) (3 * a) z 0 (omega arith)
-        ∙ get_or-set_other first-in (3 * a + 1) (3 * a) y 0 (omega arith)
+        get_or-set_other second_in (3 * a + 2) (3 * a) z 0 (omega arith)
+        ∙ get_or-set_other first_in (3 * a + 1) (3 * a) y 0 (omega arith)
         ∙ get_or-set_same moves (3 * a) x 0 (omega (arith, c.full))
 
-    at_second : get_or third-in (3 * a + 1) 0 ≡ y
-    at_second = get_or-set_other second-in (3 * a + 2) (3 * a + 1) z 0 (omega arith) ∙ get_or-set_same first-in (3 * a + 1) y 0 (omega (arith, first_long))
+    at_second : get_or third_in (3 * a + 1) 0 ≡ y
+    at_second = get_or-set_other second_in (3 * a + 2) (3 * a + 1) z 0 (omega arith) ∙ get_or-set_same first_in (3 * a + 1) y 0 (omega (arith, first_long))
 
-    at_third : get_or third-in (3 * a + 2) 0 ≡ z
-    at_third = get_or-set_same second-in (3 * a + 2) z 0 (omega (arith, second_long))
+    at_third : get_or third_in (3 * a + 2) 0 ≡ z
+    at_third = get_or-set_same second_in (3 * a + 2) z 0 (omega (arith, second_long))
 
-    pub moved_next : ((sizes : List ℕ) → WeightsOf variables sizes weights → SumsOf variables (64 * a) sizes conditions effects x y) → FreeWord variables (64 * a) conditions effects z → Moved moves₀ (a + 1) third-in
+    pub moved_next : ((sizes : List ℕ) → WeightsOf variables sizes weights → SumsOf variables (64 * a) sizes conditions effects x y) → FreeWord variables (64 * a) conditions effects z → Moved moves₀ (a + 1) third_in
     moved_next sums free =
         record {
-          full = length-set second-in (3 * a + 2) z ∙ second_long;
+          full = length-set second_in (3 * a + 2) z ∙ second_long;
           is = λ sizes weight.
               let was = c.is sizes weight in
               record {
@@ -158,19 +158,19 @@ module _ (variables : ℕ) (weights conditions effects : List ℕ) where
                     split_le a b
                     (λ q.
                     let here : a ≡ b = omega arith in
-                    subst (λ (n : ℕ). get_or third-in (3 * n) 0 ≡ weighted sizes (set_by effects (64 * n)) variables) here (at_first ∙ (sums sizes weight).set_is))
+                    subst (λ (n : ℕ). get_or third_in (3 * n) 0 ≡ weighted sizes (set_by effects (64 * n)) variables) here (at_first ∙ (sums sizes weight).set_is))
                     (λ q. kept (3 * b) (omega arith) ∙ was.set b q);
                 asked = λ b h.
                     split_le a b
                     (λ q.
                     let here : a ≡ b = omega arith in
-                    subst (λ (n : ℕ). get_or third-in (3 * n + 1) 0 ≡ weighted sizes (asked_of conditions effects (64 * n)) variables) here (at_second ∙ (sums sizes weight).asked_is))
+                    subst (λ (n : ℕ). get_or third_in (3 * n + 1) 0 ≡ weighted sizes (asked_of conditions effects (64 * n)) variables) here (at_second ∙ (sums sizes weight).asked_is))
                     (λ q. kept (3 * b + 1) (omega arith) ∙ was.asked b q);
                 free = λ b v h k.
                     split_le a b
                     (λ q.
                     let here : a ≡ b = omega arith in
-                    subst (λ (n : ℕ). in_word (get_or third-in (3 * n + 2) 0) v ≡ ltb v variables && set_freely conditions effects (64 * n) v) here (ap (λ (n : ℕ). in_word n v) at_third ∙ free v))
+                    subst (λ (n : ℕ). in_word (get_or third_in (3 * n + 2) 0) v ≡ ltb v variables && set_freely conditions effects (64 * n) v) here (ap (λ (n : ℕ). in_word n v) at_third ∙ free v))
                     (λ q. ap (λ (n : ℕ). in_word n v) (kept (3 * b + 2) (omega arith)) ∙ was.free b v q k);
               };
         }

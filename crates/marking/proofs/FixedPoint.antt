@@ -22,8 +22,8 @@ use Rattle.marking.specs.Rounds.{marked, tracked_marks, counted_actions, gains_f
 use Rattle.marking.proofs.Closed.{StandIn, Closed}
 use Rattle.marking.proofs.CoveringLaws.{covers_says, covers_fewer}
 use Rattle.marking.proofs.LinkLaws.{unthreatened_effect, linked_says, unlinked_intro, tracked_intro, gains_action_intro}
-use Rattle.marking.proofs.MarkTables.{marksOf, marks_of_kept, marks_of_relevant, marks_of_inside}
-use Rattle.marking.proofs.RoundLaws.{roundActions, roundFacts, round_marks, round_actions, tracked_marks_at, setAside, gains_fact_intro}
+use Rattle.marking.proofs.MarkTables.{marks_of, marks_of_kept, marks_of_relevant, marks_of_inside}
+use Rattle.marking.proofs.RoundLaws.{round_actions_here, round_facts, round_marks, round_actions, tracked_marks_at, set_aside, gains_fact_intro}
 
 -- the last round changed nothing, and the goal's facts are relevant
 pub record Fixed (t : Task) (level : ℕ) (m : Marks) : Type 0 where
@@ -32,30 +32,30 @@ pub record Fixed (t : Task) (level : ℕ) (m : Marks) : Type 0 where
 
 module _ (t : Task) (w : Valid t) (level : ℕ) (m : Marks) (fixed : Fixed t level m) where
   -- the marks are those of the round
-  is_round : m ≡ marksOf t (roundActions t level m) (roundFacts t level m m.actions)
+  is_round : m ≡ marks_of t (round_actions_here t level m) (round_facts t level m m.actions)
   is_round =
       sym fixed.same ∙ round_marks t level m
-      ∙ ap (λ (A : List Bool). marksOf t (roundActions t level m) (roundFacts t level m A))
+      ∙ ap (λ (A : List Bool). marks_of t (round_actions_here t level m) (round_facts t level m A))
       (sym (round_actions t level m) ∙ ap (λ (k : Marks). k.actions) fixed.same)
 
   gained_kept : (a : ℕ) → a < action_count t → gains_action t level m a ≡ true → kept m a ≡ true
   gained_kept a l g =
       ap (λ (k : Marks). kept k a) is_round
-      ∙ marks_of_kept t (roundActions t level m) (roundFacts t level m m.actions) a l
+      ∙ marks_of_kept t (round_actions_here t level m) (round_facts t level m m.actions) a l
       ∙ or_right (kept m a) g
 
   relevant_inside : (v d : ℕ) → relevant m v d ≡ true → (v < variable_count t) × (d < size_of t v)
   relevant_inside v d e =
-      marks_of_inside t (roundActions t level m) (roundFacts t level m m.actions) v d (sym (ap (λ (k : Marks). relevant k v d) is_round) ∙ e)
+      marks_of_inside t (round_actions_here t level m) (round_facts t level m m.actions) v d (sym (ap (λ (k : Marks). relevant k v d) is_round) ∙ e)
 
   gained_relevant : (v d : ℕ) → v < variable_count t → d < size_of t v → gains_fact t level (counted_actions t level (tracked_marks t level m) m.actions) v d ≡ true → relevant m v d ≡ true
   gained_relevant v d l k g =
       ap (λ (k : Marks). relevant k v d) is_round
-      ∙ marks_of_relevant t (roundActions t level m) (roundFacts t level m m.actions) v d l k
+      ∙ marks_of_relevant t (round_actions_here t level m) (round_facts t level m m.actions) v d l k
       ∙ or_right (relevant m v d) g
 
   -- the conditions of a kept action that is not set aside are relevant
-  asks_relevant : (a : ℕ) → a < action_count t → kept m a ≡ true → setAside t level m m.actions a ≡ false → (v d : ℕ) → has_fact (action_of t a).conditions v d ≡ true → relevant m v d ≡ true
+  asks_relevant : (a : ℕ) → a < action_count t → kept m a ≡ true → set_aside t level m m.actions a ≡ false → (v d : ℕ) → has_fact (action_of t a).conditions v d ≡ true → relevant m v d ≡ true
   asks_relevant a l k counts v d h =
       let place = fact_valid t 0 (action_of t a).conditions v d (w.action a).conditions h in
       gained_relevant v d place.known place.inside (gains_fact_intro t level m m.actions a v d l k counts h)
@@ -89,7 +89,7 @@ module _ (t : Task) (w : Valid t) (level : ℕ) (m : Marks) (fixed : Fixed t lev
         same_effect_lem = λ v d r u. k.same_effect_lem v d r u ∙ c.same_effect_lem v (relevant_inside v d r).0 (is_tracked_lem v d r u);
       }
 
-  coverer : (a : ℕ) → setAside t level m m.actions a ≡ true → (b : ℕ) × (b < action_count t) × (kept m b && covers t tracked_now (action_of t b) (action_of t a) ≡ true)
+  coverer : (a : ℕ) → set_aside t level m m.actions a ≡ true → (b : ℕ) × (b < action_count t) × (kept m b && covers t tracked_now (action_of t b) (action_of t a) ≡ true)
   unfolding covered tracked_now
   coverer a e =
       any_below_elim (action_count t) (λ b. kept m b && covers t tracked_now (action_of t b) (action_of t a))
@@ -99,7 +99,7 @@ module _ (t : Task) (w : Valid t) (level : ℕ) (m : Marks) (fixed : Fixed t lev
   stand_in_below : (k a : ℕ) → length (action_of t a).conditions < k → a < action_count t → kept m a ≡ true → StandInFor a
   stand_in_below zero a h l e = absurd (not-suc-le-zero h)
   stand_in_below (suc k) a h l e =
-      split (setAside t level m m.actions a)
+      split (set_aside t level m m.actions a)
       (λ aside. let c = coverer a aside in through a c.0 c.2 (λ fewer k'. stand_in_below k c.0 (omega arith) c.1 k'))
       (λ counts.
       record {

@@ -13,7 +13,7 @@ use Rattle.files.proofs.Truth.{any_same}
 use Rattle.marking.specs.Marks.{Marks, kept, relevant, action_marks, fact_marks}
 use Rattle.marking.specs.Links.{sets_other, threatened}
 use Rattle.marking.specs.Dense.{is_marked, other_than}
-use Rattle.marking.proofs.MarkTables.{marksOf, marks_of_kept, marks_of_relevant, marks_of_inside, Shaped, marks_of_shaped}
+use Rattle.marking.proofs.MarkTables.{marks_of, marks_of_kept, marks_of_relevant, marks_of_inside, Shaped, marks_of_shaped}
 use Rattle.marking.proofs.RowTests.{row_other}
 
 -- the marks that arrays hold: a byte per action, 32 per variable
@@ -38,23 +38,23 @@ module _ (d : Arrays) where
 
   -- marks of the task in arrays
   module _ (actions facts : List ℕ) where
-    abbrev pub factAt : ℕ → ℕ → Bool
-    factAt v e = is_marked facts (32 * v + e)
+    abbrev pub fact_at : ℕ → ℕ → Bool
+    fact_at v e = is_marked facts (32 * v + e)
 
-    pub marks_held : held_marks (held d) actions facts ≡ marksOf (held d) (is_marked actions) factAt
-    unfolding held_marks marksOf
+    pub marks_held : held_marks (held d) actions facts ≡ marks_of (held d) (is_marked actions) fact_at
+    unfolding held_marks marks_of
     marks_held = refl
 
     pub kept_held : (a : ℕ) → a < d.actions → kept (held_marks (held d) actions facts) a ≡ is_marked actions a
-    kept_held a h = ap (λ (m : Marks). kept m a) marks_held ∙ marks_of_kept (held d) (is_marked actions) factAt a (omega (arith, actions_held d))
+    kept_held a h = ap (λ (m : Marks). kept m a) marks_held ∙ marks_of_kept (held d) (is_marked actions) fact_at a (omega (arith, actions_held d))
 
-    pub relevant_held : (v e : ℕ) → v < d.variables → e < size_of (held d) v → relevant (held_marks (held d) actions facts) v e ≡ factAt v e
-    relevant_held v e h k = ap (λ (m : Marks). relevant m v e) marks_held ∙ marks_of_relevant (held d) (is_marked actions) factAt v e (omega (arith, variables_held d)) k
+    pub relevant_held : (v e : ℕ) → v < d.variables → e < size_of (held d) v → relevant (held_marks (held d) actions facts) v e ≡ fact_at v e
+    relevant_held v e h k = ap (λ (m : Marks). relevant m v e) marks_held ∙ marks_of_relevant (held d) (is_marked actions) fact_at v e (omega (arith, variables_held d)) k
 
     pub relevant_inside : (v e : ℕ) → relevant (held_marks (held d) actions facts) v e ≡ true → (v < d.variables) × (e < size_of (held d) v)
     relevant_inside v e r =
-        let place = marks_of_inside (held d) (is_marked actions) factAt v e (sym (ap (λ (m : Marks). relevant m v e) marks_held) ∙ r) in
+        let place = marks_of_inside (held d) (is_marked actions) fact_at v e (sym (ap (λ (m : Marks). relevant m v e) marks_held) ∙ r) in
         (omega (arith, place.0, variables_held d), place.1)
 
     pub held_shaped : Shaped (held d) (held_marks (held d) actions facts)
-    held_shaped = rw marks_held (marks_of_shaped (held d) (is_marked actions) factAt)
+    held_shaped = rw marks_held (marks_of_shaped (held d) (is_marked actions) fact_at)

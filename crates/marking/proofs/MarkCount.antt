@@ -31,9 +31,9 @@ module _ (t : Task) where
   pub among_same : (m n : Marks) → Shaped t m → Shaped t n → Among m n → mark_count n ≤ mark_count m → m ≡ n
   unfolding mark_count relevant_count
   among_same m n sm sn b q =
-      let fewer-actions = count_order (action_count t) (kept m) (kept n) b.actions in
+      let fewer_actions = count_order (action_count t) (kept m) (kept n) b.actions in
       let fewer : (v : ℕ) → v < variable_count t → relevant_count m v ≤ relevant_count n v = λ v l. count_order (size_of t v) (relevant m v) (relevant n v) (λ d. b.facts v d l) in
-      let fewer-facts = sum_order (variable_count t) (relevant_count m) (relevant_count n) fewer in
+      let fewer_facts = sum_order (variable_count t) (relevant_count m) (relevant_count n) fewer in
       sm
       ∙ marks_of_same t (kept m) (kept n) (relevant m) (relevant n)
       (count_same (action_count t) (kept m) (kept n) b.actions (omega arith))

@@ -24,31 +24,31 @@ pub tabulate_same : {A : Type 0} (f g : ℕ → A) (n : ℕ) (d : A) → ((i : �
 tabulate_same f g n d h = tabulate_is f n (tabulate n g) d (tabulate_from_length g 0 n) (λ i l. h i l ∙ sym (tabulate_entry g n i d l))
 
 module _ (t : Task) where
-  unfoldable pub marksOf : (ℕ → Bool) → (ℕ → ℕ → Bool) → Marks
-  marksOf A F = record { actions = action_marks t A; facts = fact_marks t F }
+  unfoldable pub marks_of : (ℕ → Bool) → (ℕ → ℕ → Bool) → Marks
+  marks_of A F = record { actions = action_marks t A; facts = fact_marks t F }
 
   module _ (A : ℕ → Bool) (F : ℕ → ℕ → Bool) where
-    pub marks_of_kept : (a : ℕ) → a < action_count t → kept (marksOf A F) a ≡ A a
-    unfolding marksOf
+    pub marks_of_kept : (a : ℕ) → a < action_count t → kept (marks_of A F) a ≡ A a
+    unfolding marks_of
     marks_of_kept a l = tabulate_entry A (action_count t) a false l
 
-    row : (v d : ℕ) → v < variable_count t → relevant (marksOf A F) v d ≡ get_or (tabulate (size_of t v) (F v)) d false
-    unfolding marksOf
+    row : (v d : ℕ) → v < variable_count t → relevant (marks_of A F) v d ≡ get_or (tabulate (size_of t v) (F v)) d false
+    unfolding marks_of
     row v d l = ap (λ (marks : List Bool). get_or marks d false) (tabulate_entry (λ w. tabulate (size_of t w) (F w)) (variable_count t) v [] l)
 
-    pub marks_of_relevant : (v d : ℕ) → v < variable_count t → d < size_of t v → relevant (marksOf A F) v d ≡ F v d
+    pub marks_of_relevant : (v d : ℕ) → v < variable_count t → d < size_of t v → relevant (marks_of A F) v d ≡ F v d
     marks_of_relevant v d l k = row v d l ∙ tabulate_entry (F v) (size_of t v) d false k
 
     -- a relevant fact is one of the task
-    pub marks_of_inside : (v d : ℕ) → relevant (marksOf A F) v d ≡ true → (v < variable_count t) × (d < size_of t v)
-    unfolding marksOf
+    pub marks_of_inside : (v d : ℕ) → relevant (marks_of A F) v d ≡ true → (v < variable_count t) × (d < size_of t v)
+    unfolding marks_of
     marks_of_inside v d e =
         split_le (variable_count t) v
         (λ past. clash e (ap (λ (marks : List Bool). get_or marks d false) (tabulate_past (λ w. tabulate (size_of t w) (F w)) (variable_count t) v [] past)))
         (λ below. (below, tabulate_inside (F v) (size_of t v) d (sym (row v d below) ∙ e)))
 
-  pub marks_of_same : (A B : ℕ → Bool) (F G : ℕ → ℕ → Bool) → ((a : ℕ) → a < action_count t → A a ≡ B a) → ((v d : ℕ) → v < variable_count t → d < size_of t v → F v d ≡ G v d) → marksOf A F ≡ marksOf B G
-  unfolding marksOf
+  pub marks_of_same : (A B : ℕ → Bool) (F G : ℕ → ℕ → Bool) → ((a : ℕ) → a < action_count t → A a ≡ B a) → ((v d : ℕ) → v < variable_count t → d < size_of t v → F v d ≡ G v d) → marks_of A F ≡ marks_of B G
+  unfolding marks_of
   marks_of_same A B F G h k =
       let actions = tabulate_same A B (action_count t) false h in
       let facts =
@@ -59,10 +59,10 @@ module _ (t : Task) where
 
   -- marks with an entry for each action and each fact of the task
   abbrev pub Shaped : Marks → Type 0
-  Shaped m = m ≡ marksOf (kept m) (relevant m)
+  Shaped m = m ≡ marks_of (kept m) (relevant m)
 
-  pub marks_of_shaped : (A : ℕ → Bool) (F : ℕ → ℕ → Bool) → Shaped (marksOf A F)
+  pub marks_of_shaped : (A : ℕ → Bool) (F : ℕ → ℕ → Bool) → Shaped (marks_of A F)
   marks_of_shaped A F =
-      marks_of_same A (kept (marksOf A F)) F (relevant (marksOf A F))
+      marks_of_same A (kept (marks_of A F)) F (relevant (marks_of A F))
       (λ a l. sym (marks_of_kept A F a l))
       (λ v d l k. sym (marks_of_relevant A F v d l k))

@@ -128,27 +128,27 @@ module _ (costs conditions : List ℕ) (variables b a : ℕ) where
   abbrev lacks : ℕ → Bool
   lacks v = ltb v variables && other_than (get_or conditions (64 * b + v) 0) (get_or conditions (64 * a + v) 0)
 
-  abbrev notMore : List ℕ → Bool
-  notMore counts = leb (get_or counts a 0) (get_or counts b 0)
+  abbrev not_more_here : List ℕ → Bool
+  not_more_here counts = leb (get_or counts a 0) (get_or counts b 0)
 
   abbrev dearer : Bool
   dearer = ltb (get_or costs a 0) (get_or costs b 0)
 
-  module _ (counts : List ℕ) (v : ℕ) (count : get_or counts b 0 ≡ conditions_in conditions (64 * b) variables) (other_count : get_or counts a 0 ≡ conditions_in conditions (64 * a) variables) (first any : Bool) (is-first : first ≡ lacks v) (is_any : any ≡ first || (notMore counts || dearer)) where
+  module _ (counts : List ℕ) (v : ℕ) (count : get_or counts b 0 ≡ conditions_in conditions (64 * b) variables) (other_count : get_or counts a 0 ≡ conditions_in conditions (64 * a) variables) (first any : Bool) (is_first : first ≡ lacks v) (is_any : any ≡ first || (not_more_here counts || dearer)) where
     pub told_apart : any ≡ true → false ≡ could
     told_apart e =
         ⊎_elim
-        (λ l. not_standing v (sym is-first ∙ l))
+        (λ l. not_standing v (sym is_first ∙ l))
         (λ r.
         ⊎_elim
         (λ n. not_more (omega (arith, leb-true (get_or counts a 0) (get_or counts b 0) n)))
         (λ d. not_dearer (ltb-true (get_or costs a 0) (get_or costs b 0) d))
-        (or_split (notMore counts) dearer r))
-        (or_split first (notMore counts || dearer) (sym is_any ∙ e))
+        (or_split (not_more_here counts) dearer r))
+        (or_split first (not_more_here counts || dearer) (sym is_any ∙ e))
 
     pub not_told_apart : any ≡ false → eqb (missing conditions (64 * b) (64 * a) variables) 0 ≡ could
     not_told_apart e =
-        let both = or_none (notMore counts) dearer (or_none first (notMore counts || dearer) (sym is_any ∙ e)).1 in
+        let both = or_none (not_more_here counts) dearer (or_none first (not_more_here counts || dearer) (sym is_any ∙ e)).1 in
         all_standing
         (ltb-false (get_or costs a 0) (get_or costs b 0) both.1)
         (omega (arith, leb-false (get_or counts a 0) (get_or counts b 0) both.0))

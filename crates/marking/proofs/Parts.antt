@@ -40,11 +40,11 @@ part_shorter t low least (p ∷ whole) (q ∷ part) w r h =
     let after = rest_valid t least q part r in
     ⊎_elim
     (λ here.
-    let same-variable : p.variable ≡ q.variable = here.0 in
+    let same_variable : p.variable ≡ q.variable = here.0 in
     let same_value : p.value ≡ q.value = admits_value p q.value here.1 in
     ⊎_elim
     (λ shorter. inl (omega arith))
-    (λ same. inr (λ i. record { variable = sym same-variable i; value = sym same_value i } ∷ same i))
+    (λ same. inr (λ i. record { variable = sym same_variable i; value = sym same_value i } ∷ same i))
     (part_shorter t (p.variable + 1) (q.variable + 1) whole part behind after
     (λ v d e. fact_rest p whole v d (omega (arith, (fact_valid t (q.variable + 1) part v d after e).above)) (h v d (fact_later q part v d e)))))
     (λ later.

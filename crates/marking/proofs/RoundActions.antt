@@ -26,7 +26,7 @@ use Rattle.marking.proofs.RoundLinks.{differ_new, new_differs}
 use Rattle.marking.proofs.RowTests.{any_row, row_fact}
 use Rattle.files.proofs.Truth.{same_truth, marked_bit, cond_bit}
 
-module _ (d : Arrays) (ok : Valid (held d)) (level : ℕ) (actions facts unlinked-before threats kept-before counted-before : List ℕ) (p : Progress d level actions facts unlinked-before threats kept-before counted-before) where
+module _ (d : Arrays) (ok : Valid (held d)) (level : ℕ) (actions facts unlinked_before threats kept_before counted_before : List ℕ) (p : Progress d level actions facts unlinked_before threats kept_before counted_before) where
   abbrev marks : Marks
   marks = held_marks (held d) actions facts
 
@@ -92,15 +92,15 @@ module _ (d : Arrays) (ok : Valid (held d)) (level : ℕ) (actions facts unlinke
             (λ r. sym (ap (λ (b : Bool). cond b (has_relevant (held d) marks v) (unlinked (held d) level marks v e)) r) ∙ both.1);
       }
 
-  module _ (u : List ℕ) (now : (v e : ℕ) → v < d.variables → e < 32 → get_or u (32 * v + e) 0 ≡ bit (unlinked (held d) level marks v e)) (is-marked : (v e : ℕ) → v < d.variables → e < 32 → is_marked u (32 * v + e) ≡ unlinked (held d) level marks v e) where
+  module _ (u : List ℕ) (now : (v e : ℕ) → v < d.variables → e < 32 → get_or u (32 * v + e) 0 ≡ bit (unlinked (held d) level marks v e)) (is_marked_here : (v e : ℕ) → v < d.variables → e < 32 → is_marked u (32 * v + e) ≡ unlinked (held d) level marks v e) where
     anew : ℕ → ℕ → Bool
-    anew a i = differ u unlinked-before i && sets d.effects (i / 32) (i % 32) d.actions a
+    anew a i = differ u unlinked_before i && sets d.effects (i / 32) (i % 32) d.actions a
 
-    achieves_says : (a : ℕ) → achieves d.effects d.actions unlinked-before u (32 * d.variables) a ≡ any_below (32 * d.variables) (anew a)
+    achieves_says : (a : ℕ) → achieves d.effects d.actions unlinked_before u (32 * d.variables) a ≡ any_below (32 * d.variables) (anew a)
     unfolding achieves anew
     achieves_says a = refl
 
-    new_gains : (a : ℕ) → a < d.actions → achieves d.effects d.actions unlinked-before u (32 * d.variables) a ≡ true → gains_action (held d) level marks a ≡ true
+    new_gains : (a : ℕ) → a < d.actions → achieves d.effects d.actions unlinked_before u (32 * d.variables) a ≡ true → gains_action (held d) level marks a ≡ true
     unfolding anew sets
     new_gains a l q =
         let found = any_below_elim (32 * d.variables) (anew a) (sym (achieves_says a) ∙ q) in
@@ -109,17 +109,17 @@ module _ (d : Arrays) (ok : Valid (held d)) (level : ℕ) (actions facts unlinke
         let e : ℕ = i % 32 in
         let known : v < d.variables = omega (arith, found.1) in
         let small : e < 32 = omega arith in
-        let both = and_split (differ u unlinked-before i) (sets d.effects v e d.actions a) found.2 in
+        let both = and_split (differ u unlinked_before i) (sets d.effects v e d.actions a) found.2 in
         let sets_it : effect_at d a v ≡ e = eqb-true (effect_at d a v) e (and_split (ltb a d.actions) (eqb (effect_at d a v) e) both.1).1 in
         let place : i ≡ 32 * v + e = omega arith in
-        let differs : differ u unlinked-before (32 * v + e) ≡ true = subst (λ (n : ℕ). differ u unlinked-before n ≡ true) place both.0 in
+        let differs : differ u unlinked_before (32 * v + e) ≡ true = subst (λ (n : ℕ). differ u unlinked_before n ≡ true) place both.0 in
         let free : is_marked u (32 * v + e) ≡ true =
-        differ_new (get_or u (32 * v + e) 0) (get_or unlinked-before (32 * v + e) 0) (omega (arith, now v e known small, bit_most (unlinked (held d) level marks v e))) (p.before_bit v e known small)
-        (λ r. is-marked v e known small ∙ p.before_unlinked v e known small r) differs in
+        differ_new (get_or u (32 * v + e) 0) (get_or unlinked_before (32 * v + e) 0) (omega (arith, now v e known small, bit_most (unlinked (held d) level marks v e))) (p.before_bit v e known small)
+        (λ r. is_marked_here v e known small ∙ p.before_unlinked v e known small r) differs in
         achieves_gains a v l known (ne_eqb (effect_at d a v) 255 (λ r. omega arith))
-        (ap (unlinked (held d) level marks v) sets_it ∙ sym (is-marked v e known small) ∙ free)
+        (ap (unlinked (held d) level marks v) sets_it ∙ sym (is_marked_here v e known small) ∙ free)
 
-    gains_new : (a : ℕ) → a < d.actions → gains_action (held d) level marks a ≡ true → (achieves d.effects d.actions unlinked-before u (32 * d.variables) a ≡ true) ⊎ (is_marked actions a ≡ true)
+    gains_new : (a : ℕ) → a < d.actions → gains_action (held d) level marks a ≡ true → (achieves d.effects d.actions unlinked_before u (32 * d.variables) a ≡ true) ⊎ (is_marked actions a ≡ true)
     unfolding anew sets
     gains_new a l q =
         let g = achieved a l q in
@@ -127,8 +127,8 @@ module _ (d : Arrays) (ok : Valid (held d)) (level : ℕ) (actions facts unlinke
         let e : ℕ = effect_at d a v in
         let known : v < d.variables = g.known in
         let small : e < 32 = omega (arith, effect_valid d ok a v l known g.there, ok.size_most v) in
-        let free : is_marked u (32 * v + e) ≡ true = is-marked v e known small ∙ g.free in
-        split (is_marked unlinked-before (32 * v + e))
+        let free : is_marked u (32 * v + e) ≡ true = is_marked_here v e known small ∙ g.free in
+        split (is_marked unlinked_before (32 * v + e))
         (λ r. inr (p.before_kept a v l known g.there r))
         (λ r.
         let variable : (32 * v + e) / 32 ≡ v = omega arith in
@@ -138,26 +138,26 @@ module _ (d : Arrays) (ok : Valid (held d)) (level : ℕ) (actions facts unlinke
         inl
         (achieves_says a
         ∙ any_below_intro (32 * d.variables) (anew a) (32 * v + e) (omega arith)
-        (and_join (new_differs (get_or u (32 * v + e) 0) (get_or unlinked-before (32 * v + e) 0) free r) set_there)))
+        (and_join (new_differs (get_or u (32 * v + e) 0) (get_or unlinked_before (32 * v + e) 0) free r) set_there)))
 
-    pub actions_now : (actions' : List ℕ) → SetWhere (achieves d.effects d.actions unlinked-before u (32 * d.variables)) actions actions' → (a : ℕ) → a < d.actions → get_or actions' a 0 ≡ bit (kept marks a || gains_action (held d) level marks a)
+    pub actions_now : (actions' : List ℕ) → SetWhere (achieves d.effects d.actions unlinked_before u (32 * d.variables)) actions actions' → (a : ℕ) → a < d.actions → get_or actions' a 0 ≡ bit (kept marks a || gains_action (held d) level marks a)
     actions_now actions' s a l =
         s.entry a (omega (arith, p.actions_long, ok.actions_few, actions_held d))
-        ∙ ap (λ (n : ℕ). cond (achieves d.effects d.actions unlinked-before u (32 * d.variables) a) 1 n) (marked_bit (get_or actions a 0) (p.action_bit a l))
-        ∙ cond_bit (achieves d.effects d.actions unlinked-before u (32 * d.variables) a) (is_marked actions a)
+        ∙ ap (λ (n : ℕ). cond (achieves d.effects d.actions unlinked_before u (32 * d.variables) a) 1 n) (marked_bit (get_or actions a 0) (p.action_bit a l))
+        ∙ cond_bit (achieves d.effects d.actions unlinked_before u (32 * d.variables) a) (is_marked actions a)
         ∙ ap bit
-        (same_truth (achieves d.effects d.actions unlinked-before u (32 * d.variables) a || is_marked actions a) (kept marks a || gains_action (held d) level marks a)
+        (same_truth (achieves d.effects d.actions unlinked_before u (32 * d.variables) a || is_marked actions a) (kept marks a || gains_action (held d) level marks a)
         (λ q.
         ⊎_elim
         (λ new. or_right (kept marks a) (new_gains a l new))
         (λ old. or_left (gains_action (held d) level marks a) (kept_held d actions facts a l ∙ old))
-        (or_split (achieves d.effects d.actions unlinked-before u (32 * d.variables) a) (is_marked actions a) q))
+        (or_split (achieves d.effects d.actions unlinked_before u (32 * d.variables) a) (is_marked actions a) q))
         (λ q.
         ⊎_elim
-        (λ old. or_right (achieves d.effects d.actions unlinked-before u (32 * d.variables) a) (sym (kept_held d actions facts a l) ∙ old))
+        (λ old. or_right (achieves d.effects d.actions unlinked_before u (32 * d.variables) a) (sym (kept_held d actions facts a l) ∙ old))
         (λ new.
         ⊎_elim
         (λ x. or_left (is_marked actions a) x)
-        (λ x. or_right (achieves d.effects d.actions unlinked-before u (32 * d.variables) a) x)
+        (λ x. or_right (achieves d.effects d.actions unlinked_before u (32 * d.variables) a) x)
         (gains_new a l new))
         (or_split (kept marks a) (gains_action (held d) level marks a) q)))

@@ -13,18 +13,18 @@ use Rattle.marking.specs.Rounds.{next_actions, next_marks, Marking, mark_from, m
 use Rattle.marking.proofs.FixedPoint.{Fixed}
 use Rattle.marking.proofs.MarkCount.{mark_count, mark_count_most, Among, among_same}
 use Rattle.marking.proofs.MarkTables.{Shaped, marks_of_shaped, marks_of_kept, marks_of_relevant}
-use Rattle.marking.proofs.RoundLaws.{fact_names, first_marks_lem, roundActions, roundFacts, round_marks}
+use Rattle.marking.proofs.RoundLaws.{fact_names, first_marks_lem, round_actions_here, round_facts, round_marks}
 use Rattle.marking.proofs.SameMarks.{same_marks_equal, same_marks_says}
 
 module _ (t : Task) (level : ℕ) where
   pub round_shaped : (m : Marks) → Shaped t (next_marks t level m)
-  round_shaped m = rw (round_marks t level m) (marks_of_shaped t (roundActions t level m) (roundFacts t level m (next_actions t level m)))
+  round_shaped m = rw (round_marks t level m) (marks_of_shaped t (round_actions_here t level m) (round_facts t level m (next_actions t level m)))
 
   -- a round adds marks and takes none away
   pub round_adds : (m : Marks) → Among t m (next_marks t level m)
   round_adds m =
-      let A = roundActions t level m in
-      let F = roundFacts t level m (next_actions t level m) in
+      let A = round_actions_here t level m in
+      let F = round_facts t level m (next_actions t level m) in
       record {
         actions = λ a l e. ap (λ (k : Marks). kept k a) (round_marks t level m) ∙ marks_of_kept t A F a l ∙ or_left _ e;
         facts = λ v d l k e. ap (λ (k : Marks). relevant k v d) (round_marks t level m) ∙ marks_of_relevant t A F v d l k ∙ or_left _ e;

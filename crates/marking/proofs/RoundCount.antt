@@ -13,7 +13,7 @@ use Rattle.files.proofs.Valid.{Valid}
 use Rattle.marking.specs.Marks.{Marks, kept, relevant}
 use Rattle.marking.specs.Dense.{SetWhere, is_marked}
 use Rattle.files.proofs.CountOrder.{sum_order, sum_same}
-use Rattle.marking.proofs.HeldMarks.{held_marks, factAt, marks_held, kept_held, relevant_held}
+use Rattle.marking.proofs.HeldMarks.{held_marks, fact_at, marks_held, kept_held, relevant_held}
 use Rattle.files.proofs.HeldTask.{actions_held}
 use Rattle.marking.proofs.MarkTables.{marks_of_same}
 use Rattle.marking.proofs.Progress.{Progress}
@@ -44,11 +44,11 @@ same a b h k = omega arith
 
 module _ (d : Arrays) where
   -- how many marks arrays hold
-  abbrev pub markSum : List ℕ → List ℕ → ℕ
-  markSum actions facts = sum_of actions d.actions + sum_of facts 2048
+  abbrev pub mark_sum : List ℕ → List ℕ → ℕ
+  mark_sum actions facts = sum_of actions d.actions + sum_of facts 2048
 
-module _ (d : Arrays) (ok : Valid (held d)) (level : ℕ) (actions facts unlinked-before threats kept-before counted-before : List ℕ) (p : Progress d level actions facts unlinked-before threats kept-before counted-before)
-    (actions' facts' unlinked-before' threats' kept-before' counted-before' : List ℕ) (q : Progress d level actions' facts' unlinked-before' threats' kept-before' counted-before')
+module _ (d : Arrays) (ok : Valid (held d)) (level : ℕ) (actions facts unlinked_before threats kept_before counted_before : List ℕ) (p : Progress d level actions facts unlinked_before threats kept_before counted_before)
+    (actions' facts' unlinked_before' threats' kept_before' counted_before' : List ℕ) (q : Progress d level actions' facts' unlinked_before' threats' kept_before' counted_before')
     (gains names : ℕ → Bool) (s : SetWhere gains actions actions') (r : SetWhere names facts facts') where
   action_more : (a : ℕ) → a < d.actions → get_or actions a 0 ≤ get_or actions' a 0
   action_more a l = set_more gains actions actions' a s (omega (arith, p.actions_long, ok.actions_few, actions_held d)) (p.action_bit a l)
@@ -56,7 +56,7 @@ module _ (d : Arrays) (ok : Valid (held d)) (level : ℕ) (actions facts unlinke
   fact_more : (i : ℕ) → i < 2048 → get_or facts i 0 ≤ get_or facts' i 0
   fact_more i l = set_more names facts facts' i r (omega (arith, p.facts_long)) (p.fact_bit i l)
 
-  pub sum_same_marks : markSum d actions facts ≡ markSum d actions' facts' → held_marks (held d) actions facts ≡ held_marks (held d) actions' facts'
+  pub sum_same_marks : mark_sum d actions facts ≡ mark_sum d actions' facts' → held_marks (held d) actions facts ≡ held_marks (held d) actions' facts'
   unfolding sum_of
   sum_same_marks e =
       let both =
@@ -64,15 +64,15 @@ module _ (d : Arrays) (ok : Valid (held d)) (level : ℕ) (actions facts unlinke
       (sum_order d.actions (λ i. get_or actions i 0) (λ i. get_or actions' i 0) action_more)
       (sum_order 2048 (λ i. get_or facts i 0) (λ i. get_or facts' i 0) fact_more)
       in
-      let action-same : (a : ℕ) → a < d.actions → get_or actions a 0 ≡ get_or actions' a 0 = λ a l. same (get_or actions a 0) (get_or actions' a 0) (action_more a l) (sum_same d.actions (λ i. get_or actions i 0) (λ i. get_or actions' i 0) action_more both.0 a l) in
+      let action_same : (a : ℕ) → a < d.actions → get_or actions a 0 ≡ get_or actions' a 0 = λ a l. same (get_or actions a 0) (get_or actions' a 0) (action_more a l) (sum_same d.actions (λ i. get_or actions i 0) (λ i. get_or actions' i 0) action_more both.0 a l) in
       let fact_same : (i : ℕ) → i < 2048 → get_or facts i 0 ≡ get_or facts' i 0 = λ i l. same (get_or facts i 0) (get_or facts' i 0) (fact_more i l) (sum_same 2048 (λ i. get_or facts i 0) (λ i. get_or facts' i 0) fact_more both.1 i l) in
       marks_held d actions facts
-      ∙ marks_of_same (held d) (is_marked actions) (is_marked actions') (factAt d actions facts) (factAt d actions' facts')
-      (λ a l. ap (λ (n : ℕ). eqb n 1) (action-same a (omega (arith, actions_held d))))
+      ∙ marks_of_same (held d) (is_marked actions) (is_marked actions') (fact_at d actions facts) (fact_at d actions' facts')
+      (λ a l. ap (λ (n : ℕ). eqb n 1) (action_same a (omega (arith, actions_held d))))
       (λ v e h k. ap (λ (n : ℕ). eqb n 1) (fact_same (32 * v + e) (omega (arith, ok.variables_few, ok.size_most v))))
       ∙ sym (marks_held d actions' facts')
 
-  pub marks_same_sum : held_marks (held d) actions facts ≡ held_marks (held d) actions' facts' → markSum d actions facts ≡ markSum d actions' facts'
+  pub marks_same_sum : held_marks (held d) actions facts ≡ held_marks (held d) actions' facts' → mark_sum d actions facts ≡ mark_sum d actions' facts'
   unfolding sum_of
   marks_same_sum e =
       ap₂ ◌+◌

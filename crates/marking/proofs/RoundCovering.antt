@@ -98,9 +98,9 @@ module _ (d : Arrays) (level : ℕ) (m : Marks) (actions pairs tracks : List ℕ
       (covered_held d (marked (tracked_marks (held d) level m)) tracks (λ v h. track v h ∙ sym (tracked_marks_at (held d) level m v (omega (arith, variables_held d)))) (marked (next_actions (held d) level m)) actions pairs action (table (eqb-true level 4 e)) a l))
       (λ e. rw e refl)
 
-  pub counted_now : (counted-before : List ℕ) (a : ℕ) → a < d.actions → counted_at level actions counted-before (covered_at actions pairs d.effects tracks d.variables d.actions a) a ≡ is_marked counted-before a || counts a
+  pub counted_now : (counted_before : List ℕ) (a : ℕ) → a < d.actions → counted_at level actions counted_before (covered_at actions pairs d.effects tracks d.variables d.actions a) a ≡ is_marked counted_before a || counts a
   unfolding counted_at counted_actions
-  counted_now counted-before a l =
-      ap (λ (t : Bool). is_marked counted-before a || t)
+  counted_now counted_before a l =
+      ap (λ (t : Bool). is_marked counted_before a || t)
       (ap₂ (λ (x y : Bool). x && not y) (action a l) (covering a l)
       ∙ sym (tabulate_entry (λ b. marked (next_actions (held d) level m) b && not (eqb level 4 && covered (held d) (marked (tracked_marks (held d) level m)) (marked (next_actions (held d) level m)) b)) (action_count (held d)) a false (omega (arith, actions_held d))))

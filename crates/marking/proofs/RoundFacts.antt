@@ -119,17 +119,17 @@ module _ (d : Arrays) (ok : Valid (held d)) (whole : Bool) (row : List ℕ) (bas
         value = ap (λ (b : Bool). cond b (ltb e (get_or d.sizes v 0)) (eqb e (entry v % 32))) r ∙ eq-eqb e (entry v % 32) rest;
       })))
 
-module _ (d : Arrays) (ok : Valid (held d)) (level : ℕ) (actions facts unlinked-before threats kept-before counted-before : List ℕ) (p : Progress d level actions facts unlinked-before threats kept-before counted-before)
-    (counted : List Bool) (counts : List ℕ) (count : (a : ℕ) → a < d.actions → get_or counts a 0 ≡ bit (is_marked counted-before a || marked counted a))
-    (facts' : List ℕ) (s : SetWhere (names_anew (eqb level 1) d.conditions d.sizes d.variables counts counted-before d.actions) facts facts') where
+module _ (d : Arrays) (ok : Valid (held d)) (level : ℕ) (actions facts unlinked_before threats kept_before counted_before : List ℕ) (p : Progress d level actions facts unlinked_before threats kept_before counted_before)
+    (counted : List Bool) (counts : List ℕ) (count : (a : ℕ) → a < d.actions → get_or counts a 0 ≡ bit (is_marked counted_before a || marked counted a))
+    (facts' : List ℕ) (s : SetWhere (names_anew (eqb level 1) d.conditions d.sizes d.variables counts counted_before d.actions) facts facts') where
   abbrev marks : Marks
   marks = held_marks (held d) actions facts
 
-  pub count_marked : (a : ℕ) → a < d.actions → is_marked counts a ≡ is_marked counted-before a || marked counted a
-  count_marked a l = ap (λ (n : ℕ). eqb n 1) (count a l) ∙ bit_marked (is_marked counted-before a || marked counted a)
+  pub count_marked : (a : ℕ) → a < d.actions → is_marked counts a ≡ is_marked counted_before a || marked counted a
+  count_marked a l = ap (λ (n : ℕ). eqb n 1) (count a l) ∙ bit_marked (is_marked counted_before a || marked counted a)
 
   pub count_bit : (a : ℕ) → a < d.actions → get_or counts a 0 ≤ 1
-  count_bit a l = omega (arith, count a l, bit_most (is_marked counted-before a || marked counted a))
+  count_bit a l = omega (arith, count a l, bit_most (is_marked counted_before a || marked counted a))
 
   row_names_lem : (a v e : ℕ) → a < d.actions → v < d.variables → e < size_of (held d) v → row_names (eqb level 1) d.conditions (64 * a) d.sizes d.variables (32 * v + e) ≡ names level (action_of (held d) a).conditions v e
   unfolding names
@@ -138,9 +138,9 @@ module _ (d : Arrays) (ok : Valid (held d)) (level : ℕ) (actions facts unlinke
       ∙ ap (λ (ps : List Pair). names level ps v e) (sym (conditions_held d a l))
 
   anew : ℕ → ℕ → Bool
-  anew i a = differ counts counted-before a && row_names (eqb level 1) d.conditions (64 * a) d.sizes d.variables i
+  anew i a = differ counts counted_before a && row_names (eqb level 1) d.conditions (64 * a) d.sizes d.variables i
 
-  anew_says : (i : ℕ) → names_anew (eqb level 1) d.conditions d.sizes d.variables counts counted-before d.actions i ≡ any_below d.actions (anew i)
+  anew_says : (i : ℕ) → names_anew (eqb level 1) d.conditions d.sizes d.variables counts counted_before d.actions i ≡ any_below d.actions (anew i)
   unfolding names_anew anew
   anew_says i = refl
 
@@ -160,14 +160,14 @@ module _ (d : Arrays) (ok : Valid (held d)) (level : ℕ) (actions facts unlinke
       (λ new.
       let found = any_below_elim d.actions (anew (32 * v + e)) new in
       let a : ℕ = found.0 in
-      let both = and_split (differ counts counted-before a) (row_names (eqb level 1) d.conditions (64 * a) d.sizes d.variables (32 * v + e)) found.2 in
-      let is-new : is_marked counts a ≡ true =
-      differ_new (get_or counts a 0) (get_or counted-before a 0) (count_bit a found.1) (p.counted_before_bit a found.1) (λ r. count_marked a found.1 ∙ or_left (marked counted a) r) both.0 in
-      let named-it : names level (action_of (held d) a).conditions v e ≡ true = sym (row_names_lem a v e found.1 h k) ∙ both.1 in
+      let both = and_split (differ counts counted_before a) (row_names (eqb level 1) d.conditions (64 * a) d.sizes d.variables (32 * v + e)) found.2 in
+      let is_new : is_marked counts a ≡ true =
+      differ_new (get_or counts a 0) (get_or counted_before a 0) (count_bit a found.1) (p.counted_before_bit a found.1) (λ r. count_marked a found.1 ∙ or_left (marked counted a) r) both.0 in
+      let named_it : names level (action_of (held d) a).conditions v e ≡ true = sym (row_names_lem a v e found.1 h k) ∙ both.1 in
       ⊎_elim
-      (λ old. or_left (any_below d.actions (gains v e)) (relevant_held d actions facts v e h k ∙ p.counted_before_facts a found.1 old v e h k named-it))
-      (λ fresh. or_right (relevant marks v e) (any_below_intro d.actions (gains v e) a found.1 (and_join fresh named-it)))
-      (or_split (is_marked counted-before a) (marked counted a) (sym (count_marked a found.1) ∙ is-new)))
+      (λ old. or_left (any_below d.actions (gains v e)) (relevant_held d actions facts v e h k ∙ p.counted_before_facts a found.1 old v e h k named_it))
+      (λ fresh. or_right (relevant marks v e) (any_below_intro d.actions (gains v e) a found.1 (and_join fresh named_it)))
+      (or_split (is_marked counted_before a) (marked counted a) (sym (count_marked a found.1) ∙ is_new)))
       (λ old. or_left (any_below d.actions (gains v e)) (relevant_held d actions facts v e h k ∙ old))
       (or_split (any_below d.actions (anew (32 * v + e))) (is_marked facts (32 * v + e)) q))
       (λ q.
@@ -177,21 +177,21 @@ module _ (d : Arrays) (ok : Valid (held d)) (level : ℕ) (actions facts unlinke
       let found = any_below_elim d.actions (gains v e) new in
       let a : ℕ = found.0 in
       let both = and_split (marked counted a) (names level (action_of (held d) a).conditions v e) found.2 in
-      split (is_marked counted-before a)
+      split (is_marked counted_before a)
       (λ r. or_right (any_below d.actions (anew (32 * v + e))) (p.counted_before_facts a found.1 r v e h k both.1))
       (λ r.
       or_left (is_marked facts (32 * v + e))
       (any_below_intro d.actions (anew (32 * v + e)) a found.1
       (and_join
-      (new_differs (get_or counts a 0) (get_or counted-before a 0) (count_marked a found.1 ∙ or_right (is_marked counted-before a) both.0) r)
+      (new_differs (get_or counts a 0) (get_or counted_before a 0) (count_marked a found.1 ∙ or_right (is_marked counted_before a) both.0) r)
       (row_names_lem a v e found.1 h k ∙ both.1)))))
       (or_split (relevant marks v e) (any_below d.actions (gains v e)) q))
 
   entry_now : (i : ℕ) → i < 2048 → get_or facts' i 0 ≡ bit (any_below d.actions (anew i) || is_marked facts i)
   entry_now i k =
       s.entry i (omega (arith, p.facts_long))
-      ∙ ap (λ (n : ℕ). cond (names_anew (eqb level 1) d.conditions d.sizes d.variables counts counted-before d.actions i) 1 n) (marked_bit (get_or facts i 0) (p.fact_bit i k))
-      ∙ cond_bit (names_anew (eqb level 1) d.conditions d.sizes d.variables counts counted-before d.actions i) (is_marked facts i)
+      ∙ ap (λ (n : ℕ). cond (names_anew (eqb level 1) d.conditions d.sizes d.variables counts counted_before d.actions i) 1 n) (marked_bit (get_or facts i 0) (p.fact_bit i k))
+      ∙ cond_bit (names_anew (eqb level 1) d.conditions d.sizes d.variables counts counted_before d.actions i) (is_marked facts i)
       ∙ ap (λ (b : Bool). bit (b || is_marked facts i)) (anew_says i)
 
   pub facts_bit : (i : ℕ) → i < 2048 → get_or facts' i 0 ≤ 1
@@ -206,12 +206,12 @@ module _ (d : Arrays) (ok : Valid (held d)) (level : ℕ) (actions facts unlinke
   pub facts_known : (v e : ℕ) → v < 64 → e < 32 → is_marked facts' (32 * v + e) ≡ true → (v < d.variables) × (e < size_of (held d) v)
   unfolding anew
   facts_known v e h k q =
-      let some-way : any_below d.actions (anew (32 * v + e)) || is_marked facts (32 * v + e) ≡ true =
+      let some_way : any_below d.actions (anew (32 * v + e)) || is_marked facts (32 * v + e) ≡ true =
       sym (ap (λ (n : ℕ). eqb n 1) (entry_now (32 * v + e) (omega arith)) ∙ bit_marked (any_below d.actions (anew (32 * v + e)) || is_marked facts (32 * v + e))) ∙ q in
       ⊎_elim
       (λ new.
       let found = any_below_elim d.actions (anew (32 * v + e)) new in
-      let both = and_split (differ counts counted-before found.0) (row_names (eqb level 1) d.conditions (64 * found.0) d.sizes d.variables (32 * v + e)) found.2 in
+      let both = and_split (differ counts counted_before found.0) (row_names (eqb level 1) d.conditions (64 * found.0) d.sizes d.variables (32 * v + e)) found.2 in
       named_inside d ok (eqb level 1) d.conditions (64 * found.0) (λ w i. condition_valid d ok found.0 w found.1 i) v e k both.1)
       (λ old. p.fact_known v e h k old)
-      (or_split (any_below d.actions (anew (32 * v + e))) (is_marked facts (32 * v + e)) some-way)
+      (or_split (any_below d.actions (anew (32 * v + e))) (is_marked facts (32 * v + e)) some_way)

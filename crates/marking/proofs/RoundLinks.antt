@@ -35,37 +35,37 @@ differ_new x y hx hy more e =
 pub new_differs : (x y : ℕ) → eqb x 1 ≡ true → eqb y 1 ≡ false → not (eqb x y) ≡ true
 new_differs x y p q = split (eqb x y) (λ e. clash (sym (ap (λ (n : ℕ). eqb n 1) (eqb-true x y e)) ∙ p) q) (λ e. ap not e)
 
-module _ (d : Arrays) (ok : Valid (held d)) (level : ℕ) (actions facts unlinked-before threats kept-before counted-before : List ℕ) (p : Progress d level actions facts unlinked-before threats kept-before counted-before) where
+module _ (d : Arrays) (ok : Valid (held d)) (level : ℕ) (actions facts unlinked_before threats kept_before counted_before : List ℕ) (p : Progress d level actions facts unlinked_before threats kept_before counted_before) where
   few : d.variables ≤ 64
   few = omega (arith, ok.variables_few, variables_held d)
 
   -- threats, with those of the actions that were not yet looked at
-  module _ (threats' : List ℕ) (s : SetWhere (threatens_anew d.effects d.starts d.variables actions kept-before d.actions) threats threats') where
+  module _ (threats' : List ℕ) (s : SetWhere (threatens_anew d.effects d.starts d.variables actions kept_before d.actions) threats threats') where
     new_threat : ℕ → Bool
-    new_threat v = threatens_anew d.effects d.starts d.variables actions kept-before d.actions v
+    new_threat v = threatens_anew d.effects d.starts d.variables actions kept_before d.actions v
 
     other : ℕ → ℕ → Bool
     other a v = other_than (effect_at d a v) (get_or d.starts v 0)
 
-    new_says : (v : ℕ) → v < d.variables → new_threat v ≡ any_below d.actions (λ a. differ actions kept-before a && other a v)
+    new_says : (v : ℕ) → v < d.variables → new_threat v ≡ any_below d.actions (λ a. differ actions kept_before a && other a v)
     unfolding new_threat other threatens_anew threatens
     new_says v h =
-        any_same d.actions (λ a. differ actions kept-before a && (ltb v d.variables && other_than (get_or d.effects (64 * a + v) 0) (get_or d.starts v 0))) (λ a. differ actions kept-before a && other_than (get_or d.effects (64 * a + v) 0) (get_or d.starts v 0))
-        (λ a l. ap (λ (b : Bool). differ actions kept-before a && (b && other_than (get_or d.effects (64 * a + v) 0) (get_or d.starts v 0))) (lt-ltb v d.variables h))
+        any_same d.actions (λ a. differ actions kept_before a && (ltb v d.variables && other_than (get_or d.effects (64 * a + v) 0) (get_or d.starts v 0))) (λ a. differ actions kept_before a && other_than (get_or d.effects (64 * a + v) 0) (get_or d.starts v 0))
+        (λ a l. ap (λ (b : Bool). differ actions kept_before a && (b && other_than (get_or d.effects (64 * a + v) 0) (get_or d.starts v 0))) (lt-ltb v d.variables h))
 
     pub threats_now : (v : ℕ) → v < d.variables → get_or threats' v 0 ≡ bit (threatened (held d) (is_marked actions) v)
     unfolding new_threat other
     threats_now v h =
         s.entry v (omega (arith, p.threats_long, few))
         ∙ ap (λ (n : ℕ). cond (new_threat v) 1 n) (p.threat v h)
-        ∙ cond_bit (new_threat v) (threatened (held d) (is_marked kept-before) v)
-        ∙ ap bit (ap₂ (λ (a b : Bool). a || b) (new_says v h) (threatened_held d (is_marked kept-before) v h) ∙ joined ∙ sym (threatened_held d (is_marked actions) v h))
+        ∙ cond_bit (new_threat v) (threatened (held d) (is_marked kept_before) v)
+        ∙ ap bit (ap₂ (λ (a b : Bool). a || b) (new_says v h) (threatened_held d (is_marked kept_before) v h) ∙ joined ∙ sym (threatened_held d (is_marked actions) v h))
       where
         news : ℕ → Bool
-        news a = differ actions kept-before a && other_than (effect_at d a v) (get_or d.starts v 0)
+        news a = differ actions kept_before a && other_than (effect_at d a v) (get_or d.starts v 0)
 
         olds : ℕ → Bool
-        olds a = is_marked kept-before a && other_than (effect_at d a v) (get_or d.starts v 0)
+        olds a = is_marked kept_before a && other_than (effect_at d a v) (get_or d.starts v 0)
 
         alls : ℕ → Bool
         alls a = is_marked actions a && other_than (effect_at d a v) (get_or d.starts v 0)
@@ -77,20 +77,20 @@ module _ (d : Arrays) (ok : Valid (held d)) (level : ℕ) (actions facts unlinke
             ⊎_elim
             (λ new.
             let k = any_below_elim d.actions news new in
-            let both = and_split (differ actions kept-before k.0) (other_than (effect_at d k.0 v) (get_or d.starts v 0)) k.2 in
+            let both = and_split (differ actions kept_before k.0) (other_than (effect_at d k.0 v) (get_or d.starts v 0)) k.2 in
             any_below_intro d.actions alls k.0 k.1
-            (and_join (differ_new (get_or actions k.0 0) (get_or kept-before k.0 0) (p.action_bit k.0 k.1) (p.kept_before_bit k.0 k.1) (p.kept_before_stays k.0 k.1) both.0) both.1))
+            (and_join (differ_new (get_or actions k.0 0) (get_or kept_before k.0 0) (p.action_bit k.0 k.1) (p.kept_before_bit k.0 k.1) (p.kept_before_stays k.0 k.1) both.0) both.1))
             (λ old.
             let k = any_below_elim d.actions olds old in
-            let both = and_split (is_marked kept-before k.0) (other_than (effect_at d k.0 v) (get_or d.starts v 0)) k.2 in
+            let both = and_split (is_marked kept_before k.0) (other_than (effect_at d k.0 v) (get_or d.starts v 0)) k.2 in
             any_below_intro d.actions alls k.0 k.1 (and_join (p.kept_before_stays k.0 k.1 both.0) both.1))
             (or_split (any_below d.actions news) (any_below d.actions olds) e))
             (λ e.
             let k = any_below_elim d.actions alls e in
             let both = and_split (is_marked actions k.0) (other_than (effect_at d k.0 v) (get_or d.starts v 0)) k.2 in
-            split (is_marked kept-before k.0)
+            split (is_marked kept_before k.0)
             (λ q. or_right (any_below d.actions news) (any_below_intro d.actions olds k.0 k.1 (and_join q both.1)))
-            (λ q. or_left (any_below d.actions olds) (any_below_intro d.actions news k.0 k.1 (and_join (new_differs (get_or actions k.0 0) (get_or kept-before k.0 0) both.0 q) both.1))))
+            (λ q. or_left (any_below d.actions olds) (any_below_intro d.actions news k.0 k.1 (and_join (new_differs (get_or actions k.0 0) (get_or kept_before k.0 0) both.0 q) both.1))))
 
     marks : Marks
     marks = held_marks (held d) actions facts

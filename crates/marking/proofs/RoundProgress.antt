@@ -19,7 +19,7 @@ use Rattle.marking.specs.Marks.{Marks, kept, relevant, names}
 use Rattle.marking.specs.Links.{sets_other, threatened, linked, unlinked, tracked, gains_action}
 use Rattle.marking.specs.Rounds.{marked, next_actions, tracked_marks, counted_actions, gains_fact, next_marks}
 use Rattle.marking.specs.Dense.{SetWhere, is_marked, threatens_anew, unlinked_at, achieves, tracked_at, could_cover_at, covered_at, counted_at, names_anew}
-use Rattle.marking.proofs.HeldMarks.{held_marks, factAt, marks_held, kept_held, relevant_held}
+use Rattle.marking.proofs.HeldMarks.{held_marks, fact_at, marks_held, kept_held, relevant_held}
 use Rattle.files.proofs.HeldTask.{variables_held, actions_held, effect_at, effect_valid}
 use Rattle.marking.proofs.MarkCount.{Among}
 use Rattle.marking.proofs.MarkTables.{marks_of_same}
@@ -28,7 +28,7 @@ use Rattle.marking.proofs.RoundActions.{unlinked_says, achieves_gains, actions_n
 use Rattle.marking.proofs.RoundBound.{round_adds}
 use Rattle.marking.proofs.RoundCovering.{counted_now}
 use Rattle.marking.proofs.RoundFacts.{count_marked, count_bit, facts_bit, facts_now, facts_known}
-use Rattle.marking.proofs.RoundLaws.{roundActions, roundFacts, round_marks, setAside}
+use Rattle.marking.proofs.RoundLaws.{round_actions_here, round_facts, round_marks, set_aside}
 use Rattle.marking.proofs.RoundLinks.{threats_now, unlinked_now, unlinked_marked, tracked_now_lem}
 use Rattle.files.proofs.Truth.{any_same, bit_marked}
 
@@ -58,17 +58,17 @@ module _ (t : Task) (level : ℕ) (m n : Marks) (more : Among t m n) where
       (split (linked t level (kept n) v e) (λ r. clash both.1 (ap not (linked_shrinks v e r))) (λ r. ap not r))
 
 -- what a round of the code leaves in its arrays
-pub record Round (d : Arrays) (level : ℕ) (pairs actions facts unlinked-before threats kept-before counted-before threats' u actions' tracks counted facts' : List ℕ) : Type 0 where
+pub record Round (d : Arrays) (level : ℕ) (pairs actions facts unlinked_before threats kept_before counted_before threats' u actions' tracks counted facts' : List ℕ) : Type 0 where
   pub table : level ≡ 4 → (a b : ℕ) → a < d.actions → b < d.actions → in_words pairs (8 * a) b ≡ could_cover_at d.costs d.conditions d.variables b a
-  pub threats_set : SetWhere (threatens_anew d.effects d.starts d.variables actions kept-before d.actions) threats threats'
+  pub threats_set : SetWhere (threatens_anew d.effects d.starts d.variables actions kept_before d.actions) threats threats'
   pub unlinked_at_lem : (i : ℕ) → i < 32 * d.variables → get_or u i 0 ≡ bit (unlinked_at level facts d.starts threats' i)
-  pub actions_set : SetWhere (achieves d.effects d.actions unlinked-before u (32 * d.variables)) actions actions'
+  pub actions_set : SetWhere (achieves d.effects d.actions unlinked_before u (32 * d.variables)) actions actions'
   pub tracked_at_lem : (v : ℕ) → v < d.variables → get_or tracks v 0 ≡ bit (tracked_at u v)
-  pub counted_at_lem : (a : ℕ) → a < d.actions → get_or counted a 0 ≡ bit (counted_at level actions' counted-before (covered_at actions' pairs d.effects tracks d.variables d.actions a) a)
-  pub facts_set : SetWhere (names_anew (eqb level 1) d.conditions d.sizes d.variables counted counted-before d.actions) facts facts'
+  pub counted_at_lem : (a : ℕ) → a < d.actions → get_or counted a 0 ≡ bit (counted_at level actions' counted_before (covered_at actions' pairs d.effects tracks d.variables d.actions a) a)
+  pub facts_set : SetWhere (names_anew (eqb level 1) d.conditions d.sizes d.variables counted counted_before d.actions) facts facts'
 
-module _ (d : Arrays) (ok : Valid (held d)) (level : ℕ) (pairs actions facts unlinked-before threats kept-before counted-before : List ℕ) (p : Progress d level actions facts unlinked-before threats kept-before counted-before)
-    (threats' u actions' tracks counted facts' : List ℕ) (r : Round d level pairs actions facts unlinked-before threats kept-before counted-before threats' u actions' tracks counted facts') where
+module _ (d : Arrays) (ok : Valid (held d)) (level : ℕ) (pairs actions facts unlinked_before threats kept_before counted_before : List ℕ) (p : Progress d level actions facts unlinked_before threats kept_before counted_before)
+    (threats' u actions' tracks counted facts' : List ℕ) (r : Round d level pairs actions facts unlinked_before threats kept_before counted_before threats' u actions' tracks counted facts') where
   abbrev m : Marks
   m = held_marks (held d) actions facts
 
@@ -76,13 +76,13 @@ module _ (d : Arrays) (ok : Valid (held d)) (level : ℕ) (pairs actions facts u
   A = next_actions (held d) level m
 
   free : (v e : ℕ) → v < d.variables → e < 32 → get_or u (32 * v + e) 0 ≡ bit (unlinked (held d) level m v e)
-  free = unlinked_now d ok level actions facts unlinked-before threats kept-before counted-before p threats' r.threats_set u r.unlinked_at_lem
+  free = unlinked_now d ok level actions facts unlinked_before threats kept_before counted_before p threats' r.threats_set u r.unlinked_at_lem
 
   pub free_marked : (v e : ℕ) → v < d.variables → e < 32 → is_marked u (32 * v + e) ≡ unlinked (held d) level m v e
-  free_marked = unlinked_marked d ok level actions facts unlinked-before threats kept-before counted-before p threats' r.threats_set u r.unlinked_at_lem
+  free_marked = unlinked_marked d ok level actions facts unlinked_before threats kept_before counted_before p threats' r.threats_set u r.unlinked_at_lem
 
   action_now : (a : ℕ) → a < d.actions → get_or actions' a 0 ≡ bit (kept m a || gains_action (held d) level m a)
-  action_now = actions_now d ok level actions facts unlinked-before threats kept-before counted-before p u free free_marked actions' r.actions_set
+  action_now = actions_now d ok level actions facts unlinked_before threats kept_before counted_before p u free free_marked actions' r.actions_set
 
   action_marked : (a : ℕ) → a < d.actions → is_marked actions' a ≡ kept m a || gains_action (held d) level m a
   action_marked a l = ap (λ (n : ℕ). eqb n 1) (action_now a l) ∙ bit_marked (kept m a || gains_action (held d) level m a)
@@ -95,16 +95,16 @@ module _ (d : Arrays) (ok : Valid (held d)) (level : ℕ) (pairs actions facts u
   tracked_marked v h =
       ap (λ (n : ℕ). eqb n 1) (r.tracked_at_lem v h)
       ∙ bit_marked (tracked_at u v)
-      ∙ tracked_now_lem d ok level actions facts unlinked-before threats kept-before counted-before p threats' r.threats_set u r.unlinked_at_lem v h
+      ∙ tracked_now_lem d ok level actions facts unlinked_before threats kept_before counted_before p threats' r.threats_set u r.unlinked_at_lem v h
 
   abbrev C : List Bool
   C = counted_actions (held d) level (tracked_marks (held d) level m) A
 
-  count_now : (a : ℕ) → a < d.actions → get_or counted a 0 ≡ bit (is_marked counted-before a || marked C a)
-  count_now a l = r.counted_at_lem a l ∙ ap bit (counted_now d level m actions' pairs tracks action_next tracked_marked r.table counted-before a l)
+  count_now : (a : ℕ) → a < d.actions → get_or counted a 0 ≡ bit (is_marked counted_before a || marked C a)
+  count_now a l = r.counted_at_lem a l ∙ ap bit (counted_now d level m actions' pairs tracks action_next tracked_marked r.table counted_before a l)
 
   fact_now : (v e : ℕ) → v < d.variables → e < size_of (held d) v → get_or facts' (32 * v + e) 0 ≡ bit (relevant m v e || gains_fact (held d) level C v e)
-  fact_now = facts_now d ok level actions facts unlinked-before threats kept-before counted-before p C counted count_now facts' r.facts_set
+  fact_now = facts_now d ok level actions facts unlinked_before threats kept_before counted_before p C counted count_now facts' r.facts_set
 
   fact_marked : (v e : ℕ) → v < d.variables → e < size_of (held d) v → is_marked facts' (32 * v + e) ≡ relevant m v e || gains_fact (held d) level C v e
   fact_marked v e h k = ap (λ (n : ℕ). eqb n 1) (fact_now v e h k) ∙ bit_marked (relevant m v e || gains_fact (held d) level C v e)
@@ -113,7 +113,7 @@ module _ (d : Arrays) (ok : Valid (held d)) (level : ℕ) (pairs actions facts u
   pub round_held : held_marks (held d) actions' facts' ≡ next_marks (held d) level m
   round_held =
       marks_held d actions' facts'
-      ∙ marks_of_same (held d) (is_marked actions') (roundActions (held d) level m) (factAt d actions' facts') (roundFacts (held d) level m A)
+      ∙ marks_of_same (held d) (is_marked actions') (round_actions_here (held d) level m) (fact_at d actions' facts') (round_facts (held d) level m A)
       (λ a l. action_marked a (omega (arith, actions_held d)))
       (λ v e h k. fact_marked v e (omega (arith, variables_held d)) k)
       ∙ sym (round_marks (held d) level m)
@@ -129,12 +129,12 @@ module _ (d : Arrays) (ok : Valid (held d)) (level : ℕ) (pairs actions facts u
   unfolding counted_actions
   counted_kept a l q =
       action_next a l
-      ∙ (and_split (marked A a) (not (setAside (held d) level m A a)) (sym (tabulate_entry (λ b. marked A b && not (setAside (held d) level m A b)) (action_count (held d)) a false (omega (arith, actions_held d))) ∙ q)).0
+      ∙ (and_split (marked A a) (not (set_aside (held d) level m A a)) (sym (tabulate_entry (λ b. marked A b && not (set_aside (held d) level m A b)) (action_count (held d)) a false (omega (arith, actions_held d))) ∙ q)).0
 
   free_next : (v e : ℕ) → v < d.variables → e < 32 → is_marked u (32 * v + e) ≡ true → unlinked (held d) level (held_marks (held d) actions' facts') v e ≡ true
   free_next v e h k q =
       let now : unlinked (held d) level m v e ≡ true = sym (free_marked v e h k) ∙ q in
-      let inside = (unlinked_says d ok level actions facts unlinked-before threats kept-before counted-before p v e now).inside in
+      let inside = (unlinked_says d ok level actions facts unlinked_before threats kept_before counted_before p v e now).inside in
       ap (λ (n : Marks). unlinked (held d) level n v e) round_held
       ∙ unlinked_grows (held d) level m (next_marks (held d) level m) (round_adds (held d) level m) v e (omega (arith, variables_held d)) inside now
 
@@ -142,7 +142,7 @@ module _ (d : Arrays) (ok : Valid (held d)) (level : ℕ) (pairs actions facts u
   free_kept a v l h there q =
       let small : effect_at d a v < 32 = omega (arith, effect_valid d ok a v l h there, ok.size_most v) in
       action_marked a l
-      ∙ or_right (kept m a) (achieves_gains d ok level actions facts unlinked-before threats kept-before counted-before p a v l h there (sym (free_marked v (effect_at d a v) h small) ∙ q))
+      ∙ or_right (kept m a) (achieves_gains d ok level actions facts unlinked_before threats kept_before counted_before p a v l h there (sym (free_marked v (effect_at d a v) h small) ∙ q))
 
   counted_named : (a : ℕ) → a < d.actions → is_marked counted a ≡ true → (v e : ℕ) → v < d.variables → e < size_of (held d) v → names level (action_of (held d) a).conditions v e ≡ true → is_marked facts' (32 * v + e) ≡ true
   unfolding gains_fact
@@ -152,7 +152,7 @@ module _ (d : Arrays) (ok : Valid (held d)) (level : ℕ) (pairs actions facts u
       (λ new.
       fact_marked v e h k
       ∙ or_right (relevant m v e) (any_below_intro (action_count (held d)) (λ b. marked C b && names level (action_of (held d) b).conditions v e) a (omega (arith, actions_held d)) (and_join new n)))
-      (or_split (is_marked counted-before a) (marked C a) (sym (count_marked d ok level actions facts unlinked-before threats kept-before counted-before p C counted count_now facts' r.facts_set a l) ∙ q))
+      (or_split (is_marked counted_before a) (marked C a) (sym (count_marked d ok level actions facts unlinked_before threats kept_before counted_before p C counted count_now facts' r.facts_set a l) ∙ q))
 
   names_whole : level ≡ 1 → (conditions : List Pair) (v x y : ℕ) → names level conditions v x ≡ names level conditions v y
   unfolding names
@@ -178,21 +178,21 @@ module _ (d : Arrays) (ok : Valid (held d)) (level : ℕ) (pairs actions facts u
         facts_long = r.facts_set.same ∙ p.facts_long;
         threats_long = r.threats_set.same ∙ p.threats_long;
         action_bit = λ a l. omega (arith, action_now a l, bit_most (kept m a || gains_action (held d) level m a));
-        fact_bit = facts_bit d ok level actions facts unlinked-before threats kept-before counted-before p C counted count_now facts' r.facts_set;
-        fact_known = facts_known d ok level actions facts unlinked-before threats kept-before counted-before p C counted count_now facts' r.facts_set;
+        fact_bit = facts_bit d ok level actions facts unlinked_before threats kept_before counted_before p C counted count_now facts' r.facts_set;
+        fact_known = facts_known d ok level actions facts unlinked_before threats kept_before counted_before p C counted count_now facts' r.facts_set;
         kept_before_bit = p.action_bit;
         kept_before_stays = action_stays;
-        threat = threats_now d ok level actions facts unlinked-before threats kept-before counted-before p threats' r.threats_set;
+        threat = threats_now d ok level actions facts unlinked_before threats kept_before counted_before p threats' r.threats_set;
         before_bit = λ v e h k. omega (arith, free v e h k, bit_most (unlinked (held d) level m v e));
         before_unlinked = free_next;
         before_kept = free_kept;
-        counted_before_bit = count_bit d ok level actions facts unlinked-before threats kept-before counted-before p C counted count_now facts' r.facts_set;
+        counted_before_bit = count_bit d ok level actions facts unlinked_before threats kept_before counted_before p C counted count_now facts' r.facts_set;
         counted_before_kept =
             λ a l q.
             ⊎_elim
             (λ old. action_stays a l (p.counted_before_kept a l old))
             (λ new. counted_kept a l new)
-            (or_split (is_marked counted-before a) (marked C a) (sym (count_marked d ok level actions facts unlinked-before threats kept-before counted-before p C counted count_now facts' r.facts_set a l) ∙ q));
+            (or_split (is_marked counted_before a) (marked C a) (sym (count_marked d ok level actions facts unlinked_before threats kept_before counted_before p C counted count_now facts' r.facts_set a l) ∙ q));
         counted_before_facts = counted_named;
         whole = whole_next;
       }

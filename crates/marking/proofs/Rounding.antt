@@ -20,14 +20,14 @@ use Rattle.marking.specs.Links.{threatened, linked, unlinked}
 use Rattle.marking.specs.Rounds.{next_marks, Marking, mark_from, marking}
 use Rattle.marking.specs.Mark.{fact_mark}
 use Rattle.marking.specs.Dense.{SetWhere, is_marked, other_than, row_names, fact_byte, Final}
-use Rattle.marking.proofs.HeldMarks.{held_marks, factAt, marks_held, kept_held, relevant_held, held_shaped, threatened_held}
+use Rattle.marking.proofs.HeldMarks.{held_marks, fact_at, marks_held, kept_held, relevant_held, held_shaped, threatened_held}
 use Rattle.files.proofs.HeldTask.{variables_held, actions_held, goal_held, goal_valid, effect_at}
 use Rattle.files.proofs.CountOrder.{sum_order}
 use Rattle.marking.proofs.MarkCount.{mark_count, mark_count_most}
 use Rattle.marking.proofs.MarkTables.{marks_of_same}
 use Rattle.marking.proofs.Progress.{Progress}
 use Rattle.marking.proofs.RoundBound.{round_more}
-use Rattle.marking.proofs.RoundCount.{markSum, sum_zero, sum_same_marks, marks_same_sum}
+use Rattle.marking.proofs.RoundCount.{mark_sum, sum_zero, sum_same_marks, marks_same_sum}
 use Rattle.marking.proofs.RoundFacts.{names_held, named_inside}
 use Rattle.marking.proofs.RoundLaws.{first_marks_lem}
 use Rattle.marking.proofs.RoundProgress.{Round, round_held, round_progress, free_marked}
@@ -39,11 +39,11 @@ abbrev pub limit : Arrays → ℕ
 limit d = fact_count (held d) + action_count (held d) + 1
 
 -- before a round
-pub record Rounding (d : Arrays) (level : ℕ) (actions facts unlinked-before threats kept-before counted-before : List ℕ) (rounds count : ℕ) : Type 0 where
-  pub progress : Progress d level actions facts unlinked-before threats kept-before counted-before
+pub record Rounding (d : Arrays) (level : ℕ) (actions facts unlinked_before threats kept_before counted_before : List ℕ) (rounds count : ℕ) : Type 0 where
+  pub progress : Progress d level actions facts unlinked_before threats kept_before counted_before
   pub ahead : mark_from (limit d - rounds) (held d) level (held_marks (held d) actions facts) rounds ≡ marking (held d) level
   pub few : rounds ≤ mark_count (held d) (held_marks (held d) actions facts)
-  pub counted : count ≡ markSum d actions facts
+  pub counted : count ≡ mark_sum d actions facts
 
 -- the definition's next round
 module _ (t : Task) (level : ℕ) (m : Marks) where
@@ -99,7 +99,7 @@ module _ (d : Arrays) (ok : Valid (held d)) (level : ℕ) where
     first_held : held_marks (held d) (replicate 512 0) facts ≡ first_marks (held d) level
     first_held =
         marks_held d (replicate 512 0) facts
-        ∙ marks_of_same (held d) (is_marked (replicate 512 0)) (λ a. false) (factAt d (replicate 512 0) facts) (names level (held d).goal)
+        ∙ marks_of_same (held d) (is_marked (replicate 512 0)) (λ a. false) (fact_at d (replicate 512 0) facts) (names level (held d).goal)
         (λ a l. zeros 512 a)
         (λ v e h k. first_named v e (omega (arith, variables_held d)) k)
         ∙ sym (first_marks_lem (held d) level)
@@ -151,7 +151,7 @@ module _ (d : Arrays) (ok : Valid (held d)) (level : ℕ) where
         }
 
   -- there is a round left, and rounds are few
-  module _ (actions facts unlinked-before threats kept-before counted-before : List ℕ) (rounds count : ℕ) (w : Rounding d level actions facts unlinked-before threats kept-before counted-before rounds count) where
+  module _ (actions facts unlinked_before threats kept_before counted_before : List ℕ) (rounds count : ℕ) (w : Rounding d level actions facts unlinked_before threats kept_before counted_before rounds count) where
     left : 0 < limit d - rounds
     left = omega (arith, w.few, mark_count_most (held d) (held_marks (held d) actions facts))
 
@@ -162,9 +162,9 @@ module _ (d : Arrays) (ok : Valid (held d)) (level : ℕ) where
     rounding_less = omega (arith, left)
 
   -- from one round to the next
-  module _ (pairs actions facts unlinked-before threats kept-before counted-before : List ℕ) (rounds count : ℕ) (w : Rounding d level actions facts unlinked-before threats kept-before counted-before rounds count)
-      (threats' u actions' tracks counted facts' : List ℕ) (r : Round d level pairs actions facts unlinked-before threats kept-before counted-before threats' u actions' tracks counted facts')
-      (marks : ℕ) (sum : marks ≡ markSum d actions' facts') where
+  module _ (pairs actions facts unlinked_before threats kept_before counted_before : List ℕ) (rounds count : ℕ) (w : Rounding d level actions facts unlinked_before threats kept_before counted_before rounds count)
+      (threats' u actions' tracks counted facts' : List ℕ) (r : Round d level pairs actions facts unlinked_before threats kept_before counted_before threats' u actions' tracks counted facts')
+      (marks : ℕ) (sum : marks ≡ mark_sum d actions' facts') where
     abbrev m : Marks
     m = held_marks (held d) actions facts
 
@@ -172,10 +172,10 @@ module _ (d : Arrays) (ok : Valid (held d)) (level : ℕ) where
     next = next_marks (held d) level m
 
     after : held_marks (held d) actions' facts' ≡ next
-    after = round_held d ok level pairs actions facts unlinked-before threats kept-before counted-before w.progress threats' u actions' tracks counted facts' r
+    after = round_held d ok level pairs actions facts unlinked_before threats kept_before counted_before w.progress threats' u actions' tracks counted facts' r
 
     pub on : Progress d level actions' facts' u threats' actions counted
-    on = round_progress d ok level pairs actions facts unlinked-before threats kept-before counted-before w.progress threats' u actions' tracks counted facts' r
+    on = round_progress d ok level pairs actions facts unlinked_before threats kept_before counted_before w.progress threats' u actions' tracks counted facts' r
 
     not_same : (marks ≡ count → ⊥) → same_marks m next ≡ false
     not_same differs =
@@ -185,7 +185,7 @@ module _ (d : Arrays) (ok : Valid (held d)) (level : ℕ) where
         (differs
         (sum
         ∙ sym
-        (marks_same_sum d ok level actions facts unlinked-before threats kept-before counted-before w.progress actions' facts' u threats' actions counted on _ _ r.actions_set r.facts_set
+        (marks_same_sum d ok level actions facts unlinked_before threats kept_before counted_before w.progress actions' facts' u threats' actions counted on _ _ r.actions_set r.facts_set
         (same_marks_says m next e ∙ sym after))
         ∙ sym w.counted)))
         (λ e. e)
@@ -200,7 +200,7 @@ module _ (d : Arrays) (ok : Valid (held d)) (level : ℕ) where
           ahead =
               ap (λ (k : Marks). mark_from (limit d - (rounds + 1)) (held d) level k (rounds + 1)) after
               ∙ ap (λ (n : ℕ). mark_from n (held d) level next (rounds + 1)) (sym fewer)
-              ∙ sym (mark_goes_on (held d) level m (limit d - rounds) rounds (left actions facts unlinked-before threats kept-before counted-before rounds count w) changed)
+              ∙ sym (mark_goes_on (held d) level m (limit d - rounds) rounds (left actions facts unlinked_before threats kept_before counted_before rounds count w) changed)
               ∙ w.ahead;
           few = rw after (omega (arith, w.few, more));
           counted = sum;
@@ -210,11 +210,11 @@ module _ (d : Arrays) (ok : Valid (held d)) (level : ℕ) where
     module _ (same : marks ≡ count) where
       unchanged : m ≡ held_marks (held d) actions' facts'
       unchanged =
-          sum_same_marks d ok level actions facts unlinked-before threats kept-before counted-before w.progress actions' facts' u threats' actions counted on _ _ r.actions_set r.facts_set
+          sum_same_marks d ok level actions facts unlinked_before threats kept_before counted_before w.progress actions' facts' u threats' actions counted on _ _ r.actions_set r.facts_set
           (sym w.counted ∙ sym same ∙ sum)
 
       result : marking (held d) level ≡ record { marks = m; rounds = rounds + 1 }
-      result = sym w.ahead ∙ mark_ends (held d) level m (limit d - rounds) rounds (left actions facts unlinked-before threats kept-before counted-before rounds count w) (same_marks_equal m next (unchanged ∙ after))
+      result = sym w.ahead ∙ mark_ends (held d) level m (limit d - rounds) rounds (left actions facts unlinked_before threats kept_before counted_before rounds count w) (same_marks_equal m next (unchanged ∙ after))
 
       final_marks : (marking (held d) level).marks ≡ m
       final_marks = ap (λ (k : Marking). k.marks) result
@@ -235,7 +235,7 @@ module _ (d : Arrays) (ok : Valid (held d)) (level : ℕ) where
           ∙ ap bit (sym (relevant_held d actions' facts' v e known k) ∙ ap (λ (k : Marks). relevant k v e) (sym unchanged)) in
           let free : get_or u (32 * v + e) 0 ≡ bit (relevant m v e && not (linked (held d) level (kept m) v e)) =
           marked_bit (get_or u (32 * v + e) 0) (on.before_bit v e known small)
-          ∙ ap bit (free_marked d ok level pairs actions facts unlinked-before threats kept-before counted-before w.progress threats' u actions' tracks counted facts' r v e known small) in
+          ∙ ap bit (free_marked d ok level pairs actions facts unlinked_before threats kept_before counted_before w.progress threats' u actions' tracks counted facts' r v e known small) in
           ap₂ fact_byte fact free ∙ byte (relevant m v e) (linked (held d) level (kept m) v e)
 
       pub rounding_ends : Final (held d) level actions' facts' u (rounds + 1)

@@ -71,13 +71,13 @@ places_next g old now i x s h e =
           ∙ ap (λ (t : Bool). cond (t && g j) 1 (get_or old j 0)) (le-ltb j i (omega arith) ∙ sym (le-ltb j (i + 1) (omega arith))))
           (λ here.
           let is : i ≡ j = omega arith in
-          let old-entry : get_or now i 0 ≡ get_or old i 0 = s.entry i h ∙ ap (λ (t : Bool). cond (t && g i) 1 (get_or old i 0)) (le-ltb i i (omega arith)) in
-          let set-entry : get_or (set now i x) i 0 ≡ cond (ltb i (i + 1) && g i) 1 (get_or old i 0) =
+          let old_entry : get_or now i 0 ≡ get_or old i 0 = s.entry i h ∙ ap (λ (t : Bool). cond (t && g i) 1 (get_or old i 0)) (le-ltb i i (omega arith)) in
+          let set_entry : get_or (set now i x) i 0 ≡ cond (ltb i (i + 1) && g i) 1 (get_or old i 0) =
           get_or-set_same now i x 0 (omega (arith, s.same))
           ∙ e
-          ∙ ap (λ (n : ℕ). cond (g i) 1 n) old-entry
+          ∙ ap (λ (n : ℕ). cond (g i) 1 n) old_entry
           ∙ sym (ap (λ (t : Bool). cond (t && g i) 1 (get_or old i 0)) (lt-ltb i (i + 1) (omega arith))) in
-          rw (← is) set-entry))
+          rw (← is) set_entry))
           (λ below.
           get_or-set_other now i j x 0 (omega arith)
           ∙ s.entry j b

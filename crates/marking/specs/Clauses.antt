@@ -84,8 +84,8 @@ pub record EmptyTable (variables actions : ℕ) (table : List ℕ) : Type 0 wher
   pub empty : (i : ℕ) → get_or table i 0 ≡ 0
 
 -- the number of an action that covers, or none below `actions`
-pub record CovererIs (r actions : ℕ) (isCovered : Bool) : Type 0 where
-  pub is : ltb r actions ≡ isCovered
+pub record CovererIs (r actions : ℕ) (is_covered : Bool) : Type 0 where
+  pub is : ltb r actions ≡ is_covered
   pub at_most : r ≤ 512
 
 -- the unlinked facts of the first `variables` variables, and 0 for the others

@@ -31,7 +31,7 @@ threatens effects base starts count v = ltb v count && other_than (get_or effect
 
 -- the variables that actions threaten which are kept and were not looked at before, of the first `count`
 unfoldable pub threatens_anew : List ℕ → List ℕ → ℕ → List ℕ → List ℕ → ℕ → ℕ → Bool
-threatens_anew effects starts variables kept keptBefore count v = any_below count (λ a. differ kept keptBefore a && threatens effects (64 * a) starts variables v)
+threatens_anew effects starts variables kept kept_before_here count v = any_below count (λ a. differ kept kept_before_here a && threatens effects (64 * a) starts variables v)
 
 -- linked, by the cells of a variable
 unfoldable pub linked_cell : ℕ → ℕ → ℕ → ℕ → Bool
@@ -48,7 +48,7 @@ sets effects v value count a = ltb a count && eqb (get_or effects (64 * a + v) 0
 
 -- the actions with an effect among the facts that became unlinked, of the first `count` places
 unfoldable pub achieves : List ℕ → ℕ → List ℕ → List ℕ → ℕ → ℕ → Bool
-achieves effects actions unlinkedBefore unlinked count a = any_below count (λ i. differ unlinked unlinkedBefore i && sets effects (i / 32) (i % 32) actions a)
+achieves effects actions unlinked_before_here unlinked count a = any_below count (λ i. differ unlinked unlinked_before_here i && sets effects (i / 32) (i % 32) actions a)
 
 -- the variable has an unlinked fact
 unfoldable pub tracked_at : List ℕ → ℕ → Bool
@@ -87,7 +87,7 @@ covered_at kept table effects tracked variables actions a = any_below actions (�
 
 -- the conditions of a are among F, or it is kept and, at level 4, not covered
 unfoldable pub counted_at : ℕ → List ℕ → List ℕ → Bool → ℕ → Bool
-counted_at level kept countedBefore isCovered a = is_marked countedBefore a || (is_marked kept a && not (eqb level 4 && isCovered))
+counted_at level kept counted_before_here is_covered a = is_marked counted_before_here a || (is_marked kept a && not (eqb level 4 && is_covered))
 
 -- the facts that a cell of a row names, by their places: all of its variable's where that counts whole, else its own
 unfoldable pub names_at : Bool → ℕ → ℕ → ℕ → ℕ → Bool
@@ -99,7 +99,7 @@ row_names whole row base sizes count i = any_below count (λ v. names_at whole v
 
 -- the facts that actions name which are counted and were not before, of the first `count`
 unfoldable pub names_anew : Bool → List ℕ → List ℕ → ℕ → List ℕ → List ℕ → ℕ → ℕ → Bool
-names_anew whole conditions sizes variables counted countedBefore count i = any_below count (λ a. differ counted countedBefore a && row_names whole conditions (64 * a) sizes variables i)
+names_anew whole conditions sizes variables counted counted_before_here count i = any_below count (λ a. differ counted counted_before_here a && row_names whole conditions (64 * a) sizes variables i)
 
 -- a fact's byte, from its two cells
 unfoldable pub fact_byte : ℕ → ℕ → ℕ

@@ -30,7 +30,7 @@ valid_level level = leb 1 level && leb level 4
 
 -- the buffers for both marks, before either is written
 unfoldable pub marks_fit : Task → ℕ → ℕ → Outcome
-marks_fit t actionRoom factRoom = fits (action_count t) actionRoom (fits (fact_count t) factRoom done)
+marks_fit t action_room fact_room = fits (action_count t) action_room (fits (fact_count t) fact_room done)
 
 -- the lent buffers
 pub record MarkBuffers : Type 0 where

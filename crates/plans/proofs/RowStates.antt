@@ -43,10 +43,10 @@ after_some effect value d = rw (ne_eqb effect 255 d) refl
 -- the row at `base`
 module _ (row : List ℕ) (base : ℕ) (s : State) where
   -- whether the value of variable v meets its cell
-  abbrev pub meetsAt : ℕ → Bool
-  meetsAt v = meets_cell (get_or row (base + v) 0) (s v)
+  abbrev pub meets_at : ℕ → Bool
+  meets_at v = meets_cell (get_or row (base + v) 0) (s v)
 
-  hold_more : (v left rest : ℕ) → left ≡ suc rest → all_hold (row_pairs row base v left) s ≡ meetsAt v && all_hold (row_pairs row base (v + 1) rest) s
+  hold_more : (v left rest : ℕ) → left ≡ suc rest → all_hold (row_pairs row base v left) s ≡ meets_at v && all_hold (row_pairs row base (v + 1) rest) s
   unfolding all_hold holds
   hold_more v left rest more =
       let x = get_or row (base + v) 0 in
@@ -61,14 +61,14 @@ module _ (row : List ℕ) (base : ℕ) (s : State) where
 
   -- conditions, as a loop that counts down wants them
   module _ (v left : ℕ) where
-    hold_step : 0 < left → all_hold (row_pairs row base v left) s ≡ meetsAt v && all_hold (row_pairs row base (v + 1) (left - 1)) s
+    hold_step : 0 < left → all_hold (row_pairs row base v left) s ≡ meets_at v && all_hold (row_pairs row base (v + 1) (left - 1)) s
     hold_step h = hold_more v left (left - 1) (one_more left h)
 
-    pub row_next : (whole b : Bool) → all_hold (row_pairs row base v left) s ≡ whole → 0 < left → b ≡ meetsAt v → b ≡ true
+    pub row_next : (whole b : Bool) → all_hold (row_pairs row base v left) s ≡ whole → 0 < left → b ≡ meets_at v → b ≡ true
         → all_hold (row_pairs row base (v + 1) (left - 1)) s ≡ whole
     row_next whole b w h e t = sym (hold_step h ∙ ap (λ (m : Bool). m && all_hold (row_pairs row base (v + 1) (left - 1)) s) (sym e ∙ t)) ∙ w
 
-    pub row_stop : (whole b : Bool) → all_hold (row_pairs row base v left) s ≡ whole → 0 < left → b ≡ meetsAt v → b ≡ false → false ≡ whole
+    pub row_stop : (whole b : Bool) → all_hold (row_pairs row base v left) s ≡ whole → 0 < left → b ≡ meets_at v → b ≡ false → false ≡ whole
     row_stop whole b w h e t = sym (hold_step h ∙ ap (λ (m : Bool). m && all_hold (row_pairs row base (v + 1) (left - 1)) s) (sym e ∙ t)) ∙ w
 
     pub row_none : (whole : Bool) → all_hold (row_pairs row base v left) s ≡ whole → left ≤ 0 → true ≡ whole
@@ -76,32 +76,32 @@ module _ (row : List ℕ) (base : ℕ) (s : State) where
     row_none whole w h = sym (ap (λ (l : List Pair). all_hold l s) (row_pairs_none row base v left h)) ∙ w
 
   -- all hold where each cell is met
-  held_at : (v count w : ℕ) → all_hold (row_pairs row base v count) s ≡ true → v ≤ w → w < v + count → meetsAt w ≡ true
+  held_at : (v count w : ℕ) → all_hold (row_pairs row base v count) s ≡ true → v ≤ w → w < v + count → meets_at w ≡ true
   held_at v zero w e a b = absurd (omega arith)
   held_at v (suc count) w e a b =
-      let both = and_split (meetsAt v) (all_hold (row_pairs row base (v + 1) count) s) (sym (hold_more v (suc count) count refl) ∙ e) in
+      let both = and_split (meets_at v) (all_hold (row_pairs row base (v + 1) count) s) (sym (hold_more v (suc count) count refl) ∙ e) in
       split_le w v
       (λ l. let is : w ≡ v = omega arith in rw is both.0)
       (λ l. held_at (v + 1) count w both.1 (omega arith) (omega arith))
 
-  held_all : (v count : ℕ) → ((w : ℕ) → v ≤ w → w < v + count → meetsAt w ≡ true) → all_hold (row_pairs row base v count) s ≡ true
+  held_all : (v count : ℕ) → ((w : ℕ) → v ≤ w → w < v + count → meets_at w ≡ true) → all_hold (row_pairs row base v count) s ≡ true
   unfolding all_hold row_pairs
   held_all v zero h = refl
   held_all v (suc count) h =
       hold_more v (suc count) count refl
       ∙ and_join (h v (omega arith) (omega arith)) (held_all (v + 1) count (λ w a b. h w (omega arith) (omega arith)))
 
-  pub hold_below : (n : ℕ) → all_hold (row_pairs row base 0 n) s ≡ all_below n meetsAt
+  pub hold_below : (n : ℕ) → all_hold (row_pairs row base 0 n) s ≡ all_below n meets_at
   hold_below n =
-      same_truth (all_hold (row_pairs row base 0 n) s) (all_below n meetsAt)
-      (λ e. all_below_intro n meetsAt (λ v h. held_at 0 n v e (omega arith) (omega arith)))
-      (λ e. held_all 0 n (λ v a b. all_below_elim n meetsAt e v (omega arith)))
+      same_truth (all_hold (row_pairs row base 0 n) s) (all_below n meets_at)
+      (λ e. all_below_intro n meets_at (λ v h. held_at 0 n v e (omega arith) (omega arith)))
+      (λ e. held_all 0 n (λ v a b. all_below_elim n meets_at e v (omega arith)))
 
   -- the state after the effects of the row
-  abbrev pub afterRow : State
-  afterRow v = after_cell (get_or row (base + v) 0) (s v)
+  abbrev pub after_row : State
+  after_row v = after_cell (get_or row (base + v) 0) (s v)
 
-  row_value : (n v : ℕ) → v < n → Option.get_or (value_in (row_pairs row base 0 n) v) (s v) ≡ afterRow v
+  row_value : (n v : ℕ) → v < n → Option.get_or (value_in (row_pairs row base 0 n) v) (s v) ≡ after_row v
   row_value n v h =
       let x = get_or row (base + v) 0 in
       let found : value_in (row_pairs row base 0 n) v ≡ cell_value x = row_pairs_value row base 0 n v (omega arith) (omega arith) in
@@ -112,7 +112,7 @@ module _ (row : List ℕ) (base : ℕ) (s : State) where
   row_behind : (n v : ℕ) → n ≤ v → Option.get_or (value_in (row_pairs row base 0 n) v) (s v) ≡ s v
   row_behind n v h = ap (λ (o : Option ℕ). Option.get_or o (s v)) (row_pairs_behind row base 0 n v (omega arith))
 
-  pub apply_row : (a : Action) (n v : ℕ) → a.effects ≡ row_pairs row base 0 n → v < n → apply a s v ≡ afterRow v
+  pub apply_row : (a : Action) (n v : ℕ) → a.effects ≡ row_pairs row base 0 n → v < n → apply a s v ≡ after_row v
   unfolding apply
   apply_row a n v is h = ap (λ (l : List Pair). Option.get_or (value_in l v) (s v)) is ∙ row_value n v h
 
@@ -122,7 +122,7 @@ module _ (row : List ℕ) (base : ℕ) (s : State) where
 
 -- a row of its own, and values in a list
 module _ (row state : List ℕ) (v left : ℕ) where
-  here : meets_cell (get_or row v 0) (get_or state v 0) ≡ meetsAt row 0 (list_state state) v
+  here : meets_cell (get_or row v 0) (get_or state v 0) ≡ meets_at row 0 (list_state state) v
   unfolding list_state
   here = ap (λ (n : ℕ). meets_cell (get_or row n 0) (get_or state v 0)) (omega arith)
 

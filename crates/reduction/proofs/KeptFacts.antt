@@ -42,8 +42,8 @@ module _ (t : Task) (A : ℕ → Bool) where
   pub dropped_start : (v value : ℕ) → named t A v value ≡ true → value < size_of t v → kept_variable t A v ≡ false → (settled t A v ≡ true) × (value ≡ start_of t v)
   unfolding kept_variable has_named
   dropped_start v value n inside dropped =
-      let some-named = any_below_intro (size_of t v) (named t A v) value inside n in
-      let e : settled t A v ≡ true = split (settled t A v) (λ z. z) (λ z. clash (and_join some-named (rw z)) dropped) in
+      let some_named = any_below_intro (size_of t v) (named t A v) value inside n in
+      let e : settled t A v ≡ true = split (settled t A v) (λ z. z) (λ z. clash (and_join some_named (rw z)) dropped) in
       (e, (settled_parts v e).0 value inside n)
 
   -- a value with the new number of a named value is that value
@@ -98,8 +98,8 @@ module _ (t : Task) (A : ℕ → Bool) where
     fact_valid t 0 (action_of t a).conditions v value (ok.action a).conditions h,
   )
 
-  abbrev pub reducedPair : Pair → Pair
-  reducedPair p = pair (new_variable t A p.variable) (new_value t A p.variable p.value)
+  abbrev pub reduced_pair : Pair → Pair
+  reduced_pair p = pair (new_variable t A p.variable) (new_value t A p.variable p.value)
 
   -- the first of such conditions: on a kept variable it admits the new numbers of the values that it admits; a dropped
   -- variable is settled, and it admits the start value
@@ -108,16 +108,16 @@ module _ (t : Task) (A : ℕ → Bool) where
     first_named value e = n p.variable value (fact_first p ps value e)
 
     pub first_known : p.variable < variable_count t
-    first_known = let some-value = admits_some p in (first_named some-value.0 some-value.1).1.known
+    first_known = let some_value = admits_some p in (first_named some_value.0 some_value.1).1.known
 
-    pub reduced_pair_admits : (value : ℕ) → admits (reducedPair p) (new_value t A p.variable value) ≡ admits p value
+    pub reduced_pair_admits : (value : ℕ) → admits (reduced_pair p) (new_value t A p.variable value) ≡ admits p value
     reduced_pair_admits value =
         admits_renumbered p (new_variable t A p.variable) (new_value t A p.variable) value
         (λ d e same. let fact = first_named d e in new_value_injective p.variable d value fact.0 fact.1.inside same)
 
     pub dropped_admits : kept_variable t A p.variable ≡ false → (settled t A p.variable ≡ true) × (admits p (start_of t p.variable) ≡ true)
     dropped_admits k =
-        let some-value = admits_some p in
-        let fact = first_named some-value.0 some-value.1 in
-        let start = dropped_start p.variable some-value.0 fact.0 fact.1.inside k in
-        (start.0, sym (ap (admits p) start.1) ∙ some-value.1)
+        let some_value = admits_some p in
+        let fact = first_named some_value.0 some_value.1 in
+        let start = dropped_start p.variable some_value.0 fact.0 fact.1.inside k in
+        (start.0, sym (ap (admits p) start.1) ∙ some_value.1)

@@ -54,8 +54,8 @@ module _ (d : Arrays) (ok : Valid (held d)) where
         let x : ℕ = i % 32 in
         let named : row_names false row base d.sizes d.variables (32 * v + x) ≡ true =
         ap (row_names false row base d.sizes d.variables) (sym (place_of i)) ∙ sym (sizes_alike i) ∙ e in
-        let in-task = named_inside d ok false row base valid v x (omega arith) named in
-        record { known = in-task.0; inside = in-task.1; fact = sym (names_held d ok false row base valid v x in-task.0 in-task.1) ∙ named }
+        let in_task = named_inside d ok false row base valid v x (omega arith) named in
+        record { known = in_task.0; inside = in_task.1; fact = sym (names_held d ok false row base valid v x in_task.0 in_task.1) ∙ named }
 
     place_in_row : (v x : ℕ) → v < d.variables → x < size_of (held d) v → has_fact (row_pairs row base 0 d.variables) v x ≡ true → row_facts row base d.variables (32 * v + x) ≡ true
     place_in_row v x l k e = sizes_alike (32 * v + x) ∙ names_held d ok false row base valid v x l k ∙ e
@@ -143,11 +143,11 @@ module _ (d : Arrays) (ok : Valid (held d)) where
         effect_reached (held d) (reached (held d)) a (i / 32) (i % 32) below (reached_closed (held d) a below (action_by (reached (held d)) a l h)) (effect_sets a i l e)
 
     -- the facts after the start facts, and those at the end
-    module _ (started facts counts : List ℕ) (start-marks : SetWhere (row_facts d.starts 0 d.variables) (replicate 2048 0) started)
+    module _ (started facts counts : List ℕ) (start_marks : SetWhere (row_facts d.starts 0 d.variables) (replicate 2048 0) started)
         (f : Followed rows d.effects d.variables d.actions started facts counts) where
       started_is : (i : ℕ) → i < 2048 → is_marked started i ≡ row_facts d.starts 0 d.variables i
       started_is i l =
-          ap (λ (n : ℕ). eqb n 1) (fresh_marks 2048 (row_facts d.starts 0 d.variables) started start-marks i l)
+          ap (λ (n : ℕ). eqb n 1) (fresh_marks 2048 (row_facts d.starts 0 d.variables) started start_marks i l)
           ∙ bit_marked (row_facts d.starts 0 d.variables i)
 
       facts_sound : FactsIn facts reached_at

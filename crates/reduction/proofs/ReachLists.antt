@@ -40,8 +40,8 @@ module _ (order after : List ℕ) (found a : ℕ) (test : Bool) (r : ℕ) (p : P
       ∙ get_or-set_same order found a 0 h
 
   -- a place is an earlier one, or the new last one
-  pushed-place {ℓ} : {X : Type ℓ} (i : ℕ) → i < r → (i < found → X) → (i ≡ found → test ≡ true → X) → X
-  pushed-place i l f g =
+  pushed_place {ℓ} : {X : Type ℓ} (i : ℕ) → i < r → (i < found → X) → (i ≡ found → test ≡ true → X) → X
+  pushed_place i l f g =
       split_le found i
       (λ past.
       split test
@@ -61,12 +61,12 @@ module _ (counts order counts₁ order₁ : List ℕ) (bound bound₁ found a va
       record {
         known =
             λ i l.
-            pushed-place order order₁ found a (eqb value 0) r p i l
+            pushed_place order order₁ found a (eqb value 0) r p i l
             (λ before. omega (arith, pushed_earlier order order₁ found a (eqb value 0) r p i before, was.known i before))
             (λ q e. rw q (omega (arith, pushed_last order order₁ found a (eqb value 0) r p room e)));
         none =
             λ i l.
-            pushed-place order order₁ found a (eqb value 0) r p i l
+            pushed_place order order₁ found a (eqb value 0) r p i l
             (λ before.
             ap (λ (n : ℕ). get_or counts₁ n 0) (pushed_earlier order order₁ found a (eqb value 0) r p i before)
             ∙ others (get_or order i 0) (new (get_or order i 0) (was.known i before) (was.none i before))
@@ -208,7 +208,7 @@ module _ (counts₀ order₀ : List ℕ) (test : ℕ → Bool) (actions found : 
           before =
               λ b k.
               split_le b a
-              (λ low-enough.
+              (λ low_enough.
               split_le a b
               (λ here.
               let is : b ≡ a = omega arith in

@@ -141,11 +141,11 @@ module _ (conditions : List ℕ) (base a : ℕ) where
         (λ i l apart. next i ∙ ap (λ (b : Bool). asks_for rows a i || b) (cell_place v cell i there ∙ ne_eqb i place apart) ∙ or-false (asks_for rows a i))
 
     pub asked_next : v < 64 → (count one : ℕ) → count ≡ asked rows a → one ≡ bit (not (eqb cell 255)) → count + one ≡ asked after a
-    asked_next known count one is-count is_one =
+    asked_next known count one is_count is_one =
         split (eqb cell 255)
         (λ e.
         let none : one ≡ 0 = is_one ∙ ap (λ (b : Bool). bit (not b)) e in
-        omega (arith, is-count, none, asked_same (eqb-true cell 255 e)))
+        omega (arith, is_count, none, asked_same (eqb-true cell 255 e)))
         (λ e.
         let some : one ≡ 1 = is_one ∙ ap (λ (b : Bool). bit (not b)) e in
-        omega (arith, is-count, some, asked_more known (eqb-false cell 255 e)))
+        omega (arith, is_count, some, asked_more known (eqb-false cell 255 e)))

@@ -13,7 +13,7 @@ use Rattle.plans.proofs.StateLaws.{apply_sets, apply_leaves}
 use Rattle.reduction.specs.Named.{settled, kept_variable}
 use Rattle.reduction.specs.Renumber.{new_variable, new_value}
 use Rattle.reduction.specs.ReducedBy.{reduced_pairs, reduced_action, reduced_by}
-use Rattle.reduction.proofs.KeptFacts.{NamedFacts, reducedPair, reduced_value, settled_start, goal_named, conditions_named, first_known, reduced_pair_admits, dropped_admits}
+use Rattle.reduction.proofs.KeptFacts.{NamedFacts, reduced_pair, reduced_value, settled_start, goal_named, conditions_named, first_known, reduced_pair_admits, dropped_admits}
 use Rattle.reduction.proofs.KeptVariables.{reduced_start}
 use Rattle.reduction.proofs.KeptActions.{reduced_chooses}
 use Rattle.reduction.proofs.Correspondence.{Corresponds, Alike, alike_corresponds}
@@ -29,10 +29,10 @@ module _ (t : Task) (A : ℕ → Bool) (ok : Valid t) where
   start_reduces = record { on_kept = reduced_start t A; on_settled = λ v e. refl }
 
   -- the same conditions hold, one by one
-  reduced_pair_holds : (s r : State) → Reduces s r → (p : Pair) (ps : List Pair) → NamedFacts t A (p ∷ ps) → kept_variable t A p.variable ≡ true → holds (reducedPair t A p) r ≡ holds p s
+  reduced_pair_holds : (s r : State) → Reduces s r → (p : Pair) (ps : List Pair) → NamedFacts t A (p ∷ ps) → kept_variable t A p.variable ≡ true → holds (reduced_pair t A p) r ≡ holds p s
   unfolding holds
   reduced_pair_holds s r same p ps n k =
-      ap (admits (reducedPair t A p)) (same.on_kept p.variable (first_known t A p ps n) k) ∙ reduced_pair_admits t A p ps n (s p.variable)
+      ap (admits (reduced_pair t A p)) (same.on_kept p.variable (first_known t A p ps n) k) ∙ reduced_pair_admits t A p ps n (s p.variable)
 
   dropped_holds : (s r : State) → Reduces s r → (p : Pair) (ps : List Pair) → NamedFacts t A (p ∷ ps) → kept_variable t A p.variable ≡ false → holds p s ≡ true
   unfolding holds

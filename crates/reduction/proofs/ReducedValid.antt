@@ -137,7 +137,7 @@ module _ (t : Task) (A : ℕ → Bool) where
         let K = named t A v in
         let both = and_split (any_below (size_of t v) K) (not (settled t A v)) kept in
         let first = any_below_elim (size_of t v) K both.0 in
-        let some-named = count_strict K (size_of t v) first.0 first.1 first.2 in
+        let some_named = count_strict K (size_of t v) first.0 first.1 first.2 in
         split_le (size_of t v) 1
         (λ one. clash (one_value_settled v known one) (not-true (settled t A v) both.1))
         (λ more.

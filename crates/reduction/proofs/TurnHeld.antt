@@ -61,13 +61,13 @@ module _ (o : OriginArrays) where
 
 -- what a turn reduces the task to, with its origins
 module _ (d : Arrays) (numbers ranges values acts kept : List ℕ) (ready : TurnReady d (origin_arrays d.variables d.actions numbers ranges values acts) kept)
-    (dr : Arrays) (later-numbers later-ranges later-values later-acts : List ℕ)
-    (fills : Fills (held d) kept d.actions dr (origin_arrays dr.variables dr.actions later-numbers later-ranges later-values later-acts)) where
+    (dr : Arrays) (later_numbers later_ranges later_values later_acts : List ℕ)
+    (fills : Fills (held d) kept d.actions dr (origin_arrays dr.variables dr.actions later_numbers later_ranges later_values later_acts)) where
   abbrev o : OriginArrays
   o = origin_arrays d.variables d.actions numbers ranges values acts
 
   abbrev later : OriginArrays
-  later = origin_arrays dr.variables dr.actions later-numbers later-ranges later-values later-acts
+  later = origin_arrays dr.variables dr.actions later_numbers later_ranges later_values later_acts
 
   abbrev t : Task
   t = held d
@@ -167,17 +167,17 @@ module _ (d : Arrays) (numbers ranges values acts kept : List ℕ) (ready : Turn
     task_left task e = e ∙ ap (λ (r : Task). struck_to r (reached r)) reduced_is
 
     -- with their numbers in the task that the turn found
-    module _ (left-acts : List ℕ) (act : (j : ℕ) → j < left → get_or left-acts j 0 ≡ get_or later.originals (get_or chosen j 0) 0) where
+    module _ (left_acts : List ℕ) (act : (j : ℕ) → j < left → get_or left_acts j 0 ≡ get_or later.originals (get_or chosen j 0) 0) where
       abbrev second : OriginArrays
-      second = origin_arrays later.variables left later.numbers later.sizes later.values left-acts
+      second = origin_arrays later.variables left later.numbers later.sizes later.values left_acts
 
       chosen_below_lem : (j : ℕ) → j < left → get_or chosen j 0 < later.actions
       chosen_below_lem j l = omega (arith, (number_known (is_marked marks) dr.actions chosen left are.are j l).0)
 
-      numbers_are : row_numbers left-acts 0 left ≡ originals (held_origin later) (row_numbers chosen 0 left)
+      numbers_are : row_numbers left_acts 0 left ≡ originals (held_origin later) (row_numbers chosen 0 left)
       unfolding originals held_origin
       numbers_are =
-          row_through left-acts later.originals chosen 0 0 0 left later.actions
+          row_through left_acts later.originals chosen 0 0 0 left later.actions
           (λ j l. let at : j ≡ 0 + j = omega arith in rw (← at) (chosen_below_lem j l))
           (λ j l. let at : j ≡ 0 + j = omega arith in rw (← at) (act j l ∙ ap (λ (n : ℕ). get_or later.originals n 0) (omega arith)))
 
@@ -185,7 +185,7 @@ module _ (d : Arrays) (numbers ranges values acts kept : List ℕ) (ready : Turn
       unfolding held_origin turn_origin kept_actions
       second_is =
           let variables = ap (λ (x : Origin). x.variables) later_is in
-          let actions : row_numbers left-acts 0 left ≡ originals (origin_by t A) (kept_actions (turn_reduced t) (reached (turn_reduced t))) = numbers_are ∙ looked_up in
+          let actions : row_numbers left_acts 0 left ≡ originals (origin_by t A) (kept_actions (turn_reduced t) (reached (turn_reduced t))) = numbers_are ∙ looked_up in
           λ i. record { variables = variables i; actions = actions i }
         where
           looked_up : originals (held_origin later) (row_numbers chosen 0 left) ≡ originals (origin_by t A) (kept_actions (turn_reduced t) (reached (turn_reduced t)))
@@ -203,7 +203,7 @@ module _ (d : Arrays) (numbers ranges values acts kept : List ℕ) (ready : Turn
             values = λ i value l k. omega (arith, size_is i l, ready.origin.values (get_or later.numbers i 0) value (number_below i l) k);
           }
         where
-          act_below : (j : ℕ) → j < left → get_or left-acts j 0 < d.actions
+          act_below : (j : ℕ) → j < left → get_or left_acts j 0 < d.actions
           act_below j l = omega (arith, act j l, original_below (get_or chosen j 0) (chosen_below_lem j l))
 
     -- what the parts of the turn ask
@@ -217,9 +217,9 @@ module _ (d : Arrays) (numbers ranges values acts kept : List ℕ) (ready : Turn
           few_values = λ i l. let known : i < d.variables = omega (arith, variables_few) in omega (arith, size_held d i known, valid.size_most i);
         }
 
-    pub later_numbered : (left-acts : List ℕ) → ((j : ℕ) → j < left → get_or left-acts j 0 ≡ get_or later.originals (get_or chosen j 0) 0) → KeptNumbered later-numbers dr.variables left-acts left
-    later_numbered left-acts act =
-        let k = composable left-acts act in
+    pub later_numbered : (left_acts : List ℕ) → ((j : ℕ) → j < left → get_or left_acts j 0 ≡ get_or later.originals (get_or chosen j 0) 0) → KeptNumbered later_numbers dr.variables left_acts left
+    later_numbered left_acts act =
+        let k = composable left_acts act in
         record {
           variables = record { few = reduced_few; known = λ i l. omega (arith, k.variables.known i l, valid.variables_few, variables_held d) };
           actions = record { few = left_numbered.few; known = λ j l. omega (arith, k.actions.known j l, valid.actions_few, actions_held d) };
@@ -288,16 +288,16 @@ module _ (d : Arrays) (numbers ranges values acts kept : List ℕ) (ready : Turn
         record { task = same_task_says t (turn_task t) same; unchanged = sym same; origin = refl; inside = ready.origin }
 
     -- the turn leaves another task
-    module _ (left-acts : List ℕ) (act : (j : ℕ) → j < left → get_or left-acts j 0 ≡ get_or later.originals (get_or chosen j 0) 0)
+    module _ (left_acts : List ℕ) (act : (j : ℕ) → j < left → get_or left_acts j 0 ≡ get_or later.originals (get_or chosen j 0) 0)
         (starts goal costs conditions effects : List ℕ) (struck : held (arrays dr.variables left dr.sizes starts goal costs conditions effects) ≡ struck_to (held dr) R)
-        (numbers' ranges' values' acts' : List ℕ) (both : Composable o (second left-acts act) → Composes o (second left-acts act) (origin_arrays dr.variables left numbers' ranges' values' acts')) where
+        (numbers' ranges' values' acts' : List ℕ) (both : Composable o (second left_acts act) → Composes o (second left_acts act) (origin_arrays dr.variables left numbers' ranges' values' acts')) where
       pub leaves_other : (result : Bool) → result ≡ test → result ≡ false
           → TurnLeaves t (held_origin o) (arrays dr.variables left dr.sizes starts goal costs conditions effects) (origin_arrays dr.variables left numbers' ranges' values' acts') false
       leaves_other result is e =
-          let k = both (composable left-acts act) in
+          let k = both (composable left_acts act) in
           record {
             task = task_left _ struck;
             unchanged = sym (sym unmoved_is ∙ sym is ∙ e);
-            origin = k.origins ∙ ap (composed (held_origin o)) (second_is left-acts act);
+            origin = k.origins ∙ ap (composed (held_origin o)) (second_is left_acts act);
             inside = record { writable = k.writable; values = k.values dr.sizes later_inside };
           }

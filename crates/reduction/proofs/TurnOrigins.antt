@@ -26,22 +26,22 @@ module _ (t : Task) (A : ℕ → Bool) where
   abbrev K : ℕ → Bool
   K = kept_variable t A
 
-  abbrev pub originOfVariable : ℕ → VariableOrigin
-  originOfVariable v = record { variable = v; values = tabulate (size_of t v) (new_value t A v) }
+  abbrev pub origin_of_variable : ℕ → VariableOrigin
+  origin_of_variable v = record { variable = v; values = tabulate (size_of t v) (new_value t A v) }
 
-  numbers : (ns : List ℕ) → map (λ o. o.variable) (map originOfVariable ns) ≡ ns
+  numbers : (ns : List ℕ) → map (λ o. o.variable) (map origin_of_variable ns) ≡ ns
   numbers [] = refl
   numbers (n ∷ ns) = ap (λ (l : List ℕ). n ∷ l) (numbers ns)
 
   -- the variable at a place
-  pub reduced_entry : (i : ℕ) (c : Chosen K (variable_count t) i) → origin_at (origin_by t A) i ≡ originOfVariable c.number
+  pub reduced_entry : (i : ℕ) (c : Chosen K (variable_count t) i) → origin_at (origin_by t A) i ≡ origin_of_variable c.number
   unfolding origin_by kept_variables
   reduced_entry i c =
-      map_entry originOfVariable (chosen_below (variable_count t) K) i (record { variable = 0; values = [] }) 0
+      map_entry origin_of_variable (chosen_below (variable_count t) K) i (record { variable = 0; values = [] }) 0
       (omega (arith, chosen_length K (variable_count t), c.rank, count_strict K (variable_count t) c.number c.below c.passes))
-      ∙ ap originOfVariable (ap (λ (p : ℕ). get_or (chosen_below (variable_count t) K) p 0) (sym c.rank) ∙ chosen_at K (variable_count t) c.number c.below c.passes)
+      ∙ ap origin_of_variable (ap (λ (p : ℕ). get_or (chosen_below (variable_count t) K) p 0) (sym c.rank) ∙ chosen_at K (variable_count t) c.number c.below c.passes)
 
-  variable_fits : (v : ℕ) → v < variable_count t → K v ≡ true → VariableFits t (reduced_by t A) (new_variable t A v) (originOfVariable v)
+  variable_fits : (v : ℕ) → v < variable_count t → K v ≡ true → VariableFits t (reduced_by t A) (new_variable t A v) (origin_of_variable v)
   variable_fits v known kept =
       let long = tabulate_from_length (new_value t A v) 0 (size_of t v) in
       record {
@@ -59,13 +59,13 @@ module _ (t : Task) (A : ℕ → Bool) where
       record {
         actions_long = chosen_length A (action_count t) ∙ sym (chosen_count (reduced_chooses t A));
         actions_rise = chosen_rises A (action_count t);
-        variables_long = length-map (chosen_below n K) originOfVariable ∙ chosen_length K n ∙ sym (reduced_variables t A);
+        variables_long = length-map (chosen_below n K) origin_of_variable ∙ chosen_length K n ∙ sym (reduced_variables t A);
         variables_rise = subst (Rises n) (sym (numbers (chosen_below n K))) (chosen_rises K n);
         variable =
             λ i h.
             let c = chosen K n i (omega (arith, reduced_variables t A)) in
             subst (VariableFits t (reduced_by t A) i) (sym (reduced_entry i c))
-            (subst (λ (k : ℕ). VariableFits t (reduced_by t A) k (originOfVariable c.number)) c.rank (variable_fits c.number c.below c.passes));
+            (subst (λ (k : ℕ). VariableFits t (reduced_by t A) k (origin_of_variable c.number)) c.rank (variable_fits c.number c.below c.passes));
       }
 
 -- striking leaves variables and values
@@ -88,8 +88,8 @@ turn_fits t = struck_fits t (reduced_by t (kept_at t 4)) (origin_by t (kept_at t
 
 -- a task's own
 module _ (t : Task) where
-  abbrev ownVariable : ℕ → VariableOrigin
-  ownVariable v = record { variable = v; values = tabulate (size_of t v) (λ value. value) }
+  abbrev own_variable : ℕ → VariableOrigin
+  own_variable v = record { variable = v; values = tabulate (size_of t v) (λ value. value) }
 
   counted_rise : (n : ℕ) → Rises n (tabulate n (λ i. i))
   counted_rise n =
@@ -102,7 +102,7 @@ module _ (t : Task) where
             rw (tabulate_entry (λ i. i) n i 0 (omega arith), tabulate_entry (λ i. i) n j 0 l') h;
       }
 
-  own_numbers : (from n : ℕ) → map (λ o. o.variable) (tabulate_from from n ownVariable) ≡ tabulate_from from n (λ i. i)
+  own_numbers : (from n : ℕ) → map (λ o. o.variable) (tabulate_from from n own_variable) ≡ tabulate_from from n (λ i. i)
   own_numbers from zero = refl
   own_numbers from (suc n) = ap (λ (l : List ℕ). from ∷ l) (own_numbers (from + 1) n)
 
@@ -113,12 +113,12 @@ module _ (t : Task) where
       record {
         actions_long = tabulate_from_length (λ a. a) 0 (action_count t);
         actions_rise = counted_rise (action_count t);
-        variables_long = tabulate_from_length ownVariable 0 n;
+        variables_long = tabulate_from_length own_variable 0 n;
         variables_rise = subst (Rises n) (sym (own_numbers 0 n)) (counted_rise n);
         variable =
             λ i h.
             let long = tabulate_from_length (λ value. value) 0 (size_of t i) in
-            subst (VariableFits t t i) (sym (tabulate_entry ownVariable n i (record { variable = 0; values = [] }) h))
+            subst (VariableFits t t i) (sym (tabulate_entry own_variable n i (record { variable = 0; values = [] }) h))
             (record {
               long = long;
               inside = λ d l. let l' : d < size_of t i = omega (arith, long) in rw (tabulate_entry (λ value. value) (size_of t i) d 0 l') l';

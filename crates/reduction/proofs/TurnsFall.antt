@@ -106,8 +106,8 @@ module _ (t : Task) (ok : Valid t) (A R : ℕ → Bool) where
   pub struck_leaves : measure t ≤ measure (struck_to (reduced_by t A) R) → Unmoved t A R
   unfolding measure new_variable
   struck_leaves h =
-      let few-left = count_most (action_count (reduced_by t A)) R in
-      let few-kept = count_most (action_count t) A in
+      let few_left = count_most (action_count (reduced_by t A)) R in
+      let few_kept = count_most (action_count t) A in
       let less = passing_sum (kept_variable t A) (weight t) (weight struck) (variable_count t) kept_under dropped_some in
       let same = passing_same (kept_variable t A) (weight t) (weight struck) (variable_count t) kept_under dropped_some
       (omega (arith, struck_measure, struck_actions, chosen_count (reduced_chooses t A))) in
@@ -159,11 +159,11 @@ module _ (t : Task) (ok : Valid t) (A R : ℕ → Bool) where
     own_place : (a : ℕ) → a < action_count t → action_of struck a ≡ action_of t a
     own_place a known =
         let r = reduced_by t A in
-        let in-r : a < action_count r = omega (arith, own_count) in
+        let in_r : a < action_count r = omega (arith, own_count) in
         let left : count_below a R ≡ a = rank_own R a (λ b l. still.left b (omega arith)) in
         let kept : count_below a A ≡ a = rank_own A a (λ b l. still.kept b (omega arith)) in
         ap (action_of struck) (sym left)
-        ∙ kept_action (struck_chooses r R) a in-r (still.left a in-r)
+        ∙ kept_action (struck_chooses r R) a in_r (still.left a in_r)
         ∙ ap (action_of r) (sym kept)
         ∙ kept_action (reduced_chooses t A) a known (still.kept a known)
         ∙ own_action a

@@ -24,7 +24,7 @@ use Rattle.reduction.specs.Turns.{struck_to}
 use Rattle.reduction.proofs.StruckCorresponds.{struck_chooses}
 use Rattle.reduction.proofs.KeptActions.{original_of, reduced_chooses, chosen_count, original_known, original_kept, chosen_action, kept_action}
 use Rattle.reduction.proofs.KeptVariables.{reduced_size}
-use Rattle.reduction.proofs.KeptFacts.{NamedFacts, reducedPair, new_variable_injective, goal_named, conditions_named}
+use Rattle.reduction.proofs.KeptFacts.{NamedFacts, reduced_pair, new_variable_injective, goal_named, conditions_named}
 use Rattle.reduction.proofs.ReducedValid.{count_all, count_fewer, two_values}
 
 -- as many pass as there are: each passes, and each number is its own rank
@@ -61,12 +61,12 @@ module _ (t : Task) where
   measure_most = omega (arith, sum_order (variable_count t) (weight t) (size_of t) (λ v l. weight_most v))
 
   -- the weight is one less than the size, or the size
-  weight-cases {ℓ} : {X : Type ℓ} (v : ℕ)
+  weight_cases {ℓ} : {X : Type ℓ} (v : ℕ)
       → ((last : ℕ) → size_of t v ≡ suc last → 1 ≤ last → named_by_any t v last ≡ false → weight t v ≡ last → X)
       → (weight t v ≡ size_of t v → X)
       → X
   unfolding weight last_spare
-  weight-cases v spare whole =
+  weight_cases v spare whole =
       split (last_spare t v)
       (λ e.
       let both = and_split (leb 2 (size_of t v)) (not (named_by_any t v (size_of t v - 1))) e in
@@ -75,7 +75,7 @@ module _ (t : Task) where
       (λ e. whole (omega (arith, bit_false (last_spare t v) e)))
 
   pub weight_least : (v : ℕ) → 1 ≤ size_of t v → 1 ≤ weight t v
-  weight_least v some = weight-cases v (λ last size two free e. omega arith) (λ e. omega arith)
+  weight_least v some = weight_cases v (λ last size two free e. omega arith) (λ e. omega arith)
 
   weight_spare : (v last : ℕ) → size_of t v ≡ suc last → 1 ≤ last → named_by_any t v last ≡ false → weight t v ≡ last
   unfolding weight last_spare
@@ -118,12 +118,12 @@ module _ (t : Task) (ok : Valid t) (A R : ℕ → Bool) where
       let value : new_value t A p.variable p.value ≡ count_below p.value (named t A p.variable) = rw fact.0 in
       omega (
         arith,
-        sym value ∙ admits_value (reducedPair t A p) d here.1,
+        sym value ∙ admits_value (reduced_pair t A p) d here.1,
         count_strict (named t A p.variable) (size_of t p.variable) p.value fact.1.inside fact.0,
         ap (named_count t A) same,
       ))
       later
-      (fact_cases (reducedPair t A p) (reduced_pairs t A ps) (new_variable t A v) d (rw k at h)))
+      (fact_cases (reduced_pair t A p) (reduced_pairs t A ps) (new_variable t A v) d (rw k at h)))
       (λ k. later (rw k at h))
 
   -- an action of the struck task is the reduced one of a kept action
@@ -182,8 +182,8 @@ module _ (t : Task) (ok : Valid t) (A R : ℕ → Bool) where
         let two = two_values t A ok v known kv in
         let free = split (named_by_any struck (new_variable t A v) c) (λ n. absurd (omega (arith, struck_named v c kv n))) (λ n. n) in
         let light : now ≡ c = weight_spare struck (new_variable t A v) c (struck_size v known kv ∙ size) (omega arith) free in
-        weight-cases t v
-        (λ last was two-or-more unnamed heavy.
+        weight_cases t v
+        (λ last was two_or_more unnamed heavy.
         let off : K last ≡ false = split (K last) (λ n. clash (named_any t A v last n) unnamed) (λ n. n) in
         let rest : c ≡ count_below last K = ap (λ (n : ℕ). count_below n K) was ∙ omega (arith, bit_false (K last) off) in (
           omega (arith, count_most last K),
@@ -203,8 +203,8 @@ module _ (t : Task) (ok : Valid t) (A R : ℕ → Bool) where
     all_named e =
         let full = count_all K (size_of t v) e in
         let size : new_size t A v ≡ size_of t v = rw e (omega arith) in
-        weight-cases t v
-        (λ last was two-or-more unnamed heavy.
+        weight_cases t v
+        (λ last was two_or_more unnamed heavy.
         clash (named_any t A v last (full_passes K (size_of t v) (omega arith) last (omega arith))) unnamed)
         (λ heavy. (
           omega (arith, weight_most struck (new_variable t A v), struck_size v known kv),

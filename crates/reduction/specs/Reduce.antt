@@ -20,9 +20,9 @@ origins_file t level signer = origin_file (origins_at t level) signer
 
 -- the room for the files of a task and its origins, before either is written
 unfoldable pub files_fit : Task → Origin → ℕ → ℕ → ℕ → Outcome
-files_fit t origins signer reducedRoom originRoom =
-    fits (length (task_file t signer)) reducedRoom
-    (fits (length (origin_file origins signer)) originRoom
+files_fit t origins signer reduced_room_here origin_room_here =
+    fits (length (task_file t signer)) reduced_room_here
+    (fits (length (origin_file origins signer)) origin_room_here
     done)
 
 -- the four lent buffers

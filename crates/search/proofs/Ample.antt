@@ -156,15 +156,15 @@ module _ (task : List ℕ) (level signer : ℕ) (b : Lent) (octets : Octets task
   marks_never : check_task task ≡ done → (marks_fit (task_of task) (length b.buffers.actions) (length b.buffers.facts)).number ≡ 21 → ⊥
   unfolding marks_fit
   marks_never z e =
-      let facts-room = facts_few (task_of task) (valid task level octets z) in
-      let actions-room = (valid task level octets z).actions_few in
+      let facts_room = facts_few (task_of task) (valid task level octets z) in
+      let actions_room = (valid task level octets z).actions_few in
       done_short (fits_short _ _ done (omega (arith, room.facts)) (fits_short _ _ _ (omega (arith, room.actions)) e))
 
   files_never : check_task task ≡ done → (files_fit (reduced_task (task_of task) level) (origins_at (task_of task) level) signer (length b.buffers.reduced) (length b.buffers.origin)).number ≡ 21 → ⊥
   unfolding files_fit reduced_file origins_file
   files_never z e =
-      let reduced-room : length (task_file (reduced_task (task_of task) level) signer) ≤ 65536 = reduced_small task level octets z signer in
-      let origin-room : length (origin_file (origins_at (task_of task) level) signer) ≤ 5520 = origin_small task level octets z signer in
+      let reduced_room : length (task_file (reduced_task (task_of task) level) signer) ≤ 65536 = reduced_small task level octets z signer in
+      let origin_room : length (origin_file (origins_at (task_of task) level) signer) ≤ 5520 = origin_small task level octets z signer in
       done_short (fits_short _ _ done (omega (arith, room.origin)) (fits_short _ _ _ (omega (arith, room.reduced)) e))
 
   states_never : (states_fit (searched task level) (length b.table)).number ≡ 21 → ⊥

@@ -111,20 +111,20 @@ unfolding found_plan
 plan_is t plan e = rw e refl
 
 -- the plan, where there is one and where there is none
-module _ (t : Task) (original : List ℕ → List ℕ) (signer planRoom : ℕ) where
-  pub no_plan : (o : Outcome) → first_plan t ≡ none → o ≡ refusal 24 0 → o ≡ plan_fits (map original (first_plan t)) signer planRoom
+module _ (t : Task) (original : List ℕ → List ℕ) (signer plan_room : ℕ) where
+  pub no_plan : (o : Outcome) → first_plan t ≡ none → o ≡ refusal 24 0 → o ≡ plan_fits (map original (first_plan t)) signer plan_room
   unfolding plan_fits
   no_plan o e q = rw e q
 
   module _ (plan : List ℕ) (e : first_plan t ≡ some plan) where
-    pub plan_short : (o : Outcome) (needed : ℕ) → needed ≡ length (plan_file (original plan) signer) → planRoom < needed → o ≡ refusal 21 needed
-        → o ≡ plan_fits (map original (first_plan t)) signer planRoom
+    pub plan_short : (o : Outcome) (needed : ℕ) → needed ≡ length (plan_file (original plan) signer) → plan_room < needed → o ≡ refusal 21 needed
+        → o ≡ plan_fits (map original (first_plan t)) signer plan_room
     unfolding plan_fits fits
-    plan_short o needed l h q = rw (e, ← l) (stops_le needed planRoom 21 needed done o _ _ refl refl h q)
+    plan_short o needed l h q = rw (e, ← l) (stops_le needed plan_room 21 needed done o _ _ refl refl h q)
 
-    pub plan_fits_lem : (needed : ℕ) → needed ≡ length (plan_file (original plan) signer) → needed ≤ planRoom → done ≡ plan_fits (map original (first_plan t)) signer planRoom
+    pub plan_fits_lem : (needed : ℕ) → needed ≡ length (plan_file (original plan) signer) → needed ≤ plan_room → done ≡ plan_fits (map original (first_plan t)) signer plan_room
     unfolding plan_fits fits
-    plan_fits_lem needed l h = rw (e, ← l) (goes_le needed planRoom 21 needed done done _ _ refl refl h refl)
+    plan_fits_lem needed l h = rw (e, ← l) (goes_le needed plan_room 21 needed done done _ _ refl refl h refl)
 
 -- the plan where the start state has an entry: its file's length, its cost and steps
 module _ (t : Task) (valid : Valid t) (x : Total) (e : get_or (distances t) (start_number t) none ≡ some x) where

@@ -16,7 +16,7 @@ use Rattle.files.proofs.Logic.{split, split_le, and_split}
 use Rattle.marking.proofs.RoundCount.{sum_alike}
 use Rattle.plans.specs.State.{State, all_hold, applicable, apply}
 use Rattle.plans.specs.Tally.{after_cell}
-use Rattle.plans.proofs.RowStates.{meets_some, after_none, after_some, meetsAt, hold_below, afterRow}
+use Rattle.plans.proofs.RowStates.{meets_some, after_none, after_some, meets_at, hold_below, after_row}
 use Rattle.distances.specs.States.{state_number, state_at}
 use Rattle.distances.specs.Table.{next_state}
 use Rattle.distances.specs.Rows.{row_variables, row_states, row_state, can_reach}
@@ -27,7 +27,7 @@ use Rattle.search.specs.ReadOff.{StepTables, Stepped, HereOf, freed_by, taken_by
 use Rattle.distances.proofs.RowNumbers.{RowInside, number_sum, state_alike}
 use Rattle.distances.proofs.StateLoops.{after_inside, after_number}
 use Rattle.distances.proofs.OneChange.{state_inside, number_weights, weights_below}
-use Rattle.distances.proofs.Predecessors.{reachAt}
+use Rattle.distances.proofs.Predecessors.{reach_at}
 use Rattle.distances.proofs.FactRowLaws.{all_same, reach_holds}
 
 -- what the variables in the set of a word add
@@ -44,11 +44,11 @@ freed_skip here word from (suc r) l h =
 
 -- what a step does to the number, variable by variable
 module _ (sizes conditions effects : List ℕ) (base : ℕ) (s : State) where
-  abbrev freeAt : ℕ → ℕ
-  freeAt v = cond (set_freely conditions effects base v) (row_weight sizes v * s v) 0
+  abbrev free_at : ℕ → ℕ
+  free_at v = cond (set_freely conditions effects base v) (row_weight sizes v * s v) 0
 
-  one_balance : (v : ℕ) → meetsAt conditions base s v ≡ true
-      → row_weight sizes v * afterRow effects base s v + (row_weight sizes v * asked_of conditions effects base v + freeAt v) ≡ row_weight sizes v * s v + row_weight sizes v * set_by effects base v
+  one_balance : (v : ℕ) → meets_at conditions base s v ≡ true
+      → row_weight sizes v * after_row effects base s v + (row_weight sizes v * asked_of conditions effects base v + free_at v) ≡ row_weight sizes v * s v + row_weight sizes v * set_by effects base v
   unfolding set_by asked_of set_freely
   one_balance v met =
       let w = row_weight sizes v in
@@ -64,8 +64,8 @@ module _ (sizes conditions effects : List ℕ) (base : ℕ) (s : State) where
       let is : c ≡ s v = eqb-true c (s v) (meets_some c (s v) (eqb-false c 255 asked) ∙ met) in
       rw (yes, asked, new, ← is) (omega arith)))
 
-  balance : (n : ℕ) → ((v : ℕ) → v < n → meetsAt conditions base s v ≡ true)
-      → weighted sizes (afterRow effects base s) n + (weighted sizes (asked_of conditions effects base) n + sum_below n freeAt) ≡ weighted sizes s n + weighted sizes (set_by effects base) n
+  balance : (n : ℕ) → ((v : ℕ) → v < n → meets_at conditions base s v ≡ true)
+      → weighted sizes (after_row effects base s) n + (weighted sizes (asked_of conditions effects base) n + sum_below n free_at) ≡ weighted sizes s n + weighted sizes (set_by effects base) n
   unfolding weighted
   balance zero met = refl
   balance (suc n) met = omega (arith, one_balance n (met n (omega arith)), balance n (λ v h. met v (omega arith)))
@@ -77,39 +77,39 @@ module _ (n actions : ℕ) (sizes costs conditions effects rows moves : List ℕ
   state = row_state n sizes s
 
   abbrev after : State
-  after = afterRow effects (64 * a) state
+  after = after_row effects (64 * a) state
 
   applies : in_words here 0 a ≡ in_words rows (8 * most_facts) a && all_hold (row_pairs conditions (64 * a) 0 n) state
   unfolding can_reach leads_to_fact
   applies =
       known.actions_are a (omega (arith, tables.asked.actions_few))
       ∙ ap (λ (b : Bool). in_words rows (8 * most_facts) a && b)
-      (all_same n (λ v. in_words rows (8 * fact_number sizes v (state v)) a) (reachAt conditions conditions (64 * a) state)
+      (all_same n (λ v. in_words rows (8 * fact_number sizes v (state v)) a) (reach_at conditions conditions (64 * a) state)
       (λ v h. tables.rows_are v (state v) a h (state_inside sizes n tables.asked.size_least s v h) inside)
       ∙ reach_holds conditions (64 * a) n state)
 
   -- the variables that it sets freely
-  abbrev free-word : ℕ
-  free-word = get_or moves (3 * a + 2) 0
+  abbrev free_word : ℕ
+  free_word = get_or moves (3 * a + 2) 0
 
-  freed_variables : freed_by here free-word n ≡ sum_below n (freeAt sizes conditions effects (64 * a) state)
+  freed_variables : freed_by here free_word n ≡ sum_below n (free_at sizes conditions effects (64 * a) state)
   unfolding freed_by
   freed_variables =
-      sum_alike n (λ v. cond (in_word free-word v) (get_or here (8 + v) 0) 0) (freeAt sizes conditions effects (64 * a) state)
+      sum_alike n (λ v. cond (in_word free_word v) (get_or here (8 + v) 0) 0) (free_at sizes conditions effects (64 * a) state)
       (λ v h.
       let free = tables.moves_are.free a v inside (omega (arith, tables.asked.variables_few)) ∙ ap (λ (b : Bool). b && set_freely conditions effects (64 * a) v) (lt-ltb v n h) in
       ap₂ (λ (b : Bool) (x : ℕ). cond b x 0) free (known.added v h))
 
-  freed_is : freed_by here free-word 64 ≡ sum_below n (freeAt sizes conditions effects (64 * a) state)
+  freed_is : freed_by here free_word 64 ≡ sum_below n (free_at sizes conditions effects (64 * a) state)
   freed_is =
-      freed_skip here free-word n 64 tables.asked.variables_few
+      freed_skip here free_word n 64 tables.asked.variables_few
       (λ k b c. tables.moves_are.free a k inside c ∙ ap (λ (x : Bool). x && set_freely conditions effects (64 * a) k) (le-ltb k n b))
       ∙ freed_variables
 
   -- the number after it
   module _ (yes : in_words here 0 a ≡ true) where
-    met : (v : ℕ) → v < n → meetsAt conditions (64 * a) state v ≡ true
-    met = all_below_elim n (meetsAt conditions (64 * a) state) (sym (hold_below conditions (64 * a) state n) ∙ (and_split (in_words rows (8 * most_facts) a) _ (sym applies ∙ yes)).1)
+    met : (v : ℕ) → v < n → meets_at conditions (64 * a) state v ≡ true
+    met = all_below_elim n (meets_at conditions (64 * a) state) (sym (hold_below conditions (64 * a) state n) ∙ (and_split (in_words rows (8 * most_facts) a) _ (sym applies ∙ yes)).1)
 
     after_balance : weighted sizes after n + taken_by here moves a ≡ s + get_or moves (3 * a) 0
     unfolding taken_by
@@ -166,7 +166,7 @@ module _ (t : Task) (n actions : ℕ) (sizes costs rows moves : List ℕ) (k : S
       applies n actions sizes costs k.conditions k.effects rows moves k.tables s here known below a inside
       ∙ ap (λ (b : Bool). in_words rows (8 * most_facts) a && b) (sym holds_is)
 
-  next_is : state_number (row_variables n sizes k.starts) (afterRow k.effects (64 * a) (row_state n sizes s)) ≡ next_state t a s
+  next_is : state_number (row_variables n sizes k.starts) (after_row k.effects (64 * a) (row_state n sizes s)) ≡ next_state t a s
   unfolding next_state row_action
   next_is =
       after_number sizes k.effects (64 * a) n (row_state n sizes s) k.starts (action_of t a) _ (ap (λ (x : Action). x.effects) (k.actions_are a inside)) refl
@@ -176,5 +176,5 @@ module _ (t : Task) (n actions : ℕ) (sizes costs rows moves : List ℕ) (k : S
   pub goes_is : in_words here 0 a ≡ true → goes_by here moves s a ≡ next_state t a s
   goes_is there =
       goes_number n actions sizes costs k.conditions k.effects rows moves k.tables s here known below a inside there
-      ∙ sym (number_sum sizes k.starts (afterRow k.effects (64 * a) (row_state n sizes s)) n)
+      ∙ sym (number_sum sizes k.starts (after_row k.effects (64 * a) (row_state n sizes s)) n)
       ∙ next_is

@@ -145,4 +145,4 @@ module _ (here moves : List ℕ) (s a : ℕ) (b : Bool) (is : b ≡ in_words her
 
   pub goes_further : b ≡ true → (freed : ℕ) → freed ≡ freed_by here (get_or moves (3 * a + 2) 0) 64 → s + get_or moves (3 * a) 0 - get_or moves (3 * a + 1) 0 - freed ≡ goes_by here moves s a
   unfolding goes_by taken_by
-  goes_further e freed k = let yes-here = sym is ∙ e in rw yes-here (omega arith)
+  goes_further e freed k = let yes_here = sym is ∙ e in rw yes_here (omega arith)

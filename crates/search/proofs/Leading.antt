@@ -80,9 +80,9 @@ module _ (t : Task) (look : ℕ → Entry) (searched : Searched) (s : ℕ) (here
     has_not : in_words here 0 a ≡ false → has_by (action_of t a) next (look s) ≡ tight t (distances t) s a
     unfolding has_by
     has_not e =
-        let same-state : n ≡ s =
+        let same_state : n ≡ s =
         goes ∙ goes_nowhere searched.variables searched.actions k.sizes costs k.stepped.conditions k.stepped.effects k.rows moves k.stepped.tables s here k.here_of k.below a h e in
-        ap (λ (m : ℕ). has_by (action_of t a) (look m) (look s)) same-state
+        ap (λ (m : ℕ). has_by (action_of t a) (look m) (look s)) same_state
         ∙ rw k.own_near (step_other (action_of t a) (look s))
         ∙ sym (passed_over a h e)
 

@@ -26,8 +26,8 @@ use Rattle.search.proofs.ReadOff.{Found, found, steps_length}
 
 -- the task from another state on: its start state is that one, all else is as before
 module _ (t : Task) (n : ℕ) where
-  abbrev startsAt : ℕ → Variable
-  startsAt v = variable (size_of t v) (state_at t.variables n v)
+  abbrev starts_at : ℕ → Variable
+  starts_at v = variable (size_of t v) (state_at t.variables n v)
 
   started_value : (v : ℕ) → start_state (started_at t n) v ≡ state_at t.variables n v
   unfolding start_state started_at
@@ -35,9 +35,9 @@ module _ (t : Task) (n : ℕ) where
       split_le (variable_count t) v
       (λ l.
       ap (λ (x : Variable). x.start)
-      (get_or-eq_default (tabulate (variable_count t) startsAt) (variable 0 0) (omega (arith, tabulate_from_length startsAt 0 (variable_count t))))
+      (get_or-eq_default (tabulate (variable_count t) starts_at) (variable 0 0) (omega (arith, tabulate_from_length starts_at 0 (variable_count t))))
       ∙ sym (state_past t.variables n v l))
-      (λ l. ap (λ (x : Variable). x.start) (tabulate_entry startsAt (variable_count t) v (variable 0 0) l))
+      (λ l. ap (λ (x : Variable). x.start) (tabulate_entry starts_at (variable_count t) v (variable 0 0) l))
 
   started_state : start_state (started_at t n) ≡ state_at t.variables n
   started_state = fun_ext started_value
@@ -148,7 +148,7 @@ module _ (t : Task) (valid : Valid t) where
       subst (PlanFirst t) (sym (first_plan_none t e))
       (λ plan p. distances_none t valid (start_number t) (start_below t valid) e plan (plan_numbers_lem t valid plan p)))
       (λ x e.
-      let length-read : length (steps_read t) ≡ x.steps = steps_length t valid (start_number t) x (start_below t valid) e in
+      let length_read : length (steps_read t) ≡ x.steps = steps_length t valid (start_number t) x (start_below t valid) e in
       subst (PlanFirst t) (sym (first_plan_some t x e))
       (found_first t valid (steps_read t) (found_read x e), omega (arith, steps_few t valid (start_number t) x (start_below t valid) e)))
 

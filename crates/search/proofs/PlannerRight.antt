@@ -122,10 +122,10 @@ module _ (task : List ℕ) (level signer : ℕ) (b : Lent) (octets : Octets task
   abbrev found : Outcome
   found = plan_fits (plan_found task level) signer (length b.plan)
 
-  abbrev search-row : List (Stage SearchBuffers)
-  search-row = search_stages (searched task level) (plan_found task level) signer (search_buffers b.table b.plan)
+  abbrev search_row : List (Stage SearchBuffers)
+  search_row = search_stages (searched task level) (plan_found task level) signer (search_buffers b.table b.plan)
 
-  search_is : outcome_of search-row ≡ and_then found done
+  search_is : outcome_of search_row ≡ and_then found done
   unfolding search_stages
   search_is = both_yes _ _ states_done
 
@@ -133,14 +133,14 @@ module _ (task : List ℕ) (level signer : ℕ) (b : Lent) (octets : Octets task
   stage = row_is task level signer b ∙ both_yes _ _ reduced_done ∙ search_is
 
   -- the buffers of the row are those of its second half, with the files beside them
-  after_is : after ≡ lent (with_files t level signer b.buffers) (left_by search-row (search_buffers b.table b.plan)).table (left_by search-row (search_buffers b.table b.plan)).plan
+  after_is : after ≡ lent (with_files t level signer b.buffers) (left_by search_row (search_buffers b.table b.plan)).table (left_by search_row (search_buffers b.table b.plan)).plan
   unfolding plan_stages
   after_is =
       left_both (map (beside (λ (x : Buffers). lent x b.table b.plan)) (reduce_file_stages task level signer b.buffers)) _ b (ap is_done (outcome_beside _ (reduce_file_stages task level signer b.buffers)) ∙ reduced_done)
-      ∙ ap (left_by (map (beside besides) search-row))
+      ∙ ap (left_by (map (beside besides) search_row))
       (left_beside (λ (x : Buffers). lent x b.table b.plan) (reduce_file_stages task level signer b.buffers) b.buffers
       ∙ ap (λ (x : Buffers). lent x b.table b.plan) (buffers_fit task level signer b.buffers e v s long.buffers))
-      ∙ left_beside besides search-row (search_buffers b.table b.plan)
+      ∙ left_beside besides search_row (search_buffers b.table b.plan)
     where
       besides : SearchBuffers → Lent
       besides x = lent (with_files t level signer b.buffers) x.table x.plan

@@ -174,8 +174,8 @@ module _ (t : Task) (valid : Valid t) where
       has : get_or (distances t) n none ≡ some (total_of t (action_from t n ∷ plan))
       has =
           let same_next : some d.next ≡ some (total_of t plan) = sym d.reached ∙ f.value in
-          let next-total : d.next ≡ total_of t plan = cc in
-          d.value ∙ ap (λ (x : Total). some (add_step (action_of t (action_from t n)) x)) next-total ∙ total_step t (action_from t n) plan
+          let next_total : d.next ≡ total_of t plan = cc in
+          d.value ∙ ap (λ (x : Total). some (add_step (action_of t (action_from t n)) x)) next_total ∙ total_step t (action_from t n) plan
 
       least : (other : List ℕ) → RunsFrom t n other → get_or (distances t) n none ≡ some (total_of t other) → not_after (action_from t n ∷ plan) other ≡ true
       least [] r v = clash r g

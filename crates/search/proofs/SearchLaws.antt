@@ -191,16 +191,16 @@ module _ (first : Reduced) (reduced origin : List ℕ) (table : List Entry) (sea
         → (searched.outcome.number ≡ 0 → is_none e ≡ false → 16 + 2 * steps_of e ≤ length plan → begun ≡ whole searched.states e (length plan) → P)
         → P
     unfolding found_by
-    cases refused None-found short done-found =
+    cases refused None_found short done_found =
         split (is_done searched.outcome)
         (λ y.
         let z = done_number searched.outcome y in
         let is : begun ≡ plan_by searched.states e (length plan) = b.found ∙ rw y refl in
         split (is_none e)
-        (λ far. None-found z far (is ∙ plan_none searched.states e (length plan) far))
+        (λ far. None_found z far (is ∙ plan_none searched.states e (length plan) far))
         (λ near.
         split_le (16 + 2 * steps_of e) (length plan)
-        (λ h. done-found z near h (is ∙ plan_whole_lem searched.states e (length plan) near h))
+        (λ h. done_found z near h (is ∙ plan_whole_lem searched.states e (length plan) near h))
         (λ h. short z near h (is ∙ plan_room searched.states e (length plan) near h))))
         (λ n. refused (λ w. clash (is_done_lem searched.outcome w) n) (b.found ∙ rw n refl))
 
@@ -237,34 +237,34 @@ module _ (first : Reduced) (reduced origin : List ℕ) (table : List Entry) (sea
           (λ z near h q. absurd (not_done z))
           (λ z near h q. absurd (not_done z))
 
-      abbrev Searched-to : Found → List Entry → List ℕ → Type 0
-      Searched-to found entries file = Searches t (by_origin_file origins) signer (search_buffers table plan) found (search_buffers entries file)
+      abbrev Searched_to : Found → List Entry → List ℕ → Type 0
+      Searched_to found entries file = Searches t (by_origin_file origins) signer (search_buffers table plan) found (search_buffers entries file)
 
-      same_search : (f : Found) (entries : List Entry) (file : List ℕ) → r ≡ f → now ≡ entries → plan₃ ≡ file → Searched-to f entries file → Searched-to r now plan₃
+      same_search : (f : Found) (entries : List Entry) (file : List ℕ) → r ≡ f → now ≡ entries → plan₃ ≡ file → Searched_to f entries file → Searched_to r now plan₃
       same_search f entries file p q w x = record { answer = p ∙ x.answer; buffers = ap₂ search_buffers q w ∙ x.buffers }
 
       -- too many states, or no room for the table
-      searches_early : first.outcome.number ≡ 0 → (searched.outcome.number ≡ 0 → ⊥) → begun ≡ not_found 0 searched.outcome → Searched-to r now plan₃
+      searches_early : first.outcome.number ≡ 0 → (searched.outcome.number ≡ 0 → ⊥) → begun ≡ not_found 0 searched.outcome → Searched_to r now plan₃
       searches_early y d q =
           same_search (not_found 0 searched.outcome) table plan (ends.found ∙ q) (same_table (no_states d)) (same_plan 0 searched.outcome q (is_refused searched.outcome d))
           (search_early t (by_origin_file origins) signer table plan searched.outcome (k.searched_in y).outcome d)
 
       -- no plan, or no room for it
       searches_late : (z : searched.outcome.number ≡ 0) (o : Outcome) → begun ≡ not_found searched.states o → (o.number ≡ 0 → ⊥)
-          → o ≡ plan_fits (map (by_origin_file origins) (first_plan t)) signer (length plan) → Searched-to r now plan₃
+          → o ≡ plan_fits (map (by_origin_file origins) (first_plan t)) signer (length plan) → Searched_to r now plan₃
       searches_late z o q d p =
           same_search (not_found (state_count t.variables) o) now plan (ends.found ∙ q ∙ ap (λ (n : ℕ). not_found n o) (found z).states) refl (same_plan searched.states o q (is_refused o d))
           (search_late t (by_origin_file origins) signer table plan (fit z) now (now_is z) o p d)
 
       -- the plan is written
       module _ (z : searched.outcome.number ≡ 0) (near : is_none e ≡ false) where
-        abbrev length-needed : 16 + 2 * steps_of e ≡ length (plan_file (by_origin_file origins (steps_read t)) signer)
-        length-needed = read_needed t (valid z) (entry_total e) (start_total z near) origins signer (16 + 2 * steps_of e) refl
+        abbrev length_needed : 16 + 2 * steps_of e ≡ length (plan_file (by_origin_file origins (steps_read t)) signer)
+        length_needed = read_needed t (valid z) (entry_total e) (start_total z near) origins signer (16 + 2 * steps_of e) refl
 
-        searches_short : length plan < 16 + 2 * steps_of e → begun ≡ not_found searched.states (refusal 21 (16 + 2 * steps_of e)) → Searched-to r now plan₃
+        searches_short : length plan < 16 + 2 * steps_of e → begun ≡ not_found searched.states (refusal 21 (16 + 2 * steps_of e)) → Searched_to r now plan₃
         searches_short h q =
             searches_late z (refusal 21 (16 + 2 * steps_of e)) q (refusal_number (refusal 21 (16 + 2 * steps_of e)) 21 (16 + 2 * steps_of e) (omega arith) refl)
-            (plan_short t (by_origin_file origins) signer (length plan) (steps_read t) (read_plan_lem t (valid z) (entry_total e) (start_total z near)) (refusal 21 (16 + 2 * steps_of e)) (16 + 2 * steps_of e) length-needed h refl)
+            (plan_short t (by_origin_file origins) signer (length plan) (steps_read t) (read_plan_lem t (valid z) (entry_total e) (start_total z near)) (refusal 21 (16 + 2 * steps_of e)) (16 + 2 * steps_of e) length_needed h refl)
 
         module _ (h : 16 + 2 * steps_of e ≤ length plan) (q : begun ≡ whole searched.states e (length plan)) where
           total : total_of t (found_plan t) ≡ entry_total e
@@ -290,15 +290,15 @@ module _ (first : Reduced) (reduced origin : List ℕ) (table : List Entry) (sea
               (steps.steps_of_lem t (plan_in z near begun.steps.0 n) ∙ ap (λ (l : List ℕ). placed plan₁ 4 (number_bytes (by_origin_file l (found_plan t)))) (same_origins z))
               ends.ended
 
-          searches_done : Searched-to r now plan₃
+          searches_done : Searched_to r now plan₃
           unfolding found_plan
           searches_done =
               let read = read_plan_lem t (valid z) (entry_total e) (start_total z near) in
               search_done t (by_origin_file origins) signer table plan (fit z) now (now_is z)
-              (plan_fits_lem t (by_origin_file origins) signer (length plan) (steps_read t) read (16 + 2 * steps_of e) length-needed h) r found_whole_lem plan₃
+              (plan_fits_lem t (by_origin_file origins) signer (length plan) (steps_read t) read (16 + 2 * steps_of e) length_needed h) r found_whole_lem plan₃
               (file_is ∙ ap (λ (l : List ℕ). overwrite plan (plan_file l signer)) (sym (plan_made_lem t (steps_read t) (by_origin_file origins) read)))
 
-      searches : first.outcome.number ≡ 0 → Searched-to r now plan₃
+      searches : first.outcome.number ≡ 0 → Searched_to r now plan₃
       searches y =
           cases
           (searches_early y)

@@ -47,8 +47,8 @@ module _ (first : Reduced) (found : Found) where
   unfolding both_together
   together_refused p e d = rw (is_refused found.outcome d) e
 
-  abbrev both-planned : Planned
-  both-planned =
+  abbrev both_planned : Planned
+  both_planned =
       record {
         outcome = found.outcome;
         action_marks = first.action_marks;
@@ -63,7 +63,7 @@ module _ (first : Reduced) (found : Found) where
         steps = found.steps;
       }
 
-  pub together_done : found.outcome.number ≡ 0 → both-planned ≡ both_together first found
+  pub together_done : found.outcome.number ≡ 0 → both_planned ≡ both_together first found
   unfolding both_together
   together_done z = rw (is_done_lem found.outcome z) refl
 
@@ -77,17 +77,17 @@ module _ (task : List ℕ) (level signer : ℕ) (before : Buffers) (first : Redu
   abbrev u : Task
   u = searched task taken
 
-  abbrev files-row : List (Stage Buffers)
-  files-row = reduce_file_stages task taken signer before
+  abbrev files_row : List (Stage Buffers)
+  files_row = reduce_file_stages task taken signer before
 
-  row_refused : (first.outcome.number ≡ 0 → ⊥) → is_done (outcome_of files-row) ≡ false
-  row_refused d = split (is_done (outcome_of files-row)) (λ y. absurd (d (ap (λ (x : Reduced). x.outcome.number) (given_whole k y)))) (λ n. n)
+  row_refused : (first.outcome.number ≡ 0 → ⊥) → is_done (outcome_of files_row) ≡ false
+  row_refused d = split (is_done (outcome_of files_row)) (λ y. absurd (d (ap (λ (x : Reduced). x.outcome.number) (given_whole k y)))) (λ n. n)
 
-  row_done : first.outcome.number ≡ 0 → is_done (outcome_of files-row) ≡ true
+  row_done : first.outcome.number ≡ 0 → is_done (outcome_of files_row) ≡ true
   row_done z =
-      split (is_done (outcome_of files-row))
+      split (is_done (outcome_of files_row))
       (λ y. y)
-      (λ n. is_done_lem (outcome_of files-row) (sym (ap (λ (x : Reduced). x.outcome.number) (given_refused k n)) ∙ z))
+      (λ n. is_done_lem (outcome_of files_row) (sym (ap (λ (x : Reduced). x.outcome.number) (given_refused k n)) ∙ z))
 
   -- reduction refuses
   plans_early : (first.outcome.number ≡ 0 → ⊥) → (b now : SearchBuffers) (found : Found) → found ≡ not_found 0 first.outcome → now ≡ b
@@ -95,9 +95,9 @@ module _ (task : List ℕ) (level signer : ℕ) (before : Buffers) (first : Redu
   unfolding plan_stages both_together
   plans_early d b now found f same p q =
       let n = row_refused d in
-      let is : first.outcome ≡ outcome_of files-row = ap (λ (x : Reduced). x.outcome) (given_refused k n) in
+      let is : first.outcome ≡ outcome_of files_row = ap (λ (x : Reduced). x.outcome) (given_refused k n) in
       let no : is_done found.outcome ≡ false = ap (λ (x : Found). is_done x.outcome) f ∙ is_refused first.outcome d in
-      by_first files-row (search_stages u (plan_found task taken) signer b) _ _ before n
+      by_first files_row (search_stages u (plan_found task taken) signer b) _ _ before n
       (q ∙ rw no refl ∙ ap unplanned (ap (λ (x : Found). x.outcome) f ∙ is))
       (λ i. lent (k.buffers i) (same i).table (same i).plan)
 
@@ -106,7 +106,7 @@ module _ (task : List ℕ) (level signer : ℕ) (before : Buffers) (first : Redu
     checked : ((check_task task).number ≡ 0) × (leb 1 signer ≡ true)
     unfolding reduce_stages reduce_input
     checked =
-        let marks = (both_done _ _ (done_number (outcome_of files-row) (row_done z))).0 in
+        let marks = (both_done _ _ (done_number (outcome_of files_row) (row_done z))).0 in
         let input = (both_done (reduce_input task taken signer) _ marks).0 in
         let read = both_done (check_task task) _ input in
         let valid = passed (valid_reduction taken) 8 0 _ (omega arith) read.1 in
@@ -122,20 +122,20 @@ module _ (task : List ℕ) (level signer : ℕ) (before : Buffers) (first : Redu
     files : FilesPreserve task taken signer
     files = reduction_of_files task taken signer octets (task_check_done task checked.0) signed
 
-    abbrev reduced-bytes : List ℕ
-    reduced-bytes = reduced_file t taken signer
+    abbrev reduced_bytes : List ℕ
+    reduced_bytes = reduced_file t taken signer
 
-    abbrev origin-bytes : List ℕ
-    origin-bytes = origins_file t taken signer
+    abbrev origin_bytes : List ℕ
+    origin_bytes = origins_file t taken signer
 
-    same_task_lem : task_of reduced-bytes ≡ u
+    same_task_lem : task_of reduced_bytes ≡ u
     unfolding searched
-    same_task_lem = (task_read_as reduced-bytes (reduced_task t taken) signer files.reduced_reads).1
+    same_task_lem = (task_read_as reduced_bytes (reduced_task t taken) signer files.reduced_reads).1
 
-    same_origin : origin_of origin-bytes ≡ origins_at t taken
-    same_origin = (origin_read_as origin-bytes (origins_at t taken) signer files.origin_reads).1
+    same_origin : origin_of origin_bytes ≡ origins_at t taken
+    same_origin = (origin_read_as origin_bytes (origins_at t taken) signer files.origin_reads).1
 
-    same_numbers : by_origin_file origin-bytes ≡ by_original t taken
+    same_numbers : by_origin_file origin_bytes ≡ by_original t taken
     unfolding by_original by_origin_file
     same_numbers = ap (λ (o : Origin). λ plan. map (λ n. get_or o.actions n 0) plan) same_origin
 
@@ -162,25 +162,25 @@ module _ (task : List ℕ) (level signer : ℕ) (before : Buffers) (first : Redu
     abbrev origins : List ℕ
     origins = take first.origin after.origin
 
-    f : file ≡ reduced-bytes
-    f = part first.reduced reduced-bytes after.reduced before.reduced (ap (λ (x : Reduced). x.reduced) numbers) (ap (λ (x : Buffers). x.reduced) filled)
+    f : file ≡ reduced_bytes
+    f = part first.reduced reduced_bytes after.reduced before.reduced (ap (λ (x : Reduced). x.reduced) numbers) (ap (λ (x : Buffers). x.reduced) filled)
 
-    g : origins ≡ origin-bytes
-    g = part first.origin origin-bytes after.origin before.origin (ap (λ (x : Reduced). x.origin) numbers) (ap (λ (x : Buffers). x.origin) filled)
+    g : origins ≡ origin_bytes
+    g = part first.origin origin_bytes after.origin before.origin (ap (λ (x : Reduced). x.origin) numbers) (ap (λ (x : Buffers). x.origin) filled)
 
     -- what the search asks of the files
     enough_numbers : action_count (task_of file) ≤ length (origin_of origins).actions
     enough_numbers =
-        let actions : action_count (task_of file) ≡ action_count (task_of reduced-bytes) = ap (λ (x : List ℕ). action_count (task_of x)) f in
-        let numbers : length (origin_of origins).actions ≡ length (origin_of origin-bytes).actions = ap (λ (x : List ℕ). length (origin_of x).actions) g in
+        let actions : action_count (task_of file) ≡ action_count (task_of reduced_bytes) = ap (λ (x : List ℕ). action_count (task_of x)) f in
+        let numbers : length (origin_of origins).actions ≡ length (origin_of origin_bytes).actions = ap (λ (x : List ℕ). length (origin_of x).actions) g in
         omega (arith, files.as_many)
 
     files_written : FilesWritten first after.reduced after.origin
     files_written =
         record {
-          reduced_fits = room_for first.reduced reduced-bytes after.reduced before.reduced (ap (λ (x : Reduced). x.reduced) numbers) (ap (λ (x : Buffers). x.reduced) filled);
-          origin_fits = room_for first.origin origin-bytes after.origin before.origin (ap (λ (x : Reduced). x.origin) numbers) (ap (λ (x : Buffers). x.origin) filled);
-          checked = ap check_task f ∙ (task_read_as reduced-bytes (reduced_task t taken) signer files.reduced_reads).0;
+          reduced_fits = room_for first.reduced reduced_bytes after.reduced before.reduced (ap (λ (x : Reduced). x.reduced) numbers) (ap (λ (x : Buffers). x.reduced) filled);
+          origin_fits = room_for first.origin origin_bytes after.origin before.origin (ap (λ (x : Reduced). x.origin) numbers) (ap (λ (x : Buffers). x.origin) filled);
+          checked = ap check_task f ∙ (task_read_as reduced_bytes (reduced_task t taken) signer files.reduced_reads).0;
           numbers = enough_numbers;
         }
 
@@ -191,8 +191,8 @@ module _ (task : List ℕ) (level signer : ℕ) (before : Buffers) (first : Redu
           subst (λ (h : List ℕ → List ℕ). Searches u h signer b found now) (ap by_origin_file g ∙ same_numbers)
           (subst (λ (x : Task). Searches x (by_origin_file origins) signer b found now) (ap task_of f ∙ same_task_lem) w)
 
-      abbrev search-row : List (Stage SearchBuffers)
-      search-row = search_stages u (plan_found task taken) signer b
+      abbrev search_row : List (Stage SearchBuffers)
+      search_row = search_stages u (plan_found task taken) signer b
 
       -- the plan by original numbers
       made : plan_made task taken ≡ by_original t taken (found_plan u)
@@ -200,7 +200,7 @@ module _ (task : List ℕ) (level signer : ℕ) (before : Buffers) (first : Redu
       made = split_option (first_plan u) (λ e. rw e refl) (λ p e. rw e refl)
 
       -- where all is done
-      module _ (y : is_done (outcome_of search-row) ≡ true) where
+      module _ (y : is_done (outcome_of search_row) ≡ true) where
         stages : ((states_fit u (length b.table)).number ≡ 0) × ((plan_fits (plan_found task taken) signer (length b.plan)).number ≡ 0)
         unfolding search_stages
         stages =
@@ -249,31 +249,31 @@ module _ (task : List ℕ) (level signer : ℕ) (before : Buffers) (first : Redu
               steps = record { 0 = (totals i).steps };
             }
 
-      search_whole : is_done (outcome_of search-row) ≡ true → found ≡ found_whole u (by_original t taken) signer
+      search_whole : is_done (outcome_of search_row) ≡ true → found ≡ found_whole u (by_original t taken) signer
       unfolding plan_found
       search_whole y = given_whole searches y
 
-      search_refused : is_done (outcome_of search-row) ≡ false → found ≡ not_found (found_states u (length b.table)) (outcome_of search-row)
+      search_refused : is_done (outcome_of search_row) ≡ false → found ≡ not_found (found_states u (length b.table)) (outcome_of search_row)
       unfolding plan_found
       search_refused n = given_refused searches n
 
-      answer_is : (p : Planned) → p ≡ both_together first found → p ≡ answer_by search-row (plan_whole task taken signer) unplanned
+      answer_is : (p : Planned) → p ≡ both_together first found → p ≡ answer_by search_row (plan_whole task taken signer) unplanned
       unfolding both_together
       answer_is p q =
-          split (is_done (outcome_of search-row))
+          split (is_done (outcome_of search_row))
           (λ y. rw y (q ∙ ap₂ both_together numbers (search_whole y) ∙ whole_is y))
           (λ n.
-          let no : found.outcome ≡ outcome_of search-row = ap (λ (x : Found). x.outcome) (search_refused n) in
+          let no : found.outcome ≡ outcome_of search_row = ap (λ (x : Found). x.outcome) (search_refused n) in
           rw n (q ∙ rw (ap is_done no ∙ n) (ap unplanned no)))
 
-      search_buffers_lem : now ≡ left_by search-row b
+      search_buffers_lem : now ≡ left_by search_row b
       unfolding plan_found
       search_buffers_lem = searches.buffers
 
       plans_late : (p : Planned) → p ≡ both_together first found → Plans task level signer (lent before b.table b.plan) p (lent after now.table now.plan)
       unfolding plan_stages
       plans_late p q =
-          by_second files-row search-row _ _ before (row_done z) b now
+          by_second files_row search_row _ _ before (row_done z) b now
           (λ i. lent ((sym k.buffers ∙ filled) i) b.table b.plan)
           (λ i. lent (filled i) now.table now.plan)
           (record { answer = answer_is p q; buffers = search_buffers_lem })

@@ -166,7 +166,7 @@ module _ (t : Task) (look : ℕ → Entry) (steps : ℕ) (searched : Searched) (
           let totals : w.total ≡ add_step (action_of t (action_from t s)) onward.next = cc in
           let less : onward.next.minutes ≤ w.total.minutes = omega (arith, ap (λ (y : Total). y.minutes) totals, add_step_minutes (action_of t (action_from t s)) onward.next) in
           let rest_of = w.limit - 1 in
-          let plan-from : steps_from t row s w.limit ≡ r.action.0 ∷ steps_from t row next rest_of =
+          let plan_from : steps_from t row s w.limit ≡ r.action.0 ∷ steps_from t row next rest_of =
           ap (steps_from t row s) (one_more w.limit (omega (arith, fewer, w.enough)))
           ∙ steps_more t row s rest_of not_goal
           ∙ ap₂ (λ (m l : ℕ). m ∷ steps_from t row l rest_of) (sym from_is) (sym there) in
@@ -180,7 +180,7 @@ module _ (t : Task) (look : ℕ → Entry) (steps : ℕ) (searched : Searched) (
             enough = omega (arith, fewer, w.enough);
             rest =
                 placed_u16_then buffer after (4 + 2 * i) (4 + 2 * suc i) (get_or (origin_of origin).actions r.action.0 0) (number_bytes (by_origin_file origin (steps_from t row next rest_of))) p (omega arith)
-                ∙ ap (placed buffer (4 + 2 * i)) (sym (written_next origin (steps_from t row s w.limit) (steps_from t row next rest_of) r.action.0 plan-from))
+                ∙ ap (placed buffer (4 + 2 * i)) (sym (written_next origin (steps_from t row s w.limit) (steps_from t row next rest_of) r.action.0 plan_from))
                 ∙ w.rest;
           }
 

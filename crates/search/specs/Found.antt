@@ -30,7 +30,7 @@ use Rattle.search.specs.declared.stages.Searched.{Searched}
 
 -- how many entries of the table are filled
 unfoldable pub found_states : Task → ℕ → ℕ
-found_states t tableRoom = cond (is_done (states_fit t tableRoom)) (state_count t.variables) 0
+found_states t table_room = cond (is_done (states_fit t table_room)) (state_count t.variables) 0
 
 -- a refusal, with so many entries filled
 abbrev pub not_found : ℕ → Outcome → Found

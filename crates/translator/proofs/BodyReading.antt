@@ -87,13 +87,13 @@ module _ (f : Front) (goal : List Pair) (operators : List Operator) (s : List �
   axioms_operators = ap (λ (x : Sas). x.operators) (value_bind (each rule _) _ s _)
 
 module _ (s : List ℕ) (h : Begun) (stated : Cursor) (asked : ReadNumber) (aimed closed : Cursor) (cnt : ReadNumber) (last : Cursor) (outcome : Outcome)
-    (sizes goal₀ goalNow costs₀ costs conditions₀ conditionsNow effects₀ effectsNow : List ℕ)
+    (sizes goal₀ goal_now costs₀ costs conditions₀ conditions_now effects₀ effects_now : List ℕ)
     (e₁ : stated ≡ field_after (word (ascii "end_state\nbegin_goal\n")) s h.cursor)
     (e₂ : asked ≡ number_by (count 64) same s stated)
-    (e₃ : ListRead s asked.cursor asked.value sizes h.variables goal₀ 0 aimed goalNow)
+    (e₃ : ListRead s asked.cursor asked.value sizes h.variables goal₀ 0 aimed goal_now)
     (e₄ : closed ≡ field_after (word (ascii "end_goal\n")) s aimed)
     (e₅ : cnt ≡ number_by (count 512) same s closed)
-    (e₆ : OperatorsRead s cnt.cursor cnt.value (take h.variables sizes) h.metric costs₀ conditions₀ effects₀ last costs conditionsNow effectsNow)
+    (e₆ : OperatorsRead s cnt.cursor cnt.value (take h.variables sizes) h.metric costs₀ conditions₀ effects₀ last costs conditions_now effects_now)
     (e₇ : outcome ≡ ended_at s last) where
   sz : List ℕ
   sz = take h.variables sizes
@@ -193,7 +193,7 @@ module _ (s : List ℕ) (h : Begun) (stated : Cursor) (asked : ReadNumber) (aime
   unfolding ops
   many = each_length (operator sz) s m C₃
 
-  pub body_read : BodyRead s h sizes goal₀ costs₀ conditions₀ effects₀ (record { outcome = outcome; variables = h.variables; actions = cnt.value }) goalNow costs conditionsNow effectsNow
+  pub body_read : BodyRead s h sizes goal₀ costs₀ conditions₀ effects₀ (record { outcome = outcome; variables = h.variables; actions = cnt.value }) goal_now costs conditions_now effects_now
   unfolding sz
   body_read =
       record {
@@ -203,12 +203,12 @@ module _ (s : List ℕ) (h : Begun) (stated : Cursor) (asked : ReadNumber) (aime
         stored = λ f z.
             let all = C₄_open z in
             let read : is_open last ≡ true = ap is_open last_at ∙ all in
-            let ops-are : value_after (each (operator sz) cnt.value) s cnt.cursor ≡ (value_after (behind sz f) s h.cursor).operators = listed all ∙ operators_are f in
+            let ops_are : value_after (each (operator sz) cnt.value) s cnt.cursor ≡ (value_after (behind sz f) s h.cursor).operators = listed all ∙ operators_are f in
             record {
               counted = with_number_value C₃ m cnt cnt_is (C₃_open all) ∙ sym many ∙ ap length (operators_are f);
               goal_read = e₃.row (ap is_open aimed_is ∙ C₂_open (C₃_open all)) ∙ ap (filled (cleared goal₀ 0 64) 0) (aims (C₂_open (C₃_open all)) ∙ goal_is f);
-              costs_read = e₆.costs_read read ∙ ap (λ (l : List Operator). placed costs₀ 0 (map (λ o. cost_by h.metric o.cost) l)) ops-are;
-              conditions_read = e₆.conditions_read read ∙ ap (λ (l : List Operator). filled_rows conditions₀ 0 (map conditions_of l)) ops-are;
-              effects_read = e₆.effects_read read ∙ ap (λ (l : List Operator). filled_rows effects₀ 0 (map effects_of l)) ops-are;
+              costs_read = e₆.costs_read read ∙ ap (λ (l : List Operator). placed costs₀ 0 (map (λ o. cost_by h.metric o.cost) l)) ops_are;
+              conditions_read = e₆.conditions_read read ∙ ap (λ (l : List Operator). filled_rows conditions₀ 0 (map conditions_of l)) ops_are;
+              effects_read = e₆.effects_read read ∙ ap (λ (l : List Operator). filled_rows effects₀ 0 (map effects_of l)) ops_are;
             };
       }

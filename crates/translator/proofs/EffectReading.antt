@@ -232,10 +232,10 @@ module _ (s : List ℕ) (c : Cursor) (sizes : List ℕ) (variables : ℕ) (given
       twice true b = refl
       twice false b = refl
 
-  pub effect_stored : (conditionsNow effectsNow : List ℕ) → conditionsNow ≡ stored_old conditions base n.value before.value → effectsNow ≡ stored effects base n.value new.value
-      → EffectStored s c (take variables sizes) given conditions effects base new.cursor conditionsNow effectsNow
+  pub effect_stored : (conditions_now effects_now : List ℕ) → conditions_now ≡ stored_old conditions base n.value before.value → effects_now ≡ stored effects base n.value new.value
+      → EffectStored s c (take variables sizes) given conditions effects base new.cursor conditions_now effects_now
   unfolding sz P new_pairs filled
-  effect_stored conditionsNow effectsNow e f =
+  effect_stored conditions_now effects_now e f =
       record {
         cursor = cursor_is;
         conditions_row = λ q. let k = opened q in conditions_are k ∙ old_row old (old_fits (O_open k)) ∙ ap (λ (x : Effect). filled conditions base (old_pairs (x ∷ []))) (value_is k);
@@ -243,7 +243,7 @@ module _ (s : List ℕ) (c : Cursor) (sizes : List ℕ) (variables : ℕ) (given
         gives = λ q v.
             let k = opened q in
             let open' : is_open K ≡ true = K_open (O_open k) in
-            let second : is_new effectsNow base v ≡ not (eqb v w) && is_new effects base v =
+            let second : is_new effects_now base v ≡ not (eqb v w) && is_new effects base v =
             ap (λ (l : List ℕ). is_new l base v) (effects_are k) ∙ new_stored effects base w d v (omega (arith, known open')) (omega (arith, new_fits k)) effects_long in
             ap₂ (λ (l : List ℕ) (b : Bool). is_new l base v && b) (conditions_are k) second
             ∙ gather (eqb v w) (is_new (stored_old conditions base w (coded old)) base v) (is_new effects base v)
@@ -258,10 +258,10 @@ module _ (s : List ℕ) (c : Cursor) (sizes : List ℕ) (variables : ℕ) (given
       begun_open : is_open K ≡ true → is_open c ≡ true
       begun_open k = plain_before s c (P_open k)
 
-      conditions_are : is_open N ≡ true → conditionsNow ≡ stored_old conditions base w (coded old)
+      conditions_are : is_open N ≡ true → conditions_now ≡ stored_old conditions base w (coded old)
       conditions_are k = e ∙ ap₂ (stored_old conditions base) (w_is (K_open (O_open k))) (o_is (O_open k))
 
-      effects_are : is_open N ≡ true → effectsNow ≡ stored effects base w d
+      effects_are : is_open N ≡ true → effects_now ≡ stored effects base w d
       effects_are k = f ∙ ap₂ (stored effects base) (w_is (K_open (O_open k))) (d_is k)
 
       gather : (a b c : Bool) → b && (not a && c) ≡ (not a && b) && c

@@ -43,14 +43,14 @@ unfolding new_pairs filled
 filled_new row base e es = refl
 
 -- what is left of the effects, with the variables that were given so far
-pub record EffectsLeft (s sizes first : List ℕ) (base : ℕ) (c : Cursor) (count : ℕ) (conditions₀ effects₀ : List ℕ) (here : Cursor) (left : ℕ) (conditionsNow effectsNow : List ℕ) : Type 0 where
+pub record EffectsLeft (s sizes first : List ℕ) (base : ℕ) (c : Cursor) (count : ℕ) (conditions₀ effects₀ : List ℕ) (here : Cursor) (left : ℕ) (conditions_now effects_now : List ℕ) : Type 0 where
   pub given : List ℕ
   pub cursor : cursor_after (effects sizes given left) s here ≡ cursor_after (effects sizes first count) s c
-  pub cells : is_open here ≡ true → Given conditionsNow effectsNow base given
+  pub cells : is_open here ≡ true → Given conditions_now effects_now base given
   pub conditions_rest : is_open (cursor_after (effects sizes first count) s c) ≡ true
-      → filled conditionsNow base (old_pairs (value_after (effects sizes given left) s here)) ≡ filled conditions₀ base (old_pairs (value_after (effects sizes first count) s c))
+      → filled conditions_now base (old_pairs (value_after (effects sizes given left) s here)) ≡ filled conditions₀ base (old_pairs (value_after (effects sizes first count) s c))
   pub effects_rest : is_open (cursor_after (effects sizes first count) s c) ≡ true
-      → filled effectsNow base (new_pairs (value_after (effects sizes given left) s here)) ≡ filled effects₀ base (new_pairs (value_after (effects sizes first count) s c))
+      → filled effects_now base (new_pairs (value_after (effects sizes given left) s here)) ≡ filled effects₀ base (new_pairs (value_after (effects sizes first count) s c))
 
 pub effects_start : (s sizes first : List ℕ) (base : ℕ) (c : Cursor) (count : ℕ) (conditions₀ before effects₀ : List ℕ) → base + 64 ≤ length before → effects₀ ≡ cleared before base 64
     → (is_open c ≡ true → Given conditions₀ conditions₀ base first) → EffectsLeft s sizes first base c count conditions₀ effects₀ c count conditions₀ effects₀
@@ -63,16 +63,16 @@ effects_start s sizes first base c count conditions₀ before effects₀ h e k =
       effects_rest = λ o. refl;
     }
 
-module _ (s sizes first : List ℕ) (base : ℕ) (c : Cursor) (count : ℕ) (conditions₀ effects₀ : List ℕ) (here : Cursor) (left : ℕ) (conditionsNow effectsNow : List ℕ)
-    (inv : EffectsLeft s sizes first base c count conditions₀ effects₀ here left conditionsNow effectsNow) where
-  pub effects_next : (next : Cursor) (conditionsThen effectsThen : List ℕ) → 0 < left
-      → ((given : List ℕ) → (is_open here ≡ true → Given conditionsNow effectsNow base given) → EffectStored s here sizes given conditionsNow effectsNow base next conditionsThen effectsThen)
-      → EffectsLeft s sizes first base c count conditions₀ effects₀ next (left - 1) conditionsThen effectsThen
+module _ (s sizes first : List ℕ) (base : ℕ) (c : Cursor) (count : ℕ) (conditions₀ effects₀ : List ℕ) (here : Cursor) (left : ℕ) (conditions_now effects_now : List ℕ)
+    (inv : EffectsLeft s sizes first base c count conditions₀ effects₀ here left conditions_now effects_now) where
+  pub effects_next : (next : Cursor) (conditions_then effects_then : List ℕ) → 0 < left
+      → ((given : List ℕ) → (is_open here ≡ true → Given conditions_now effects_now base given) → EffectStored s here sizes given conditions_now effects_now base next conditions_then effects_then)
+      → EffectsLeft s sizes first base c count conditions₀ effects₀ next (left - 1) conditions_then effects_then
   unfolding effects
-  effects_next next conditionsThen effectsThen h q =
+  effects_next next conditions_then effects_then h q =
       let given : List ℕ = inv.given in
       let e : Effect = value_after (effect sizes given) s here in
-      let one : EffectStored s here sizes given conditionsNow effectsNow base next conditionsThen effectsThen = q given inv.cells in
+      let one : EffectStored s here sizes given conditions_now effects_now base next conditions_then effects_then = q given inv.cells in
       let moved : cursor_after (effects sizes (e.variable ∷ given) (left - 1)) s next ≡ cursor_after (effects sizes first count) s c =
       repeat_next (effect sizes) (λ given e. e.variable ∷ given) s given left here next h one.cursor ∙ inv.cursor in
       let es : List Effect = value_after (effects sizes (e.variable ∷ given) (left - 1)) s next in
@@ -83,17 +83,17 @@ module _ (s sizes first : List ℕ) (base : ℕ) (c : Cursor) (count : ℕ) (con
         cells = one.gives;
         conditions_rest = λ o.
             ap (λ (x : List ℕ). filled x base (old_pairs es)) (one.conditions_row (open_before (effects sizes (e.variable ∷ given) (left - 1)) s next (ap is_open moved ∙ o)))
-            ∙ filled_old conditionsNow base e es
-            ∙ sym (ap (λ (l : List Effect). filled conditionsNow base (old_pairs l)) others)
+            ∙ filled_old conditions_now base e es
+            ∙ sym (ap (λ (l : List Effect). filled conditions_now base (old_pairs l)) others)
             ∙ inv.conditions_rest o;
         effects_rest = λ o.
             ap (λ (x : List ℕ). filled x base (new_pairs es)) (one.effects_row (open_before (effects sizes (e.variable ∷ given) (left - 1)) s next (ap is_open moved ∙ o)))
-            ∙ filled_new effectsNow base e es
-            ∙ sym (ap (λ (l : List Effect). filled effectsNow base (new_pairs l)) others)
+            ∙ filled_new effects_now base e es
+            ∙ sym (ap (λ (l : List Effect). filled effects_now base (new_pairs l)) others)
             ∙ inv.effects_rest o;
       }
 
-  pub effects_end : (before : List ℕ) → left ≤ 0 → effects₀ ≡ cleared before base 64 → EffectsStored s c count sizes first conditions₀ before base here conditionsNow effectsNow
+  pub effects_end : (before : List ℕ) → left ≤ 0 → effects₀ ≡ cleared before base 64 → EffectsStored s c count sizes first conditions₀ before base here conditions_now effects_now
   unfolding effects repeat cursor_after value_after old_pairs new_pairs filled
   effects_end before h g =
       let none_left : left ≡ 0 = omega arith in
@@ -101,9 +101,9 @@ module _ (s sizes first : List ℕ) (base : ℕ) (c : Cursor) (count : ℕ) (con
       let empty : value_after (effects sizes inv.given left) s here ≡ [] = ap (λ (n : ℕ). value_after (effects sizes inv.given n) s here) none_left in
       record {
         cursor = moved;
-        conditions_row = λ o. sym (ap (λ (l : List Effect). filled conditionsNow base (old_pairs l)) empty) ∙ inv.conditions_rest (sym (ap is_open moved) ∙ o);
+        conditions_row = λ o. sym (ap (λ (l : List Effect). filled conditions_now base (old_pairs l)) empty) ∙ inv.conditions_rest (sym (ap is_open moved) ∙ o);
         effects_row = λ o.
-            sym (ap (λ (l : List Effect). filled effectsNow base (new_pairs l)) empty)
+            sym (ap (λ (l : List Effect). filled effects_now base (new_pairs l)) empty)
             ∙ inv.effects_rest (sym (ap is_open moved) ∙ o)
             ∙ ap (λ (l : List ℕ). filled l base (new_pairs (value_after (effects sizes first count) s c))) g;
       }

@@ -30,7 +30,7 @@ use Rattle.translator.proofs.NumberReading.{first_byte}
 use Rattle.translator.proofs.ReadingLaws.{open_before}
 use Rattle.translator.proofs.RepeatReading.{each_more, each_value, each_length}
 use Rattle.translator.proofs.StepReading.{with_number_cursor, with_number_value, with_number_is}
-use Rattle.translator.proofs.TextParts.{atMetric, metricIn, behindMetric, atCount, countIn, atVariables, declarationsIn, atGroups, behindGroups, atStarts, variables_in, behindStarts, front_after, front_value}
+use Rattle.translator.proofs.TextParts.{at_metric, metric_in, behind_metric, at_count, count_in, at_variables, declarations_in, at_groups, behind_groups, at_starts, variables_in, behind_starts, front_after, front_value}
 use Rattle.translator.proofs.InsideReading.{after_inside, field_inside, with_number_inside, field_before, after_with_number}
 use Rattle.translator.proofs.VariableReading.{declaration_size}
 
@@ -95,7 +95,7 @@ sizes_stored (suc n) s c o =
     ∙ sym (ap sizes_of (each_value declaration s n c))
 
 module _ (s : List ℕ) (start begun : Cursor) (metric : ReadNumber) (measured : Cursor) (cnt : ReadNumber) (declared grouped opened started : Cursor)
-    (sizes₀ sizes starts₀ startsNow : List ℕ)
+    (sizes₀ sizes starts₀ starts_now : List ℕ)
     (e₀ : start ≡ cursor_at 0)
     (e₁ : begun ≡ field_after (word (ascii "begin_version\n3\nend_version\nbegin_metric\n")) s start)
     (e₂ : metric ≡ metric_after s begun)
@@ -104,89 +104,89 @@ module _ (s : List ℕ) (start begun : Cursor) (metric : ReadNumber) (measured :
     (e₅ : DeclarationsRead s cnt.cursor cnt.value sizes₀ declared sizes)
     (e₆ : grouped ≡ groups_after s declared)
     (e₇ : opened ≡ field_after (word (ascii "begin_state\n")) s grouped)
-    (e₈ : StartsRead s opened cnt.value sizes starts₀ started startsNow)
+    (e₈ : StartsRead s opened cnt.value sizes starts₀ started starts_now)
     (room : 64 ≤ length sizes₀) where
-  metric_is : metric ≡ with_number (behindMetric s) (bit (metricIn s))
-  unfolding metric_after metricIn behindMetric atMetric
+  metric_is : metric ≡ with_number (behind_metric s) (bit (metric_in s))
+  unfolding metric_after metric_in behind_metric at_metric
   metric_is = e₂ ∙ ap (metric_after s) (e₁ ∙ ap (field_after (word (ascii "begin_version\n3\nend_version\nbegin_metric\n")) s) e₀)
 
-  cnt_is : cnt ≡ with_number (atVariables s) (countIn s)
-  unfolding number_by atVariables countIn atCount
-  cnt_is = e₄ ∙ ap (number_by (count 64) same s) (e₃ ∙ ap (field_after (word (ascii "end_metric\n")) s) (with_number_cursor (behindMetric s) _ metric metric_is))
+  cnt_is : cnt ≡ with_number (at_variables s) (count_in s)
+  unfolding number_by at_variables count_in at_count
+  cnt_is = e₄ ∙ ap (number_by (count 64) same s) (e₃ ∙ ap (field_after (word (ascii "end_metric\n")) s) (with_number_cursor (behind_metric s) _ metric metric_is))
 
-  declared_is : declared ≡ atGroups s
-  unfolding atGroups
-  declared_is = e₅.cursor ∙ after_with_number (each declaration) s (atVariables s) (countIn s) cnt cnt_is
+  declared_is : declared ≡ at_groups s
+  unfolding at_groups
+  declared_is = e₅.cursor ∙ after_with_number (each declaration) s (at_variables s) (count_in s) cnt cnt_is
 
-  opened_is : opened ≡ atStarts s
-  unfolding atStarts behindGroups
+  opened_is : opened ≡ at_starts s
+  unfolding at_starts behind_groups
   opened_is = e₇ ∙ ap (field_after (word (ascii "begin_state\n")) s) (e₆ ∙ ap (groups_after s) declared_is)
 
-  groups_open : is_open (atStarts s) ≡ true → is_open (atGroups s) ≡ true
-  unfolding atStarts behindGroups groups_after
-  groups_open o = open_before (field (number line_feed) any (λ g. each group g)) s (atGroups s) (field_before (word (ascii "begin_state\n")) s (behindGroups s) o)
+  groups_open : is_open (at_starts s) ≡ true → is_open (at_groups s) ≡ true
+  unfolding at_starts behind_groups groups_after
+  groups_open o = open_before (field (number line_feed) any (λ g. each group g)) s (at_groups s) (field_before (word (ascii "begin_state\n")) s (behind_groups s) o)
 
-  variables_open : is_open (atGroups s) ≡ true → is_open (atVariables s) ≡ true
-  unfolding atGroups
-  variables_open = open_before (each declaration (countIn s)) s (atVariables s)
+  variables_open : is_open (at_groups s) ≡ true → is_open (at_variables s) ≡ true
+  unfolding at_groups
+  variables_open = open_before (each declaration (count_in s)) s (at_variables s)
 
-  counted : is_open (atGroups s) ≡ true → cnt.value ≡ countIn s
-  counted o = with_number_value (atVariables s) (countIn s) cnt cnt_is (variables_open o)
+  counted : is_open (at_groups s) ≡ true → cnt.value ≡ count_in s
+  counted o = with_number_value (at_variables s) (count_in s) cnt cnt_is (variables_open o)
 
-  sizes_are : is_open (atGroups s) ≡ true → sizes ≡ placed sizes₀ 0 (stored_sizes (declarationsIn s))
-  unfolding declarationsIn
+  sizes_are : is_open (at_groups s) ≡ true → sizes ≡ placed sizes₀ 0 (stored_sizes (declarations_in s))
+  unfolding declarations_in
   sizes_are o =
       e₅.stored (ap is_open declared_is ∙ o)
-      ∙ ap (λ (r : ReadNumber). placed sizes₀ 0 (stored_sizes (value_after (each declaration r.value) s r.cursor))) (with_number_is (atVariables s) (countIn s) cnt cnt_is (variables_open o))
+      ∙ ap (λ (r : ReadNumber). placed sizes₀ 0 (stored_sizes (value_after (each declaration r.value) s r.cursor))) (with_number_is (at_variables s) (count_in s) cnt cnt_is (variables_open o))
 
-  many : length (declarationsIn s) ≡ countIn s
-  unfolding declarationsIn
-  many = each_length declaration s (countIn s) (atVariables s)
+  many : length (declarations_in s) ≡ count_in s
+  unfolding declarations_in
+  many = each_length declaration s (count_in s) (at_variables s)
 
   -- the sizes that the array holds are the declared ones
-  sizes_held_lem : is_open (atStarts s) ≡ true → sizes_of (declarationsIn s) ≡ take cnt.value sizes
-  unfolding declarationsIn atGroups
+  sizes_held_lem : is_open (at_starts s) ≡ true → sizes_of (declarations_in s) ≡ take cnt.value sizes
+  unfolding declarations_in at_groups
   sizes_held_lem o =
       let open' = groups_open o in
       let few : cnt.value ≤ 64 = count_most s measured 64 cnt e₄ in
-      let long : length (stored_sizes (declarationsIn s)) ≡ countIn s = length-map (declarationsIn s) (λ d. size_of d % 256) ∙ many in
-      sym (sizes_stored (countIn s) s (atVariables s) open')
-      ∙ sym (placed_front sizes₀ (stored_sizes (declarationsIn s)) cnt.value (long ∙ sym (counted open')) (omega (arith, counted open')))
+      let long : length (stored_sizes (declarations_in s)) ≡ count_in s = length-map (declarations_in s) (λ d. size_of d % 256) ∙ many in
+      sym (sizes_stored (count_in s) s (at_variables s) open')
+      ∙ sym (placed_front sizes₀ (stored_sizes (declarations_in s)) cnt.value (long ∙ sym (counted open')) (omega (arith, counted open')))
       ∙ sym (ap (take cnt.value) (sizes_are open'))
 
-  stored : StartsStored s opened (declarationsIn s) starts₀ started startsNow
-  stored = e₈.is (declarationsIn s) (λ o. sizes_held_lem (sym (ap is_open opened_is) ∙ o))
+  stored : StartsStored s opened (declarations_in s) starts₀ started starts_now
+  stored = e₈.is (declarations_in s) (λ o. sizes_held_lem (sym (ap is_open opened_is) ∙ o))
 
-  started_is : started ≡ behindStarts s
-  unfolding behindStarts
-  started_is = stored.cursor ∙ ap (cursor_after (starts (declarationsIn s)) s) opened_is
+  started_is : started ≡ behind_starts s
+  unfolding behind_starts
+  started_is = stored.cursor ∙ ap (cursor_after (starts (declarations_in s)) s) opened_is
 
-  starts_open : is_open (behindStarts s) ≡ true → is_open (atStarts s) ≡ true
-  unfolding behindStarts
-  starts_open = open_before (starts (declarationsIn s)) s (atStarts s)
+  starts_open : is_open (behind_starts s) ≡ true → is_open (at_starts s) ≡ true
+  unfolding behind_starts
+  starts_open = open_before (starts (declarations_in s)) s (at_starts s)
 
-  metric_open : is_open (atGroups s) ≡ true → is_open (behindMetric s) ≡ true
-  unfolding atVariables atCount
-  metric_open o = field_before (word (ascii "end_metric\n")) s (behindMetric s) (open_before (count 64) s (atCount s) (variables_open o))
+  metric_open : is_open (at_groups s) ≡ true → is_open (behind_metric s) ≡ true
+  unfolding at_variables at_count
+  metric_open o = field_before (word (ascii "end_metric\n")) s (behind_metric s) (open_before (count 64) s (at_count s) (variables_open o))
 
-  starts_are : value_after (starts (declarationsIn s)) s opened ≡ variables_in s
+  starts_are : value_after (starts (declarations_in s)) s opened ≡ variables_in s
   unfolding variables_in
-  starts_are = ap (value_after (starts (declarationsIn s)) s) opened_is
+  starts_are = ap (value_after (starts (declarations_in s)) s) opened_is
 
-  value_is : ((value_after front s (cursor_at 0)).metric ≡ metricIn s) × ((value_after front s (cursor_at 0)).declarations ≡ declarationsIn s) × ((value_after front s (cursor_at 0)).variables ≡ variables_in s)
+  value_is : ((value_after front s (cursor_at 0)).metric ≡ metric_in s) × ((value_after front s (cursor_at 0)).declarations ≡ declarations_in s) × ((value_after front s (cursor_at 0)).variables ≡ variables_in s)
   value_is = (ap (λ (f : Front). f.metric) (front_value s), ap (λ (f : Front). f.declarations) (front_value s), ap (λ (f : Front). f.variables) (front_value s))
 
-  pub front_read : FrontRead s sizes₀ starts₀ (record { cursor = started; metric = metric.value; variables = cnt.value }) sizes startsNow
+  pub front_read : FrontRead s sizes₀ starts₀ (record { cursor = started; metric = metric.value; variables = cnt.value }) sizes starts_now
   front_read =
       record {
         cursor = started_is ∙ sym (front_after s);
         few = count_most s measured 64 cnt e₄;
-        metric = λ o. with_number_value (behindMetric s) _ metric metric_is (metric_open (all_open o)) ∙ ap bit (sym value_is.0);
+        metric = λ o. with_number_value (behind_metric s) _ metric metric_is (metric_open (all_open o)) ∙ ap bit (sym value_is.0);
         counted = λ o. counted (all_open o) ∙ sym many ∙ ap length (sym value_is.1);
         sizes_held = λ o. ap sizes_of value_is.1 ∙ sizes_held_lem (starts_open (sym (ap is_open started_is) ∙ o));
         sizes_read = λ o. sizes_are (all_open o) ∙ ap (λ (l : List Declaration). placed sizes₀ 0 (stored_sizes l)) (sym value_is.1);
         starts_read = λ o. stored.stored o ∙ ap (λ (l : List Started). placed starts₀ 0 (stored_starts l)) (starts_are ∙ sym value_is.2);
       }
     where
-      all_open : is_open started ≡ true → is_open (atGroups s) ≡ true
+      all_open : is_open started ≡ true → is_open (at_groups s) ≡ true
       all_open o = groups_open (starts_open (sym (ap is_open started_is) ∙ o))

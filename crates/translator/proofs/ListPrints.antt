@@ -51,17 +51,17 @@ Lists {A} print good ok n f = Prints f (λ (l : List A). (length l ≡ n) × (go
 
 -- elements by a state that those before leave: `goodAll` and `okAll` go over the list as `good` and `ok` say of each
 module _ {S A : Type 0} (item : S → Format A) (onward : S → A → S) (good : A → Bool) (print : A → List ℕ) (ok : S → A → Bool)
-    (goodAll : List A → Bool) (okAll : S → List A → Bool)
-    (item-prints : (state : S) → Prints (item state) (λ a. good a ≡ true) print (ok state))
-    (Good-none : goodAll [] ≡ true)
-    (Good-more : (a : A) (rest : List A) → goodAll (a ∷ rest) ≡ good a && goodAll rest)
-    (ok-none : (state : S) → okAll state [] ≡ true)
-    (ok-more : (state : S) (a : A) (rest : List A) → okAll state (a ∷ rest) ≡ ok state a && okAll (onward state a) rest) where
-  pub repeat_prints : (n : ℕ) (state : S) → Lists print goodAll (okAll state) n (repeat item onward state n)
+    (good_all : List A → Bool) (ok_all : S → List A → Bool)
+    (item_prints : (state : S) → Prints (item state) (λ a. good a ≡ true) print (ok state))
+    (Good_none : good_all [] ≡ true)
+    (Good_more : (a : A) (rest : List A) → good_all (a ∷ rest) ≡ good a && good_all rest)
+    (ok_none : (state : S) → ok_all state [] ≡ true)
+    (ok_more : (state : S) (a : A) (rest : List A) → ok_all state (a ∷ rest) ≡ ok state a && ok_all (onward state a) rest) where
+  pub repeat_prints : (n : ℕ) (state : S) → Lists print good_all (ok_all state) n (repeat item onward state n)
   unfolding repeat joined
   repeat_prints zero state =
       prints
-      (gives_always (record { fits = (refl, Good-none); text = refl; passes = sym (ok-none state) }))
+      (gives_always (record { fits = (refl, Good_none); text = refl; passes = sym (ok_none state) }))
       (λ l g. none_reaches l g.0)
     where
       none_reaches : (l : List A) → length l ≡ 0 → Reaches (gives []) l
@@ -69,33 +69,33 @@ module _ {S A : Type 0} (item : S → Format A) (onward : S → A → S) (good :
       none_reaches (a ∷ rest) e = absurd (omega arith)
   repeat_prints (suc n) state =
       prints
-      (bind_always _ (item-prints state) (λ a g.
+      (bind_always _ (item_prints state) (λ a g.
       bind_always _ (repeat_prints n (onward state a)) (λ rest h.
       gives_always (record {
-        fits = (ap suc h.0, Good-more a rest ∙ and_join g h.1);
+        fits = (ap suc h.0, Good_more a rest ∙ and_join g h.1);
         text = ap (λ (s : List ℕ). print a ++ s) (append-nil (joined print rest));
-        passes = ap (λ (b : Bool). ok state a && b) (and-true (okAll (onward state a) rest)) ∙ sym (ok-more state a rest);
+        passes = ap (λ (b : Bool). ok state a && b) (and-true (ok_all (onward state a) rest)) ∙ sym (ok_more state a rest);
       }))))
       (λ l g. some_reaches (repeat_prints n) l g.0 g.1)
     where
-      some_reaches : ((s : S) → Lists print goodAll (okAll s) n (repeat item onward s n)) → (l : List A) → length l ≡ suc n → goodAll l ≡ true
+      some_reaches : ((s : S) → Lists print good_all (ok_all s) n (repeat item onward s n)) → (l : List A) → length l ≡ suc n → good_all l ≡ true
           → Reaches (bind (item state) (λ a. bind (repeat item onward (onward state a) n) (λ rest. gives (a ∷ rest)))) l
       some_reaches again [] e g = absurd (omega arith)
       some_reaches again (a ∷ rest) e g =
-          let both = and_split (good a) (goodAll rest) (sym (Good-more a rest) ∙ g) in
-          bind_reaches _ (prints_reaches (item-prints state) a both.0)
+          let both = and_split (good a) (good_all rest) (sym (Good_more a rest) ∙ g) in
+          bind_reaches _ (prints_reaches (item_prints state) a both.0)
           (bind_reaches _ (prints_reaches (again (onward state a)) rest (omega arith, both.1))
           (gives_reaches (a ∷ rest)))
 
 -- elements of one format
-pub each_prints : {A : Type 0} (item : Format A) (good : A → Bool) (print : A → List ℕ) (ok : A → Bool) (goodAll okAll : List A → Bool)
+pub each_prints : {A : Type 0} (item : Format A) (good : A → Bool) (print : A → List ℕ) (ok : A → Bool) (good_all ok_all : List A → Bool)
     → Prints item (λ a. good a ≡ true) print ok
-    → goodAll [] ≡ true → ((a : A) (rest : List A) → goodAll (a ∷ rest) ≡ good a && goodAll rest)
-    → okAll [] ≡ true → ((a : A) (rest : List A) → okAll (a ∷ rest) ≡ ok a && okAll rest)
-    → (n : ℕ) → Lists print goodAll okAll n (each item n)
+    → good_all [] ≡ true → ((a : A) (rest : List A) → good_all (a ∷ rest) ≡ good a && good_all rest)
+    → ok_all [] ≡ true → ((a : A) (rest : List A) → ok_all (a ∷ rest) ≡ ok a && ok_all rest)
+    → (n : ℕ) → Lists print good_all ok_all n (each item n)
 unfolding each
-each_prints item good print ok goodAll okAll all Good-none Good-more ok-none ok-more n =
-    repeat_prints (λ s. item) (λ s a. s) good print (λ s. ok) goodAll (λ s. okAll) (λ s. all) Good-none Good-more (λ s. ok-none) (λ s. ok-more) n tt
+each_prints item good print ok good_all ok_all all Good_none Good_more ok_none ok_more n =
+    repeat_prints (λ s. item) (λ s a. s) good print (λ s. ok) good_all (λ s. ok_all) (λ s. all) Good_none Good_more (λ s. ok_none) (λ s. ok_more) n tt
 
 -- every one is to pass
 pub each_all : {A : Type 0} (item : Format A) (good : A → Bool) (print : A → List ℕ) (ok : A → Bool)
@@ -110,15 +110,15 @@ each_free item print all = each_prints item (λ a. true) print (λ a. true) (λ 
 -- a count, then so many elements
 module _ {A B : Type 0} {f : Format ℕ} {few : ℕ → Bool} {head : ℕ → List ℕ} {good ok : List A → Bool} {body : List A → List ℕ} (g : ℕ → Format (List A)) (k : List A → Format B)
     (count_is : Prints f (λ n. Unit {0}) head few)
-    (list-is : (n : ℕ) → Prints (g n) (λ l. (length l ≡ n) × (good l ≡ true)) body ok) where
+    (list_is : (n : ℕ) → Prints (g n) (λ l. (length l ≡ n) × (good l ≡ true)) body ok) where
   pub counted_always : {P : B → List ℕ → Bool → Type 0}
       → ((l : List A) → good l ≡ true → Always (k l) (λ c s b. P c (head (length l) ++ (body l ++ s)) (few (length l) && (ok l && b))))
       → Always (bind f (λ n. bind (g n) k)) P
   counted_always {P} always =
       bind_always _ count_is (λ n u.
-      bind_always k (list-is n) (λ l h.
+      bind_always k (list_is n) (λ l h.
       subst (λ (m : ℕ). Always (k l) (λ c s b. P c (head m ++ (body l ++ s)) (few m && (ok l && b)))) h.0 (always l h.1)))
 
   pub counted_reaches : {c : B} (l : List A) → good l ≡ true → Reaches (k l) c → Reaches (bind f (λ n. bind (g n) k)) c
   counted_reaches l h reaches =
-      bind_reaches _ (prints_reaches count_is (length l) tt) (bind_reaches k (prints_reaches (list-is (length l)) l (refl, h)) reaches)
+      bind_reaches _ (prints_reaches count_is (length l) tt) (bind_reaches k (prints_reaches (list_is (length l)) l (refl, h)) reaches)

@@ -36,10 +36,10 @@ module _ (s : List ℕ) (c : Cursor) (count : ℕ) (sizes : List ℕ) (metric : 
       }
 
   module _ (here : Cursor) (a : ℕ) (costs conditions effects : List ℕ) (inv : OperatorsLeft here a costs conditions effects) where
-    pub operators_next : (next : Cursor) (costsNow conditionsNow effectsNow : List ℕ) → a < count → OperatorRead s here sizes metric costs conditions effects a next costsNow conditionsNow effectsNow
-        → OperatorsLeft next (a + 1) costsNow conditionsNow effectsNow
+    pub operators_next : (next : Cursor) (costs_now conditions_now effects_now : List ℕ) → a < count → OperatorRead s here sizes metric costs conditions effects a next costs_now conditions_now effects_now
+        → OperatorsLeft next (a + 1) costs_now conditions_now effects_now
     unfolding placed filled_rows
-    operators_next next costsNow conditionsNow effectsNow h one =
+    operators_next next costs_now conditions_now effects_now h one =
         let n : ℕ = count - (a + 1) in
         let more : count - a ≡ suc n = omega arith in
         let o : Operator = value_after (operator sizes) s here in

@@ -18,7 +18,7 @@ use Rattle.translator.specs.Format.{Fault, unsupported, given_twice, outside_lim
 use Rattle.translator.specs.Translate.{text_refusals}
 use Rattle.translator.proofs.Written.{written, FieldRight}
 use Rattle.translator.proofs.ReadingLaws.{after_refused}
-use Rattle.translator.proofs.ReadingSteps.{after_stopped, after_fine, after_fault, field-cases}
+use Rattle.translator.proofs.ReadingSteps.{after_stopped, after_fine, after_fault, field_cases}
 use Rattle.translator.proofs.ReadingTraces.{behind_within}
 
 pub stop_listed : (s : List ℕ) (place : ℕ) → place ≤ length s → listed (text_refusals s) (refusal 31 place) ≡ true
@@ -47,7 +47,7 @@ module _ (fields : (f : Field) → FieldRight f) where
   unfolding cursor_after
   within_from (gives a) s at h = h
   within_from (field f fault next) s at h =
-      field-cases fields f fault s at
+      field_cases fields f fault s at
       (λ v text fits q.
       let behind : List ℕ = drop (at + length (written f v)) s in
       let later = within_from (next v) s (at + length (written f v)) (behind_within at s (written f v) behind h text) in
@@ -67,7 +67,7 @@ module _ (fields : (f : Field) → FieldRight f) where
   unfolding cursor_after
   listed_from (gives a) s at h = listed_done (text_refusals s)
   listed_from (field f fault next) s at h =
-      field-cases fields f fault s at
+      field_cases fields f fault s at
       (λ v text fits q.
       let behind : List ℕ = drop (at + length (written f v)) s in
       ap (λ (c : Cursor). listed (text_refusals s) c.outcome) (after_fine fields f fault next s at v behind text fits q)

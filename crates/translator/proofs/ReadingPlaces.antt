@@ -15,7 +15,7 @@ use Rattle.translator.specs.Format.{Fault, Format, gives, field, cursor_at, curs
 use Rattle.translator.specs.Sas.{is_name}
 use Rattle.translator.proofs.Written.{written, writable, Unfinished, FieldRight}
 use Rattle.translator.proofs.Traces.{Trace, text_of}
-use Rattle.translator.proofs.ReadingSteps.{after_stopped, after_fine, after_fault, field-cases}
+use Rattle.translator.proofs.ReadingSteps.{after_stopped, after_fine, after_fault, field_cases}
 use Rattle.translator.proofs.ReadingTraces.{fault_number_lem}
 
 -- the rest r of a text goes on with a format for k bytes, and not for one more
@@ -117,7 +117,7 @@ module _ (fields : (f : Field) → FieldRight f) where
   unfolding cursor_after
   unfinished (gives a) s at place e = absurd (let z : ◌≡◌ {A = ℕ} 0 31 = ap (λ (o : Outcome). o.number) e in omega arith)
   unfinished (field f fault next) s at place e =
-      field-cases fields f fault s at
+      field_cases fields f fault s at
       (λ v text fits q.
       let end : ℕ = at + length (written f v) in
       let onward = after_fine fields f fault next s at v (drop end s) text fits q in

@@ -88,12 +88,12 @@ module _ (fields : (f : Field) → FieldRight f) where
       ∙ after_refused (next value) s (cursor_refused (refusal (fault_number x) at)) (fault_closed x at)
 
   -- every field is one of the three
-  pub field-cases {ℓ} : {X : Type ℓ} (f : Field) (fault : Value f → Option Fault) (s : List ℕ) (at : ℕ)
+  pub field_cases {ℓ} : {X : Type ℓ} (f : Field) (fault : Value f → Option Fault) (s : List ℕ) (at : ℕ)
       → ((v : Value f) → drop at s ≡ written f v ++ drop (at + length (written f v)) s → writable f v ≡ true → fault v ≡ none → X)
       → ((v : Value f) (x : Fault) → drop at s ≡ written f v ++ drop (at + length (written f v)) s → writable f v ≡ true → fault v ≡ some x → X)
       → ((k : ℕ) → field_at f (drop at s) at ≡ refusal 31 (at + k) → Unfinished f (drop at s) k → X)
       → X
-  field-cases f fault s at fine faulty stopped =
+  field_cases f fault s at fine faulty stopped =
       ⊎_elim
       (λ e.
       let v : Value f = field_value f (drop at s) in

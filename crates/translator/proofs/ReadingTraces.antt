@@ -13,7 +13,7 @@ use Rattle.translator.specs.Fields.{Field, Value}
 use Rattle.translator.specs.Format.{Fault, unsupported, given_twice, outside_limits, out_of_range, fault_number, Format, gives, field, cursor_at, cursor_refused, is_open, cursor_after, value_after}
 use Rattle.translator.proofs.Written.{written, FieldRight}
 use Rattle.translator.proofs.Traces.{is_fine, Trace, text_of, value_of, passed}
-use Rattle.translator.proofs.ReadingSteps.{drop_behind, fault_closed, stop_closed, after_stopped, after_fine, value_fine, after_fault, field-cases}
+use Rattle.translator.proofs.ReadingSteps.{drop_behind, fault_closed, stop_closed, after_stopped, after_fine, value_fine, after_fault, field_cases}
 
 fine_none : (o : Option Fault) → is_fine o ≡ true → o ≡ none
 fine_none none e = refl
@@ -88,7 +88,7 @@ module _ (fields : (f : Field) → FieldRight f) where
   unfolding cursor_after value_after
   back (gives a) s at h o = (tt, refl, refl, ap (λ (n : ℕ). drop n s) (sym (add-zero at)), ap cursor_at (sym (add-zero at)), omega arith)
   back (field f fault next) s at h o =
-      field-cases fields f fault s at
+      field_cases fields f fault s at
       (λ v text fits q.
       let end : ℕ = at + length (written f v) in
       let behind : List ℕ = drop end s in

@@ -18,63 +18,63 @@ use Rattle.translator.proofs.ReadingLaws.{after_bind, value_bind}
 use Rattle.translator.proofs.RepeatReading.{first_value}
 
 module _ (s : List ℕ) where
-  unfoldable pub atMetric : Cursor
-  atMetric = field_after (word (ascii "begin_version\n3\nend_version\nbegin_metric\n")) s (cursor_at 0)
+  unfoldable pub at_metric : Cursor
+  at_metric = field_after (word (ascii "begin_version\n3\nend_version\nbegin_metric\n")) s (cursor_at 0)
 
-  unfoldable pub metricIn : Bool
-  metricIn = field_value flag (drop atMetric.at s)
+  unfoldable pub metric_in : Bool
+  metric_in = field_value flag (drop at_metric.at s)
 
-  unfoldable pub behindMetric : Cursor
-  behindMetric = field_after flag s atMetric
+  unfoldable pub behind_metric : Cursor
+  behind_metric = field_after flag s at_metric
 
-  unfoldable pub atCount : Cursor
-  atCount = field_after (word (ascii "end_metric\n")) s behindMetric
+  unfoldable pub at_count : Cursor
+  at_count = field_after (word (ascii "end_metric\n")) s behind_metric
 
-  unfoldable pub countIn : ℕ
-  countIn = value_after (count 64) s atCount
+  unfoldable pub count_in : ℕ
+  count_in = value_after (count 64) s at_count
 
-  unfoldable pub atVariables : Cursor
-  atVariables = cursor_after (count 64) s atCount
+  unfoldable pub at_variables : Cursor
+  at_variables = cursor_after (count 64) s at_count
 
-  unfoldable pub declarationsIn : List Declaration
-  declarationsIn = value_after (each declaration countIn) s atVariables
+  unfoldable pub declarations_in : List Declaration
+  declarations_in = value_after (each declaration count_in) s at_variables
 
-  unfoldable pub atGroups : Cursor
-  atGroups = cursor_after (each declaration countIn) s atVariables
+  unfoldable pub at_groups : Cursor
+  at_groups = cursor_after (each declaration count_in) s at_variables
 
-  unfoldable pub groupsIn : List (List Pair)
-  groupsIn = value_after (field (number line_feed) any (λ n. each group n)) s atGroups
+  unfoldable pub groups_in : List (List Pair)
+  groups_in = value_after (field (number line_feed) any (λ n. each group n)) s at_groups
 
-  unfoldable pub behindGroups : Cursor
-  behindGroups = groups_after s atGroups
+  unfoldable pub behind_groups : Cursor
+  behind_groups = groups_after s at_groups
 
-  unfoldable pub atStarts : Cursor
-  atStarts = field_after (word (ascii "begin_state\n")) s behindGroups
+  unfoldable pub at_starts : Cursor
+  at_starts = field_after (word (ascii "begin_state\n")) s behind_groups
 
   unfoldable pub variables_in : List Started
-  variables_in = value_after (starts declarationsIn) s atStarts
+  variables_in = value_after (starts declarations_in) s at_starts
 
-  unfoldable pub behindStarts : Cursor
-  behindStarts = cursor_after (starts declarationsIn) s atStarts
+  unfoldable pub behind_starts : Cursor
+  behind_starts = cursor_after (starts declarations_in) s at_starts
 
-  pub front_after : cursor_after front s (cursor_at 0) ≡ behindStarts
-  unfolding front says cursor_after step_after fault_after groups_after atMetric behindMetric atCount countIn atVariables declarationsIn atGroups behindGroups atStarts behindStarts
-  front_after = after_bind (count 64) _ s atCount ∙ after_bind (each declaration countIn) _ s atVariables ∙ after_bind (each group _) _ s _ ∙ after_bind (starts declarationsIn) _ s atStarts
+  pub front_after : cursor_after front s (cursor_at 0) ≡ behind_starts
+  unfolding front says cursor_after step_after fault_after groups_after at_metric behind_metric at_count count_in at_variables declarations_in at_groups behind_groups at_starts behind_starts
+  front_after = after_bind (count 64) _ s at_count ∙ after_bind (each declaration count_in) _ s at_variables ∙ after_bind (each group _) _ s _ ∙ after_bind (starts declarations_in) _ s at_starts
 
-  pub front_value : value_after front s (cursor_at 0) ≡ record { metric = metricIn; declarations = declarationsIn; groups = groupsIn; variables = variables_in }
-  unfolding front says cursor_after value_after step_after fault_after groups_after atMetric metricIn behindMetric atCount countIn atVariables declarationsIn atGroups groupsIn behindGroups atStarts variables_in
-  front_value = value_bind (count 64) _ s atCount ∙ value_bind (each declaration countIn) _ s atVariables ∙ value_bind (each group _) _ s _ ∙ value_bind (starts declarationsIn) _ s atStarts
+  pub front_value : value_after front s (cursor_at 0) ≡ record { metric = metric_in; declarations = declarations_in; groups = groups_in; variables = variables_in }
+  unfolding front says cursor_after value_after step_after fault_after groups_after at_metric metric_in behind_metric at_count count_in at_variables declarations_in at_groups groups_in behind_groups at_starts variables_in
+  front_value = value_bind (count 64) _ s at_count ∙ value_bind (each declaration count_in) _ s at_variables ∙ value_bind (each group _) _ s _ ∙ value_bind (starts declarations_in) _ s at_starts
 
   pub text_after : cursor_after text s (cursor_at 0) ≡ cursor_after (behind (sizes_of (value_after front s (cursor_at 0)).declarations) (value_after front s (cursor_at 0))) s (cursor_after front s (cursor_at 0))
-  unfolding text behind axioms says cursor_after value_after step_after fault_after groups_after atMetric metricIn behindMetric atCount countIn atVariables declarationsIn atGroups groupsIn behindGroups atStarts variables_in behindStarts
+  unfolding text behind axioms says cursor_after value_after step_after fault_after groups_after at_metric metric_in behind_metric at_count count_in at_variables declarations_in at_groups groups_in behind_groups at_starts variables_in behind_starts
   text_after =
-      after_bind (count 64) _ s atCount ∙ after_bind (each declaration countIn) _ s atVariables ∙ after_bind (each group _) _ s _ ∙ after_bind (starts declarationsIn) _ s atStarts
+      after_bind (count 64) _ s at_count ∙ after_bind (each declaration count_in) _ s at_variables ∙ after_bind (each group _) _ s _ ∙ after_bind (starts declarations_in) _ s at_starts
       ∙ sym (ap₂ (λ (x : Front) (y : Cursor). cursor_after (behind (sizes_of x.declarations) x) s y) front_value front_after)
 
   pub text_value : sas_of s ≡ value_after (behind (sizes_of (value_after front s (cursor_at 0)).declarations) (value_after front s (cursor_at 0))) s (cursor_after front s (cursor_at 0))
-  unfolding sas_of text behind axioms says cursor_after value_after step_after fault_after groups_after atMetric metricIn behindMetric atCount countIn atVariables declarationsIn atGroups groupsIn behindGroups atStarts variables_in behindStarts
+  unfolding sas_of text behind axioms says cursor_after value_after step_after fault_after groups_after at_metric metric_in behind_metric at_count count_in at_variables declarations_in at_groups groups_in behind_groups at_starts variables_in behind_starts
   text_value =
-      value_bind (count 64) _ s atCount ∙ value_bind (each declaration countIn) _ s atVariables ∙ value_bind (each group _) _ s _ ∙ value_bind (starts declarationsIn) _ s atStarts
+      value_bind (count 64) _ s at_count ∙ value_bind (each declaration count_in) _ s at_variables ∙ value_bind (each group _) _ s _ ∙ value_bind (starts declarations_in) _ s at_starts
       ∙ sym (ap₂ (λ (x : Front) (y : Cursor). value_after (behind (sizes_of x.declarations) x) s y) front_value front_after)
 
 -- the variables are the declared ones
@@ -89,7 +89,7 @@ pub front_declared : (s : List ℕ) → map (λ v. v.declared) (value_after fron
 unfolding variables_in
 front_declared s =
     ap (λ (x : Front). map (λ v. v.declared) x.variables) (front_value s)
-    ∙ starts_declared (declarationsIn s) s (atStarts s)
+    ∙ starts_declared (declarations_in s) s (at_starts s)
     ∙ sym (ap (λ (x : Front). x.declarations) (front_value s))
 
 -- the first part as the second gives it

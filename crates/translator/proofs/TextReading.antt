@@ -55,11 +55,11 @@ map_declared : (l : List Started) → map (λ d. size_of d % 256) (map (λ v. v.
 map_declared [] = refl
 map_declared (v ∷ l) = ap (λ (r : List ℕ). length v.declared.values % 256 ∷ r) (map_declared l)
 
-module _ (s : List ℕ) (h : Begun) (r : Finished) (sizes₀ sizes starts₀ startsNow goal₀ goal costs₀ costs conditions₀ conditionsNow effects₀ effectsNow : List ℕ)
+module _ (s : List ℕ) (h : Begun) (r : Finished) (sizes₀ sizes starts₀ starts_now goal₀ goal costs₀ costs conditions₀ conditions_now effects₀ effects_now : List ℕ)
     (few : length s ≤ 65536)
     (sizes_room : 64 ≤ length sizes₀) (starts_room : 64 ≤ length starts₀) (goal_room : 64 ≤ length goal₀) (costs_room : 512 ≤ length costs₀) (conditions_room : 32768 ≤ length conditions₀) (effects_room : 32768 ≤ length effects₀)
-    (first : FrontRead s sizes₀ starts₀ h sizes startsNow)
-    (second : BodyRead s h sizes goal₀ costs₀ conditions₀ effects₀ r goal costs conditionsNow effectsNow) where
+    (first : FrontRead s sizes₀ starts₀ h sizes starts_now)
+    (second : BodyRead s h sizes goal₀ costs₀ conditions₀ effects₀ r goal costs conditions_now effects_now) where
   x : Front
   x = value_after front s (cursor_at 0)
 
@@ -104,7 +104,7 @@ module _ (s : List ℕ) (h : Begun) (r : Finished) (sizes₀ sizes starts₀ sta
     unfolding x
     declared_are = sym (front_declared s) ∙ ap (map (λ v. v.declared)) variables_are
 
-    task_is : held (arrays r.variables r.actions sizes startsNow goal costs conditionsNow effectsNow) ≡ text_task s
+    task_is : held (arrays r.variables r.actions sizes starts_now goal costs conditions_now effects_now) ≡ text_task s
     unfolding x sz
     task_is =
         let kept : TextHeld s = held_text s (check_done s (sym (ap (λ (o : Outcome). o.number) outcome_is) ∙ z)) in
@@ -114,18 +114,18 @@ module _ (s : List ℕ) (h : Begun) (r : Finished) (sizes₀ sizes starts₀ sta
         let actions : r.actions ≡ length y.operators = body.counted ∙ ap (λ (q : Sas). length q.operators) sas_is in
         let size : sizes ≡ placed sizes₀ 0 (map (λ v. length v.declared.values % 256) y.variables) =
         first.sizes_read front_open ∙ ap (placed sizes₀ 0) (ap stored_sizes declared_are ∙ map_declared y.variables) in
-        let start : startsNow ≡ placed starts₀ 0 (map (λ v. v.start % 256) y.variables) = first.starts_read front_open ∙ ap (λ (l : List Started). placed starts₀ 0 (stored_starts l)) variables_are in
+        let start : starts_now ≡ placed starts₀ 0 (map (λ v. v.start % 256) y.variables) = first.starts_read front_open ∙ ap (λ (l : List Started). placed starts₀ 0 (stored_starts l)) variables_are in
         let aim : goal ≡ filled (cleared goal₀ 0 64) 0 y.goal = body.goal_read ∙ ap (λ (q : Sas). filled (cleared goal₀ 0 64) 0 q.goal) sas_is in
         let cost : costs ≡ placed costs₀ 0 (map (λ o. cond y.metric o.cost 1) y.operators) =
         body.costs_read ∙ ap (λ (q : Sas). placed costs₀ 0 (map (λ o. cost_by h.metric o.cost) q.operators)) sas_is
         ∙ ap (placed costs₀ 0) (map_same _ _ y.operators (λ o. ap (λ (m : ℕ). cost_by m o.cost) metric_is ∙ cost_same y.metric o.cost)) in
-        let asked : conditionsNow ≡ filled_rows conditions₀ 0 (map conditions_of y.operators) = body.conditions_read ∙ ap (λ (q : Sas). filled_rows conditions₀ 0 (map conditions_of q.operators)) sas_is in
-        let set : effectsNow ≡ filled_rows effects₀ 0 (map effects_of y.operators) = body.effects_read ∙ ap (λ (q : Sas). filled_rows effects₀ 0 (map effects_of q.operators)) sas_is in
+        let asked : conditions_now ≡ filled_rows conditions₀ 0 (map conditions_of y.operators) = body.conditions_read ∙ ap (λ (q : Sas). filled_rows conditions₀ 0 (map conditions_of q.operators)) sas_is in
+        let set : effects_now ≡ filled_rows effects₀ 0 (map effects_of y.operators) = body.effects_read ∙ ap (λ (q : Sas). filled_rows effects₀ 0 (map effects_of q.operators)) sas_is in
         (λ i. held (arrays (count i) (actions i) (size i) (start i) (aim i) (cost i) (asked i) (set i)))
         ∙ stated_held y sizes₀ starts₀ goal₀ costs₀ conditions₀ effects₀ kept.within kept.accepted sizes_room starts_room goal_room costs_room conditions_room effects_room
         ∙ sym kept.task
 
-  pub text_read : TextRead s r sizes startsNow goal costs conditionsNow effectsNow
+  pub text_read : TextRead s r sizes starts_now goal costs conditions_now effects_now
   text_read =
       record {
         outcome = outcome_is;

@@ -41,27 +41,27 @@ pub record EffectInside (s : List ℕ) (at : ℕ) (sizes : List ℕ) (variables 
   pub effects_room : RowInside effects base
 
 -- an effect, and rows before and after it is stored, where nothing is refused
-pub record EffectStored (s : List ℕ) (c : Cursor) (sizes given conditions effects : List ℕ) (base : ℕ) (r : Cursor) (conditionsNow effectsNow : List ℕ) : Type 0 where
+pub record EffectStored (s : List ℕ) (c : Cursor) (sizes given conditions effects : List ℕ) (base : ℕ) (r : Cursor) (conditions_now effects_now : List ℕ) : Type 0 where
   pub cursor : r ≡ cursor_after (effect sizes given) s c
-  pub conditions_row : is_open r ≡ true → conditionsNow ≡ filled conditions base (old_pairs (value_after (effect sizes given) s c ∷ []))
-  pub effects_row : is_open r ≡ true → effectsNow ≡ filled effects base (new_pairs (value_after (effect sizes given) s c ∷ []))
-  pub gives : is_open r ≡ true → Given conditionsNow effectsNow base ((value_after (effect sizes given) s c).variable ∷ given)
+  pub conditions_row : is_open r ≡ true → conditions_now ≡ filled conditions base (old_pairs (value_after (effect sizes given) s c ∷ []))
+  pub effects_row : is_open r ≡ true → effects_now ≡ filled effects base (new_pairs (value_after (effect sizes given) s c ∷ []))
+  pub gives : is_open r ≡ true → Given conditions_now effects_now base ((value_after (effect sizes given) s c).variable ∷ given)
 
-pub record EffectRead (s : List ℕ) (c : Cursor) (sizes : List ℕ) (variables : ℕ) (conditions effects : List ℕ) (base : ℕ) (r : Cursor) (conditionsNow effectsNow : List ℕ) : Type 0 where
+pub record EffectRead (s : List ℕ) (c : Cursor) (sizes : List ℕ) (variables : ℕ) (conditions effects : List ℕ) (base : ℕ) (r : Cursor) (conditions_now effects_now : List ℕ) : Type 0 where
   pub inside : Inside s r.at
   pub is : (given : List ℕ) → (is_open c ≡ true → Given conditions effects base given)
-      → EffectStored s c (take variables sizes) given conditions effects base r conditionsNow effectsNow
+      → EffectStored s c (take variables sizes) given conditions effects base r conditions_now effects_now
 
 -- effects behind prevail conditions that gave variables: a row of effects that is cleared first
-pub record EffectsStored (s : List ℕ) (c : Cursor) (count : ℕ) (sizes given conditions effects : List ℕ) (base : ℕ) (r : Cursor) (conditionsNow effectsNow : List ℕ) : Type 0 where
+pub record EffectsStored (s : List ℕ) (c : Cursor) (count : ℕ) (sizes given conditions effects : List ℕ) (base : ℕ) (r : Cursor) (conditions_now effects_now : List ℕ) : Type 0 where
   pub cursor : r ≡ cursor_after (Text.effects sizes given count) s c
-  pub conditions_row : is_open r ≡ true → conditionsNow ≡ filled conditions base (old_pairs (value_after (Text.effects sizes given count) s c))
-  pub effects_row : is_open r ≡ true → effectsNow ≡ filled (cleared effects base 64) base (new_pairs (value_after (Text.effects sizes given count) s c))
+  pub conditions_row : is_open r ≡ true → conditions_now ≡ filled conditions base (old_pairs (value_after (Text.effects sizes given count) s c))
+  pub effects_row : is_open r ≡ true → effects_now ≡ filled (cleared effects base 64) base (new_pairs (value_after (Text.effects sizes given count) s c))
 
-pub record EffectsRead (s : List ℕ) (c : Cursor) (count : ℕ) (sizes : List ℕ) (variables : ℕ) (conditions effects : List ℕ) (base : ℕ) (r : Cursor) (conditionsNow effectsNow : List ℕ) : Type 0 where
+pub record EffectsRead (s : List ℕ) (c : Cursor) (count : ℕ) (sizes : List ℕ) (variables : ℕ) (conditions effects : List ℕ) (base : ℕ) (r : Cursor) (conditions_now effects_now : List ℕ) : Type 0 where
   pub inside : Inside s r.at
   pub is : (given : List ℕ) → (is_open c ≡ true → Given conditions conditions base given)
-      → EffectsStored s c count (take variables sizes) given conditions effects base r conditionsNow effectsNow
+      → EffectsStored s c count (take variables sizes) given conditions effects base r conditions_now effects_now
 
 -- metric 0: every operator costs 1
 unfoldable pub cost_by : ℕ → ℕ → ℕ
@@ -94,15 +94,15 @@ abbrev pub effects_of : Operator → List Pair
 effects_of o = new_pairs o.effects
 
 -- an operator, and arrays before and after it is stored as action a, where nothing is refused
-pub record OperatorRead (s : List ℕ) (c : Cursor) (sizes : List ℕ) (metric : ℕ) (costs conditions effects : List ℕ) (a : ℕ) (r : Cursor) (costsNow conditionsNow effectsNow : List ℕ) : Type 0 where
+pub record OperatorRead (s : List ℕ) (c : Cursor) (sizes : List ℕ) (metric : ℕ) (costs conditions effects : List ℕ) (a : ℕ) (r : Cursor) (costs_now conditions_now effects_now : List ℕ) : Type 0 where
   pub cursor : r ≡ cursor_after (operator sizes) s c
-  pub cost : is_open r ≡ true → costsNow ≡ set costs a (cost_by metric (value_after (operator sizes) s c).cost)
-  pub conditions_row : is_open r ≡ true → conditionsNow ≡ filled (cleared conditions (64 * a) 64) (64 * a) (conditions_of (value_after (operator sizes) s c))
-  pub effects_row : is_open r ≡ true → effectsNow ≡ filled (cleared effects (64 * a) 64) (64 * a) (effects_of (value_after (operator sizes) s c))
+  pub cost : is_open r ≡ true → costs_now ≡ set costs a (cost_by metric (value_after (operator sizes) s c).cost)
+  pub conditions_row : is_open r ≡ true → conditions_now ≡ filled (cleared conditions (64 * a) 64) (64 * a) (conditions_of (value_after (operator sizes) s c))
+  pub effects_row : is_open r ≡ true → effects_now ≡ filled (cleared effects (64 * a) 64) (64 * a) (effects_of (value_after (operator sizes) s c))
 
 -- operators, as the actions from 0 on
-pub record OperatorsRead (s : List ℕ) (c : Cursor) (count : ℕ) (sizes : List ℕ) (metric : ℕ) (costs conditions effects : List ℕ) (r : Cursor) (costsNow conditionsNow effectsNow : List ℕ) : Type 0 where
+pub record OperatorsRead (s : List ℕ) (c : Cursor) (count : ℕ) (sizes : List ℕ) (metric : ℕ) (costs conditions effects : List ℕ) (r : Cursor) (costs_now conditions_now effects_now : List ℕ) : Type 0 where
   pub cursor : r ≡ cursor_after (each (operator sizes) count) s c
-  pub costs_read : is_open r ≡ true → costsNow ≡ placed costs 0 (map (λ o. cost_by metric o.cost) (value_after (each (operator sizes) count) s c))
-  pub conditions_read : is_open r ≡ true → conditionsNow ≡ filled_rows conditions 0 (map conditions_of (value_after (each (operator sizes) count) s c))
-  pub effects_read : is_open r ≡ true → effectsNow ≡ filled_rows effects 0 (map effects_of (value_after (each (operator sizes) count) s c))
+  pub costs_read : is_open r ≡ true → costs_now ≡ placed costs 0 (map (λ o. cost_by metric o.cost) (value_after (each (operator sizes) count) s c))
+  pub conditions_read : is_open r ≡ true → conditions_now ≡ filled_rows conditions 0 (map conditions_of (value_after (each (operator sizes) count) s c))
+  pub effects_read : is_open r ≡ true → effects_now ≡ filled_rows effects 0 (map effects_of (value_after (each (operator sizes) count) s c))

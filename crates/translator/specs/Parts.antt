@@ -83,14 +83,14 @@ pub record FrontInside (s sizes starts : List ℕ) : Type 0 where
   pub starts_room : 64 ≤ length starts
 
 -- the first part: a cursor behind it; where nothing is refused, its numbers, and arrays with sizes and start values
-pub record FrontRead (s sizes starts : List ℕ) (r : Begun) (sizesNow startsNow : List ℕ) : Type 0 where
+pub record FrontRead (s sizes starts : List ℕ) (r : Begun) (sizes_now starts_now : List ℕ) : Type 0 where
   pub cursor : r.cursor ≡ cursor_after front s (cursor_at 0)
   pub few : r.variables ≤ 64
   pub metric : is_open r.cursor ≡ true → r.metric ≡ bit (value_after front s (cursor_at 0)).metric
   pub counted : is_open r.cursor ≡ true → r.variables ≡ length (value_after front s (cursor_at 0)).declarations
-  pub sizes_held : is_open r.cursor ≡ true → sizes_of (value_after front s (cursor_at 0)).declarations ≡ take r.variables sizesNow
-  pub sizes_read : is_open r.cursor ≡ true → sizesNow ≡ placed sizes 0 (stored_sizes (value_after front s (cursor_at 0)).declarations)
-  pub starts_read : is_open r.cursor ≡ true → startsNow ≡ placed starts 0 (stored_starts (value_after front s (cursor_at 0)).variables)
+  pub sizes_held : is_open r.cursor ≡ true → sizes_of (value_after front s (cursor_at 0)).declarations ≡ take r.variables sizes_now
+  pub sizes_read : is_open r.cursor ≡ true → sizes_now ≡ placed sizes 0 (stored_sizes (value_after front s (cursor_at 0)).declarations)
+  pub starts_read : is_open r.cursor ≡ true → starts_now ≡ placed starts 0 (stored_starts (value_after front s (cursor_at 0)).variables)
 
 pub record BodyInside (s : List ℕ) (h : Begun) (sizes goal costs conditions effects : List ℕ) : Type 0 where
   pub inside : Inside s h.cursor.at
@@ -102,19 +102,19 @@ pub record BodyInside (s : List ℕ) (h : Begun) (sizes goal costs conditions ef
   pub effects_room : 32768 ≤ length effects
 
 -- the second part, behind any first part that has the sizes: the outcome; where nothing is refused, arrays with the goal and the operators
-pub record BodyStored (s : List ℕ) (h : Begun) (x : Sas) (goal costs conditions effects : List ℕ) (r : Finished) (goalNow costsNow conditionsNow effectsNow : List ℕ) : Type 0 where
+pub record BodyStored (s : List ℕ) (h : Begun) (x : Sas) (goal costs conditions effects : List ℕ) (r : Finished) (goal_now costs_now conditions_now effects_now : List ℕ) : Type 0 where
   pub counted : r.actions ≡ length x.operators
-  pub goal_read : goalNow ≡ filled (cleared goal 0 64) 0 x.goal
-  pub costs_read : costsNow ≡ placed costs 0 (map (λ o. cost_by h.metric o.cost) x.operators)
-  pub conditions_read : conditionsNow ≡ filled_rows conditions 0 (map conditions_of x.operators)
-  pub effects_read : effectsNow ≡ filled_rows effects 0 (map effects_of x.operators)
+  pub goal_read : goal_now ≡ filled (cleared goal 0 64) 0 x.goal
+  pub costs_read : costs_now ≡ placed costs 0 (map (λ o. cost_by h.metric o.cost) x.operators)
+  pub conditions_read : conditions_now ≡ filled_rows conditions 0 (map conditions_of x.operators)
+  pub effects_read : effects_now ≡ filled_rows effects 0 (map effects_of x.operators)
 
-pub record BodyRead (s : List ℕ) (h : Begun) (sizes goal costs conditions effects : List ℕ) (r : Finished) (goalNow costsNow conditionsNow effectsNow : List ℕ) : Type 0 where
+pub record BodyRead (s : List ℕ) (h : Begun) (sizes goal costs conditions effects : List ℕ) (r : Finished) (goal_now costs_now conditions_now effects_now : List ℕ) : Type 0 where
   pub variables : r.variables ≡ h.variables
   pub few_actions : r.actions ≤ 512
   pub outcome : (f : Front) → r.outcome ≡ closed_at s (cursor_after (behind (take h.variables sizes) f) s h.cursor)
   pub stored : (f : Front) → r.outcome.number ≡ 0
-      → BodyStored s h (value_after (behind (take h.variables sizes) f) s h.cursor) goal costs conditions effects r goalNow costsNow conditionsNow effectsNow
+      → BodyStored s h (value_after (behind (take h.variables sizes) f) s h.cursor) goal costs conditions effects r goal_now costs_now conditions_now effects_now
 
 pub record ArraysInside (sizes starts goal costs conditions effects : List ℕ) : Type 0 where
   pub sizes_room : 64 ≤ length sizes
