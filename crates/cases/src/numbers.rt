@@ -9,7 +9,8 @@ pub fn show_decimal<W: Write>(out: &mut W, file: &[u8]) -> io::Result<()> {
     let low = files::bytes::u32_at(file, 0);
     let high = files::bytes::u32_at(file, 4);
     let mut text = [9u8; 20];
-    let count = digits::decimal((low + high * 4294967296) as u64, &mut text);
+    let table = digits::table::whole();
+    let count = digits::lent::decimal((low + high * 4294967296) as u64, &mut text, &table);
     print_digits(out, &text, count)
 }
 

@@ -24,8 +24,8 @@ pub fn fail(rt: &impl Eprint, name: &[u8], error: &io::Error) {
     say(rt, name, reason(error, &mut space));
 }
 
-// Writes a line to standard error: the name, a colon and a text. A name that is no text is written by
-// its bytes.
+// Writes a line to standard error: the name, a colon and a text. A name that is no text is written with
+// its bytes escaped.
 pub fn say(rt: &impl Eprint, name: &[u8], text: &str) {
     let _ = match str::from_utf8(name) {
         Ok(name) => rt.eprintln(format_args!("{name}: {text}")),

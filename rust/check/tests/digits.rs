@@ -1,4 +1,4 @@
-//! Decimal digits and the table that they come from, by the program `cases`,
+//! Decimal digits by the lent table, and the table, by the program `cases`,
 //! which makes the calls of the library's own crate.
 
 use std::fmt::Write;
