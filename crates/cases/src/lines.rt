@@ -38,8 +38,8 @@ pub fn print_number<W: Write>(out: &mut W, n: usize) -> io::Result<()> {
 }
 
 pub fn print_minutes<W: Write>(out: &mut W, minutes: plans::Minutes) -> io::Result<()> {
-    let count = minutes.0;
-    write!(out, "{count}")
+    let n = minutes.0;
+    write!(out, "{n}")
 }
 
 // Prints a number behind another.
