@@ -6,8 +6,7 @@ use mathlib.Core.Bool.{Bool, true, false, ◌&&◌}
 use native.Mathlib.Omega.{arith}
 use lib.Dec.{leb, ltb, eqb}
 use borrow.Author.Tests.{leb-true, ltb-true, eqb-true, le-leb, eq-eqb}
-use Rattle.files.specs.declared.Outcome.{Outcome}
-use Rattle.files.specs.Outcome.{guard, and_then}
+use Rattle.files.specs.Outcome.{Outcome, guard, and_then}
 use Rattle.files.proofs.Guards.{guard_passes, goes_on_lem, passed, both_done}
 
 pub guard_iff : (t : Bool) (n p : ℕ) (rest : Outcome) → ltb 0 n ≡ true → ((guard t n p rest).number ≡ 0) ↔ ((t ≡ true) × (rest.number ≡ 0))

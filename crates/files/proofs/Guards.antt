@@ -4,10 +4,17 @@ use mathlib.Core.Path.{◌≡◌, refl, sym, ap, ◌∙◌}
 use mathlib.Core.Bool.{Bool, true, false, cond}
 use mathlib.Core.List.{List}
 use native.Mathlib.Omega.{arith}
+use Rattle.std.specs.Prelude.{Result, Ok, Err, is_ok}
+use Rattle.std.specs.Result.{IsErrAnd, result_from_control_flow}
+use Rattle.std.specs.declared.ops.ControlFlow.{ControlFlow}
+use Rattle.std.specs.declared.ops.ControlFlow.TheVariants.{Continue, Break}
+use Rattle.std.proofs.lemmas.Result.{err_from_is_err_and}
 use lib.Dec.{leb, ltb, eqb}
 use borrow.Author.Tests.{le-ltb, lt-ltb, le-leb, lt-leb, eq-eqb, ne_eqb, eqb-true, eqb-false}
-use Rattle.files.specs.declared.Outcome.{Outcome}
-use Rattle.files.specs.Outcome.{refusal, is_done, guard, and_then, overwrite, after}
+use Rattle.files.specs.Outcome.{Outcome, done, refusal, refused, number_of, outcome_of, is_done, guard, and_then, overwrite, after}
+use Rattle.files.specs.declared.refusals.Reason.{Reason}
+use Rattle.files.specs.declared.refusals.Reason.TheVariants.{CutShort, NotDue, WrongLength, OutsideLimits, OutOfRange, NotRising, WrongSignOff, UnknownLevel, ShortBuffer, NotApplicable, GoalMissed, NoPlan, TooManyStates, WrongForm, Unsupported, GivenTwice}
+use Rattle.files.specs.declared.refusals.Refusal.{Refusal}
 
 pub guard_passes : (t : Bool) (n p : ℕ) (rest r : Outcome) → t ≡ true → r ≡ rest → r ≡ guard t n p rest
 unfolding guard
@@ -57,8 +64,61 @@ pub stops : (a b x : Outcome) → x ≡ a → (x.number ≡ 0 → ⊥) → x ≡
 unfolding and_then
 stops a b x ea h = rw (is_refused a (λ q. h (ap (λ (o : Outcome). o.number) ea ∙ q))) ea
 
+-- every reason has a number
+pub number_above : (r : Reason) → 1 ≤ number_of r
+number_above CutShort = omega arith
+number_above NotDue = omega arith
+number_above WrongLength = omega arith
+number_above OutsideLimits = omega arith
+number_above OutOfRange = omega arith
+number_above NotRising = omega arith
+number_above WrongSignOff = omega arith
+number_above UnknownLevel = omega arith
+number_above ShortBuffer = omega arith
+number_above NotApplicable = omega arith
+number_above GoalMissed = omega arith
+number_above NoPlan = omega arith
+number_above TooManyStates = omega arith
+number_above WrongForm = omega arith
+number_above Unsupported = omega arith
+number_above GivenTwice = omega arith
+
+pub refused_number : (r : Refusal) → (refused r).number ≡ 0 → ⊥
+refused_number r z = omega (arith, number_above r.reason)
+
+pub refused_stands : (r : Refusal) → is_done (refused r) ≡ false
+refused_stands r = is_refused (refused r) (refused_number r)
+
+pub ok_done : {A : Type 0} (r : Result A Refusal) → is_ok r ≡ is_done (outcome_of r)
+unfolding is_done
+ok_done (Ok x) = refl
+ok_done (Err e) = sym (refused_stands e)
+
+-- a refusal ends what follows, and what is done goes on
+pub stops_refused : (a b : Outcome) (r : Refusal) → refused r ≡ a → refused r ≡ and_then a b
+stops_refused a b r e = stops a b (refused r) e (refused_number r)
+
+pub goes_done : (a b r : Outcome) → done ≡ a → r ≡ b → r ≡ and_then a b
+goes_done a b r e f = goes_on_lem a b r done e refl f
+
+-- what `?` does with what a call answers: after an Ok the rest follows, and an Err is handed on
+pub goes_ok : {A : Type 0} (r : Result A Refusal) (k : ControlFlow _ A) (x : A) (a b o : Outcome)
+    → outcome_of r ≡ a → r ≡ result_from_control_flow k → k ≡ Continue x → o ≡ b → o ≡ and_then a b
+goes_ok r k x a b o e f g h = goes_done a b o (sym (ap outcome_of (f ∙ ap result_from_control_flow g)) ∙ e) h
+
+pub handed_on : {B : Type 0} (o : Result B Refusal) (e : Refusal) → IsErrAnd o (λ x. x ≡ e) → outcome_of o ≡ refused e
+handed_on o e h = let p = err_from_is_err_and o h in rw (p.1, p.2) refl
+
+pub stops_up : {B : Type 0} (o : Result B Refusal) (e : Refusal) (a b : Outcome) → IsErrAnd o (λ x. x ≡ e) → refused e ≡ a → outcome_of o ≡ and_then a b
+stops_up o e a b h q = handed_on o e h ∙ stops_refused a b e q
+
+pub stops_err : {A B : Type 0} (r : Result A Refusal) (k : ControlFlow _ A) (e : _) (o : Result B Refusal) (a b : Outcome)
+    → outcome_of r ≡ a → r ≡ result_from_control_flow k → k ≡ Break e → IsErrAnd o (λ x. x ≡ e.0) → outcome_of o ≡ and_then a b
+stops_err r k e o a b p f g h =
+    stops_up o e.0 a b h (sym (ap outcome_of (f ∙ ap result_from_control_flow g)) ∙ p)
+
 -- answers the return of a check whose tests are the negations of its definition's
-pub ruleset forms = (goes_le, stops_le, goes_lt, stops_lt, goes_eq, stops_eq, goes_on_lem, stops)
+pub ruleset forms = (goes_le, stops_le, goes_lt, stops_lt, goes_eq, stops_eq, goes_on_lem, stops, goes_done, stops_refused, goes_ok, stops_err)
 
 -- what a check that is done has passed
 pub passed : (t : Bool) (n p : ℕ) (rest : Outcome) → 0 < n → (guard t n p rest).number ≡ 0 → (t ≡ true) × (rest.number ≡ 0)

@@ -1,20 +1,20 @@
 -- The arrays that the decoder fills hold the task that it read, where that task is accepted.
-use Prim.Native.Nat.{ℕ, ◌+◌, ◌*◌, ◌/◌, ◌%◌, ◌≤◌, ◌<◌}
+use Prim.Native.Nat.{ℕ, ◌+◌, ◌*◌, ◌%◌, ◌≤◌, ◌<◌}
 use mathlib.Core.Path.{◌≡◌, refl, sym, ap, ap₂, ◌∙◌}
 use mathlib.Core.Bool.{true}
 use mathlib.Core.List.{List, [], ◌∷◌, map}
 use native.Mathlib.Omega.{arith}
 use lib.ListN.{length, get_or, length-map, get_or-map}
 use Rattle.files.specs.Below.{tabulate}
-use Rattle.files.specs.declared.Outcome.{Outcome}
+use Rattle.files.specs.Outcome.{Outcome}
 use Rattle.files.specs.Bytes.{Octets, placed}
 use Rattle.files.specs.Clauses.{CostsOf, TaskRead}
-use Rattle.files.specs.Task.{Pair, Variable, Action, Task, variable, action, variable_count, action_count, variable_of, action_of, size_of}
-use Rattle.files.specs.Records.{body_length}
-use Rattle.files.specs.TaskFile.{variables_in, actions_in, goal_place, actions_place, check_task, pairs_from, variables_from, actions_from, task_of}
+use Rattle.files.specs.Task.{Pair, Action, Task, variable, action, variable_count, action_count, variable_of, action_of, size_of}
+use Rattle.files.specs.TaskFile.{variables_in, actions_in, actions_place, check_task, variables_from, actions_from, task_of}
 use Rattle.files.specs.Accepted.{valid_pairs}
-use Rattle.files.specs.Dense.{Arrays, row_pairs, row_variable, row_action, held, arrays}
-use Rattle.files.specs.Rows.{cleared, filled, filled_rows, stored_sizes, stored_starts, stored_costs, condition_lists, effect_lists}
+use Rattle.files.specs.Dense.{row_pairs, row_variable, row_action, held, arrays}
+use Rattle.files.specs.declared.arrays.Arrays.{Arrays}
+use Rattle.files.specs.Rows.{cleared, filled, filled_rows, stored_sizes, stored_starts, stored_costs, condition_lists, effect_lists, variables_stored, goal_stored, actions_stored, task_stored}
 use Rattle.files.proofs.Done.{facts}
 use Rattle.files.proofs.Valid.{Valid, task_valid}
 use Rattle.files.proofs.TaskChecked.{variable_count_lem, action_count_lem, task_accepted}
@@ -120,41 +120,35 @@ module _ (f : List ℕ) (octets : Octets f) (passes : (check_task f).number ≡ 
       ap (λ (l : List ℕ). get_or l a 0) (e ∙ ap (λ (l : List Action). placed costs₀ 0 (stored_costs l)) (ap₂ (actions_from f) et ea))
       ∙ entry_placed (λ x. x.cost) (task_of f).actions (action 0 [] []) costs₀ a refl (omega (arith, valid.actions_few)) h
 
-  pub held_file : (variables actions goal_at at length' : ℕ) (sizes₀ sizes starts₀ starts goal₀ blank goal costs₀ costs conditions₀ conditions effects₀ effects : List ℕ)
-      → variables ≡ variables_in f → actions ≡ actions_in f → goal_at ≡ goal_place f → at ≡ actions_place f → length' ≡ body_length f goal_at
-      → 64 ≤ length sizes₀ → 64 ≤ length starts₀ → 64 ≤ length goal₀ → 512 ≤ length costs₀ → 32768 ≤ length conditions₀ → 32768 ≤ length effects₀
-      → sizes ≡ placed sizes₀ 0 (stored_sizes (variables_from f 8 variables))
-      → starts ≡ placed starts₀ 0 (stored_starts (variables_from f 8 variables))
-      → blank ≡ cleared goal₀ 0 64
-      → goal ≡ filled blank 0 (pairs_from f (goal_at + 4) (length' / 4))
-      → costs ≡ placed costs₀ 0 (stored_costs (actions_from f at actions))
-      → conditions ≡ filled_rows conditions₀ 0 (condition_lists (actions_from f at actions))
-      → effects ≡ filled_rows effects₀ 0 (effect_lists (actions_from f at actions))
-      → held (arrays (variables_in f) (actions_in f) sizes starts goal costs conditions effects) ≡ task_of f
+  -- its task in arrays
+  pub held_file : (d : Arrays) → 64 ≤ length d.sizes → 64 ≤ length d.starts → 64 ≤ length d.goal → 512 ≤ length d.costs → 32768 ≤ length d.conditions → 32768 ≤ length d.effects
+      → held (task_stored (task_of f) d) ≡ task_of f
+  held_file d ls lt lg lc lo le =
+      let few : action_count (task_of f) ≤ 512 = valid.actions_few in
+      held_task (task_of f) valid d.sizes d.starts d.goal d.costs d.conditions d.effects ls lt lg (omega arith) (omega arith) (omega arith)
+
+  -- what the stages of the reader store
+  pub file_stored : (d : Arrays) (variables actions : ℕ) (listed aimed done : Arrays) → variables ≡ variables_in f → actions ≡ actions_in f
+      → listed ≡ variables_stored 0 (variables_from f 8 variables) (record d { variables = variables; actions = actions }) → aimed ≡ goal_stored (task_of f).goal listed
+      → done ≡ actions_stored 0 (actions_from f (actions_place f) aimed.actions) aimed → done ≡ task_stored (task_of f) d
   unfolding task_of
-  held_file variables actions goal_at at length' sizes₀ sizes starts₀ starts goal₀ blank goal costs₀ costs conditions₀ conditions effects₀ effects ev ea eg et el ls lt lg lc lo le es er eb eo ec ed ef =
+  file_stored d variables actions listed aimed done ev ea el em ed =
       let t : Task = task_of f in
-      let listed : List Action = actions_from f (actions_place f) (actions_in f) in
-      let read : actions_from f at actions ≡ listed = ap₂ (actions_from f) et ea in
-      let known : variables_from f 8 variables ≡ variables_from f 8 (variables_in f) = ap (variables_from f 8) ev in
-      let size : sizes ≡ placed sizes₀ 0 (stored_sizes t.variables) = es ∙ ap (λ (l : List Variable). placed sizes₀ 0 (stored_sizes l)) known in
-      let start : starts ≡ placed starts₀ 0 (stored_starts t.variables) = er ∙ ap (λ (l : List Variable). placed starts₀ 0 (stored_starts l)) known in
-      let count : length' ≡ body_length f (goal_place f) = el ∙ ap (body_length f) eg in
-      let aim : goal ≡ filled (cleared goal₀ 0 64) 0 t.goal =
-      eo ∙ ap (λ (l : List ℕ). filled l 0 (pairs_from f (goal_at + 4) (length' / 4))) eb
-      ∙ ap₂ (λ (p n : ℕ). filled (cleared goal₀ 0 64) 0 (pairs_from f (p + 4) (n / 4))) eg count in
-      let cost : costs ≡ placed costs₀ 0 (stored_costs t.actions) = ec ∙ ap (λ (l : List Action). placed costs₀ 0 (stored_costs l)) read in
-      let asked : conditions ≡ filled_rows conditions₀ 0 (condition_lists t.actions) = ed ∙ ap (λ (l : List Action). filled_rows conditions₀ 0 (condition_lists l)) read in
-      let set : effects ≡ filled_rows effects₀ 0 (effect_lists t.actions) = ef ∙ ap (λ (l : List Action). filled_rows effects₀ 0 (effect_lists l)) read in
-      let vc : variables_in f ≡ variable_count t = sym (variable_count_lem f) in
-      let ac : actions_in f ≡ action_count t = sym (action_count_lem f) in
-      let few : action_count t ≤ 512 = valid.actions_few in
-      (λ i. held (arrays (vc i) (ac i) (size i) (start i) (aim i) (cost i) (asked i) (set i)))
-      ∙ held_task t valid sizes₀ starts₀ goal₀ costs₀ conditions₀ effects₀ ls lt lg (omega arith) (omega arith) (omega arith)
+      let listed_from : ℕ → ℕ → ℕ → Arrays = λ n v a. variables_stored 0 (variables_from f 8 n) (record d { variables = v; actions = a }) in
+      let with_actions : Arrays → Arrays = λ x. actions_stored 0 (actions_from f (actions_place f) x.actions) x in
+      ed ∙ ap with_actions (em ∙ ap (goal_stored t.goal) (el ∙ ap₂ (λ (v a : ℕ). listed_from v v a) ev ea))
+      ∙ ap₂ (λ (v a : ℕ). actions_stored 0 t.actions (goal_stored t.goal (listed_from (variables_in f) v a))) (sym (variable_count_lem f)) (sym (action_count_lem f))
 
--- a file that is accepted has been read; a refused one leaves the arrays as they were
-pub task_read : (f : List ℕ) (before after : Arrays) (r : Outcome) → r ≡ check_task f → r.number ≡ 0 → held after ≡ task_of f → TaskRead f before after r
-task_read f before after r e z h = record { outcome = e; task = λ _. h; untouched = λ refused. absurd (refused z) }
-
-pub task_unread : (f : List ℕ) (before : Arrays) (r : Outcome) → r ≡ check_task f → (r.number ≡ 0 → ⊥) → TaskRead f before before r
-task_unread f before r e refused = record { outcome = e; task = λ z. absurd (refused z); untouched = λ _. refl }
+-- a file that is accepted has been read
+pub task_read : (f : List ℕ) (octets : Octets f) (before after : Arrays) (r : Outcome) → r ≡ check_task f → r.number ≡ 0
+    → after.variables ≡ variables_in f → after.actions ≡ actions_in f → held after ≡ task_of f → TaskRead f before after r
+task_read f octets before after r e z v a h =
+    let passes : (check_task f).number ≡ 0 = ap (λ (o : Outcome). o.number) (sym e) ∙ z in
+    record {
+      outcome = e;
+      task = λ _. h;
+      variables = λ _. v;
+      actions = λ _. a;
+      limits = λ _. record { few_variables = omega (arith, v, variables_in_few f octets passes); few_actions = omega (arith, a, actions_in_few f octets passes) };
+      untouched = λ refused. absurd (refused z);
+    }

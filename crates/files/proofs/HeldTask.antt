@@ -1,15 +1,16 @@
 -- The task that arrays hold, by their cells.
 use Prim.Native.Nat.{ℕ, ◌+◌, ◌*◌, ◌<◌}
-use mathlib.Core.Path.{◌≡◌, refl, ap, ap₂, ◌∙◌}
+use mathlib.Core.Path.{◌≡◌, refl, ap, ◌∙◌}
 use mathlib.Core.Bool.{Bool, true, false, cond}
 use mathlib.Core.List.{List, []}
 use mathlib.Core.Option.{none, some}
 use native.Mathlib.Omega.{arith}
 use lib.Dec.{eqb}
 use lib.ListN.{get_or}
-use Rattle.files.specs.Task.{Variable, Action, Task, variable, action, variable_count, action_count, action_of, size_of, start_of}
+use Rattle.files.specs.Task.{Variable, Action, variable, action, variable_count, action_count, action_of, size_of, start_of}
 use Rattle.files.specs.Accepted.{valid_pairs}
-use Rattle.files.specs.Dense.{Arrays, row_pairs, row_variable, row_action, held, arrays}
+use Rattle.files.specs.Dense.{row_pairs, row_variable, row_action, held}
+use Rattle.files.specs.declared.arrays.Arrays.{Arrays}
 use Rattle.files.proofs.RowValues.{row_pairs_value}
 use Rattle.files.proofs.Tabulate.{tabulate_from_length, tabulate_entry}
 use Rattle.files.proofs.Valid.{Valid, value_valid}
@@ -75,7 +76,3 @@ module _ (d : Arrays) (ok : Valid (held d)) where
 
   pub goal_valid : (v : ℕ) → v < d.variables → eqb (get_or d.goal (0 + v) 0) 255 ≡ false → get_or d.goal (0 + v) 0 < size_of (held d) v
   goal_valid v h there = cell_valid d.goal 0 v (rw (← goal_held d) ok.goal) h there
-
--- the task that arrays hold, by counts that are read again
-pub held_by : (v w n k : ℕ) (sizes starts goal costs conditions effects : List ℕ) (t : Task) → v ≡ w → n ≡ k → held (arrays w k sizes starts goal costs conditions effects) ≡ t → held (arrays v n sizes starts goal costs conditions effects) ≡ t
-held_by v w n k sizes starts goal costs conditions effects t a b e = ap₂ (λ (x y : ℕ). held (arrays x y sizes starts goal costs conditions effects)) a b ∙ e

@@ -1,11 +1,10 @@
 -- Task, origin and plan files are right: what they hold is accepted, what is accepted is written, and both read back.
 use Prim.Native.Nat.{ℕ, ◌≤◌}
 use mathlib.Core.Path.{◌≡◌, ap}
-use Rattle.files.specs.declared.Outcome.{Outcome}
+use Rattle.files.specs.Outcome.{Outcome, done}
 use Rattle.files.specs.Accepted.{accepted_task, accepted_origin, accepted_plan}
 use Rattle.files.specs.Kinds.{KindRight}
 use Rattle.files.specs.OriginFile.{check_origin, origin_of, origin_file}
-use Rattle.files.specs.Outcome.{done}
 use Rattle.files.specs.PlanFile.{check_plan_file, plan_of, plan_file}
 use Rattle.files.specs.Reading.{read_task, read_origin, read_plan}
 use Rattle.files.specs.TaskFile.{check_task, task_of, task_file}

@@ -11,7 +11,9 @@ use Rattle.files.specs.Task.{Pair, Variable, Action, Task, variable_count}
 use Rattle.files.specs.TaskFile.{pair_bytes, variable_bytes, action_body, action_bytes, task_records, task_file}
 use Rattle.files.specs.OriginFile.{VariableOrigin, origin_body, variable_origin_bytes, origin_file}
 use Rattle.files.specs.PlanFile.{plan_file}
-use Rattle.files.specs.Dense.{Arrays, OriginArrays, row_variable, row_action, held, row_origin, held_origin}
+use Rattle.files.specs.Dense.{row_variable, row_action, held, row_origin, held_origin}
+use Rattle.files.specs.declared.arrays.Arrays.{Arrays}
+use Rattle.files.specs.declared.arrays.OriginArrays.{OriginArrays}
 use Rattle.files.specs.Lengths.{action_needed, actions_needed, task_needed, origins_needed, origin_needed}
 use Rattle.files.proofs.Tabulate.{tabulate_from_length}
 use Rattle.files.proofs.RowLaws.{row_numbers_length}

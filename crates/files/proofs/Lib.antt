@@ -30,10 +30,7 @@ pub mod WritingTasks
 pub mod WritingOrigins
 -- the checks, the decoder and the reader step by step
 pub mod Steps
-pub mod RunLaws
 pub mod Decoding
-pub mod ActionsReading
-pub mod CostsReading
 -- bytes, numbers and records that stand in a file
 pub mod Stands
 pub mod RecordStands

@@ -7,10 +7,9 @@ use native.Mathlib.Omega.{arith}
 use lib.Dec.{eqb, leb}
 use lib.ListN.{length}
 use borrow.Author.Tests.{leb-true, eqb-true, eq-eqb}
-use Rattle.files.specs.declared.Outcome.{Outcome}
+use Rattle.files.specs.Outcome.{Outcome, done, refusal, is_done, guard, and_then, in_second}
 use Rattle.files.specs.Below.{any_of}
 use Rattle.files.specs.Bytes.{u16_at}
-use Rattle.files.specs.Outcome.{done, refusal, is_done, guard, and_then, in_second}
 use Rattle.files.specs.Listed.{Refusal, gives, listed, refused_at, in_file, file_refusals}
 use Rattle.files.specs.Records.{body_length, record_end, records_end, body_rule, body_fits, head_at, numbers_at, sign_off_at, size_fits}
 use Rattle.files.specs.TaskFile.{header_at, variables_in, actions_in, variable_at, variables_at, variable_place, pair_at, pairs_at, goal_at, conditions_in, effects_in, action_length, effects_place, action_form_at, action_at, actions_at, goal_place, actions_place, check_task}

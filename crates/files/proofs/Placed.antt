@@ -1,12 +1,14 @@
 -- Laws of `placed` and `overwrite`: lengths, one list after another, and what stands where.
 use Prim.Native.Nat.{ℕ, zero, suc, ◌+◌, ◌-◌, ◌≤◌, ◌<◌}
-use mathlib.Core.Path.{◌≡◌, refl, sym, ap, ◌∙◌}
+use mathlib.Core.Path.{◌≡◌, refl, sym, ap, ap₂, ◌∙◌}
 use mathlib.Core.Bool.{Bool, true, false}
 use mathlib.Core.List.{List, [], ◌∷◌, ◌++◌}
 use native.Mathlib.Omega.{arith}
 use native.Mathlib.Nat.{add-zero}
-use lib.ListN.{length, get_or, set, drop, length-set, length-append, length-drop, get_or-append}
-use lib.Seq.{get_or-set_same, get_or-set_other, ext_get_or, get_or-drop, get_or-append-add}
+use borrow.Rule.Slice.PartMut.{put_mid}
+use Rattle.std.proofs.Common.{append_assoc, add-one}
+use lib.ListN.{length, get_or, set, take, drop, length-set, length-append, length-drop, get_or-append}
+use lib.Seq.{sets, sets-eq, drop-drop, get_or-set_same, get_or-set_other, ext_get_or, get_or-drop, get_or-append-add}
 use lib.Dec.{leb}
 use borrow.Author.Tests.{leb-true, leb-false}
 use Rattle.files.specs.Bytes.{placed}
@@ -16,6 +18,20 @@ pub placed_length : (b : List ℕ) (at : ℕ) (xs : List ℕ) → length (placed
 unfolding placed
 placed_length b at [] = refl
 placed_length b at (x ∷ xs) = placed_length (set b at x) (at + 1) xs ∙ length-set b at x
+
+-- a list that is copied into a part of its length
+placed_sets : (b : List ℕ) (at : ℕ) (xs : List ℕ) → sets b at xs ≡ placed b at xs
+unfolding placed
+placed_sets b at [] = refl
+placed_sets b at (x ∷ xs) = ap (λ (i : ℕ). sets (set b at x) i xs) (sym (add-one at)) ∙ placed_sets (set b at x) (at + 1) xs
+
+pub placed_at_once : (b : List ℕ) (at k : ℕ) (xs part : List ℕ) → at + length xs ≤ length b → k ≡ length xs → part ≡ xs → put_mid at k b part ≡ placed b at xs
+placed_at_once b at k xs part h ek e =
+    ap₂ (λ (m : ℕ) (l : List ℕ). take at b ++ (l ++ drop m (drop at b))) ek e
+    ∙ ap (λ (l : List ℕ). take at b ++ (xs ++ l)) (drop-drop (length xs) at b)
+    ∙ sym (append_assoc (take at b) xs (drop (at + length xs) b))
+    ∙ sym (sets-eq xs b at h)
+    ∙ placed_sets b at xs
 
 -- one list behind another
 pub placed_append : (b : List ℕ) (at : ℕ) (xs ys : List ℕ) → placed b at (xs ++ ys) ≡ placed (placed b at xs) (at + length xs) ys

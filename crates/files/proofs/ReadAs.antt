@@ -3,8 +3,7 @@ use Prim.Native.Nat.{ℕ}
 use mathlib.Core.Path.{◌≡◌, refl}
 use mathlib.Core.Bool.{Bool, true, false, cond}
 use native.Mathlib.Omega.{arith}
-use Rattle.files.specs.declared.Outcome.{Outcome}
-use Rattle.files.specs.Outcome.{is_done}
+use Rattle.files.specs.Outcome.{Outcome, is_done}
 use Rattle.files.specs.Reading.{refused, under, reading}
 use Rattle.files.proofs.Guards.{is_done_lem, done_number}
 

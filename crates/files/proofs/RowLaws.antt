@@ -7,7 +7,9 @@ use mathlib.Core.Option
 use mathlib.Core.Option.{Option, none, some}
 use native.Mathlib.Omega.{arith}
 use native.Mathlib.Nat.{add-zero}
-use lib.ListN.{length, get_or, set, length-set}
+use lib.ListN.{length, get_or, set, take, drop, length-set}
+use Rattle.std.proofs.Common.{not, nat_eq, count_by, drop-cons}
+use Rattle.std.proofs.lemmas.List.Sums.{sum_by-cons}
 use lib.Seq.{get_or-set_same, get_or-set_other}
 use lib.Dec.{eqb, ltb}
 use borrow.Author.Tests.{lt-ltb, eq-eqb, ne_eqb, eqb-true, eqb-false}
@@ -179,6 +181,27 @@ module _ (row : List ℕ) (base v left : ℕ) {rest : ℕ} (value : ℕ) (more :
   row_pairs_next d =
       ap (row_pairs row base v) more
       ∙ rw (ne_eqb (get_or row (base + v) 0) 255 (λ q. d (is ∙ q))) (ap (λ (n : ℕ). pair v n ∷ row_pairs row base (v + 1) rest) (sym is))
+
+-- as many pairs as there are cells with one
+abbrev pub has_pair : ℕ → Bool
+has_pair x = not (nat_eq x 255)
+
+pub row_pairs_counted : (row : List ℕ) (base v count : ℕ) → base + v + count ≤ length row → length (row_pairs row base v count) ≡ count_by has_pair (take count (drop (base + v) row))
+unfolding row_pairs
+row_pairs_counted row base v zero h = refl
+row_pairs_counted row base v (suc count) h =
+    let k : ℕ = base + v in
+    let inside : k < length row = omega arith in
+    let past : base + (v + 1) ≡ suc k = omega arith in
+    let rest : length (row_pairs row base (v + 1) count) ≡ count_by has_pair (take count (drop (suc k) row)) =
+    row_pairs_counted row base (v + 1) count (omega arith) ∙ ap (λ (n : ℕ). count_by has_pair (take count (drop n row))) past in
+    go (eqb (get_or row k 0) 255) rest
+    ∙ sym (ap (λ (l : List ℕ). count_by has_pair (take (suc count) l)) (drop-cons row k 0 inside) ∙ sum_by-cons (λ x. cond (has_pair x) 1 0) (get_or row k 0) (take count (drop (suc k) row)))
+  where
+    go : (t : Bool) → length (row_pairs row base (v + 1) count) ≡ count_by has_pair (take count (drop (suc (base + v)) row))
+        → length (cond t (row_pairs row base (v + 1) count) (pair v (get_or row (base + v) 0) ∷ row_pairs row base (v + 1) count)) ≡ cond (not t) 1 0 + count_by has_pair (take count (drop (suc (base + v)) row))
+    go true e = omega (arith, e)
+    go false e = omega (arith, e)
 
 -- a row with the cells of pairs holds just those pairs
 Ordered_from : (n at_least next : ℕ) (ps : List Pair) → Ordered n at_least ps → ((p : Pair) → at_least ≤ p.variable → next ≤ p.variable) → Ordered n next ps

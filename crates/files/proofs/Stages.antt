@@ -5,8 +5,7 @@ use mathlib.Core.Bool.{true, false, cond}
 use mathlib.Core.List.{List, [], ◌∷◌, ◌++◌, map}
 use lib.Dec.{leb}
 use borrow.Author.Tests.{le-leb}
-use Rattle.files.specs.declared.Outcome.{Outcome}
-use Rattle.files.specs.Outcome.{done, refusal, is_done, and_then, fits}
+use Rattle.files.specs.Outcome.{Outcome, done, refusal, is_done, and_then, fits}
 use Rattle.files.specs.Stages.{Stage, stage, beside, outcome_of, left_by, ByStages}
 use Rattle.files.proofs.Guards.{goes_le, stops_le, guard_passes, is_done_lem}
 use Rattle.files.proofs.Logic.{split, clash}

@@ -1,110 +1,162 @@
--- How the recursive checks go, step by step, as a loop that counts down wants it: what holds of the definition from
--- here on, `whole`, holds again one entry further on, or is what the loop returns.
-use Prim.Native.Nat.{ℕ, ◌+◌, ◌-◌, ◌≤◌, ◌<◌}
-use mathlib.Core.Path.{◌≡◌, refl, sym, ap, ◌∙◌}
+-- How the recursive checks go, entry by entry, as a loop over `count` entries wants it: what holds of the definition from
+-- entry i on, `whole`, holds again from the next entry on, or is what the loop returns.
+use Prim.Native.Nat.{ℕ, suc, ◌+◌, ◌*◌, ◌-◌, ◌≤◌, ◌<◌}
+use mathlib.Core.Path.{◌≡◌, refl, sym, ap, ap₂, ◌∙◌}
 use mathlib.Core.List.{List}
+use native.Mathlib.Omega.{arith}
 use lib.Dec.{leb, ltb}
-use Rattle.files.specs.declared.Outcome.{Outcome}
+use borrow.Author.Tests.{eq-eqb, ne_eqb}
+use Rattle.std.specs.Prelude.{Result}
+use Rattle.std.specs.Result.{IsErrAnd}
+use Rattle.files.proofs.Countdown.{more_from, none_from}
+use Rattle.files.specs.Outcome.{Outcome, done, refusal, refused, outcome_of, guard, and_then}
+use Rattle.files.specs.declared.refusals.Refusal.{Refusal}
 use Rattle.files.specs.Bytes.{u16_at}
-use Rattle.files.specs.Outcome.{done, refusal, guard, and_then}
-use Rattle.files.specs.Records.{record_end, numbers_at, sign_off_at}
+use Rattle.files.specs.Records.{kind_at, record_end, records_end, numbers_at, sign_off_at}
 use Rattle.files.specs.TaskFile.{variable_at, variables_at, pair_at, pairs_at, action_at, actions_at}
-use Rattle.files.specs.OriginFile.{action_origins_at}
-use Rattle.files.proofs.Guards.{goes_le, stops_le, goes_lt, stops_lt, goes_on_lem, stops}
-use Rattle.files.proofs.Countdown.{one_more, none_left}
+use Rattle.files.specs.OriginFile.{variable_origin_at, variable_origins_at, action_origins_at, variable_origins_from}
+use Rattle.files.proofs.Guards.{goes_le, stops_le, goes_lt, stops_lt, goes_done, stops_up}
 
--- numbers below a limit
-numbers_step : (limit : ℕ) (s : List ℕ) (at k : ℕ) → 0 < k → numbers_at limit s at k ≡ guard (ltb (u16_at s at) limit) 5 at (numbers_at limit s (at + 2) (k - 1))
-unfolding numbers_at
-numbers_step limit s at k h = ap (numbers_at limit s at) (one_more k h)
+module _ (s : List ℕ) (at i count : ℕ) (whole r : Outcome) where
+  -- numbers below a limit
+  module _ (limit : ℕ) (w : numbers_at limit s (at + 2 * i) (count - i) ≡ whole) where
+    numbers_step : i < count → guard (ltb (u16_at s (at + 2 * i)) limit) 5 (at + 2 * i) (numbers_at limit s (at + 2 * i + 2) (count - (i + 1))) ≡ whole
+    unfolding numbers_at
+    numbers_step h = sym (ap (numbers_at limit s (at + 2 * i)) (more_from i count h)) ∙ w
 
-pub numbers_none : (limit : ℕ) (s : List ℕ) (at k : ℕ) (whole r : Outcome) → numbers_at limit s at k ≡ whole → k ≤ 0 → r ≡ done → r ≡ whole
-unfolding numbers_at
-numbers_none limit s at k whole r w h e = e ∙ sym (ap (numbers_at limit s at) (none_left k h)) ∙ w
+    pub numbers_none : count ≤ i → r ≡ done → r ≡ whole
+    unfolding numbers_at
+    numbers_none h e = e ∙ sym (ap (numbers_at limit s (at + 2 * i)) (none_from i count h)) ∙ w
 
-pub numbers_stop : (limit : ℕ) (s : List ℕ) (at k : ℕ) (whole : Outcome) (n : ℕ) (r : Outcome) → numbers_at limit s at k ≡ whole → 0 < k → n ≡ u16_at s at → limit ≤ n → r ≡ refusal 5 at → r ≡ whole
-numbers_stop limit s at k whole n r w h e l f =
-    stops_lt _ _ 5 at _ r n limit e refl l f ∙ sym (numbers_step limit s at k h) ∙ w
+    pub numbers_stop : (n : ℕ) → i < count → n ≡ u16_at s (at + 2 * i) → limit ≤ n → r ≡ refusal 5 (at + 2 * i) → r ≡ whole
+    numbers_stop n h e l f = stops_lt _ _ 5 _ _ r n limit e refl l f ∙ numbers_step h
 
-pub numbers_next : (limit : ℕ) (s : List ℕ) (at k : ℕ) (whole : Outcome) (n : ℕ) → numbers_at limit s at k ≡ whole → 0 < k → n ≡ u16_at s at → n < limit → numbers_at limit s (at + 2) (k - 1) ≡ whole
-numbers_next limit s at k whole n w h e l =
-    goes_lt _ _ 5 at _ _ n limit e refl l refl ∙ sym (numbers_step limit s at k h) ∙ w
+    pub numbers_next : (n : ℕ) → i < count → n ≡ u16_at s (at + 2 * i) → n < limit → numbers_at limit s (at + 2 * (i + 1)) (count - (i + 1)) ≡ whole
+    numbers_next n h e l =
+        ap (λ (p : ℕ). numbers_at limit s p (count - (i + 1))) (omega arith)
+        ∙ goes_lt _ _ 5 _ _ _ n limit e refl l refl
+        ∙ numbers_step h
 
--- variables
-variables_step : (s : List ℕ) (at k : ℕ) → 0 < k → variables_at s at k ≡ and_then (variable_at s at) (variables_at s (at + 8) (k - 1))
-unfolding variables_at
-variables_step s at k h = ap (variables_at s at) (one_more k h)
+  -- variables
+  module _ (w : variables_at s (at + 8 * i) (count - i) ≡ whole) where
+    variables_step : i < count → and_then (variable_at s (at + 8 * i)) (variables_at s (at + 8 * i + 8) (count - (i + 1))) ≡ whole
+    unfolding variables_at
+    variables_step h = sym (ap (variables_at s (at + 8 * i)) (more_from i count h)) ∙ w
 
-pub variables_none : (s : List ℕ) (at k : ℕ) (whole r : Outcome) → variables_at s at k ≡ whole → k ≤ 0 → r ≡ done → r ≡ whole
-unfolding variables_at
-variables_none s at k whole r w h e = e ∙ sym (ap (variables_at s at) (none_left k h)) ∙ w
+    pub variables_none : count ≤ i → r ≡ done → r ≡ whole
+    unfolding variables_at
+    variables_none h e = e ∙ sym (ap (variables_at s (at + 8 * i)) (none_from i count h)) ∙ w
 
-pub variables_stop : (s : List ℕ) (at k : ℕ) (whole r : Outcome) → variables_at s at k ≡ whole → 0 < k → r ≡ variable_at s at → (r.number ≡ 0 → ⊥) → r ≡ whole
-variables_stop s at k whole r w h e d = stops _ _ r e d ∙ sym (variables_step s at k h) ∙ w
+    pub variables_stop : (o : Result Unit Refusal) (e : Refusal) → i < count → IsErrAnd o (λ x. x ≡ e) → refused e ≡ variable_at s (at + 8 * i) → outcome_of o ≡ whole
+    variables_stop o e h up f = stops_up o e _ _ up f ∙ variables_step h
 
-pub variables_next : (s : List ℕ) (at k : ℕ) (whole r : Outcome) → variables_at s at k ≡ whole → 0 < k → r ≡ variable_at s at → r.number ≡ 0 → variables_at s (at + 8) (k - 1) ≡ whole
-variables_next s at k whole r w h e z = goes_on_lem _ _ _ r e z refl ∙ sym (variables_step s at k h) ∙ w
+    pub variables_next : i < count → done ≡ variable_at s (at + 8 * i) → variables_at s (at + 8 * (i + 1)) (count - (i + 1)) ≡ whole
+    variables_next h e =
+        ap (λ (p : ℕ). variables_at s p (count - (i + 1))) (omega arith)
+        ∙ goes_done _ _ _ e refl
+        ∙ variables_step h
 
--- pairs
-pairs_step : (s : List ℕ) (at_least at k : ℕ) → 0 < k → pairs_at s at_least at k ≡ and_then (pair_at s at_least at) (pairs_at s (u16_at s at + 1) (at + 4) (k - 1))
-unfolding pairs_at
-pairs_step s at_least at k h = ap (pairs_at s at_least at) (one_more k h)
+  -- pairs
+  module _ (at_least : ℕ) (w : pairs_at s at_least (at + 4 * i) (count - i) ≡ whole) where
+    pairs_step : i < count → and_then (pair_at s at_least (at + 4 * i)) (pairs_at s (u16_at s (at + 4 * i) + 1) (at + 4 * i + 4) (count - (i + 1))) ≡ whole
+    unfolding pairs_at
+    pairs_step h = sym (ap (pairs_at s at_least (at + 4 * i)) (more_from i count h)) ∙ w
 
-pub pairs_none : (s : List ℕ) (at_least at k : ℕ) (whole r : Outcome) → pairs_at s at_least at k ≡ whole → k ≤ 0 → r ≡ done → r ≡ whole
-unfolding pairs_at
-pairs_none s at_least at k whole r w h e = e ∙ sym (ap (pairs_at s at_least at) (none_left k h)) ∙ w
+    pub pairs_none : count ≤ i → r ≡ done → r ≡ whole
+    unfolding pairs_at
+    pairs_none h e = e ∙ sym (ap (pairs_at s at_least (at + 4 * i)) (none_from i count h)) ∙ w
 
-pub pairs_stop : (s : List ℕ) (at_least at k : ℕ) (whole r : Outcome) → pairs_at s at_least at k ≡ whole → 0 < k → r ≡ pair_at s at_least at → (r.number ≡ 0 → ⊥) → r ≡ whole
-pairs_stop s at_least at k whole r w h e d = stops _ _ r e d ∙ sym (pairs_step s at_least at k h) ∙ w
+    pub pairs_stop : (o : Result Unit Refusal) (e : Refusal) → i < count → IsErrAnd o (λ x. x ≡ e) → refused e ≡ pair_at s at_least (at + 4 * i) → outcome_of o ≡ whole
+    pairs_stop o e h up f = stops_up o e _ _ up f ∙ pairs_step h
 
-pub pairs_next : (s : List ℕ) (at_least at k : ℕ) (whole r : Outcome) (variable : ℕ) → pairs_at s at_least at k ≡ whole → 0 < k → r ≡ pair_at s at_least at → r.number ≡ 0 → variable ≡ u16_at s at → pairs_at s (variable + 1) (at + 4) (k - 1) ≡ whole
-pairs_next s at_least at k whole r variable w h e z f =
-    ap (λ (v : ℕ). pairs_at s (v + 1) (at + 4) (k - 1)) f
-    ∙ goes_on_lem _ _ _ r e z refl
-    ∙ sym (pairs_step s at_least at k h)
-    ∙ w
+    pub pairs_next : (variable : ℕ) → i < count → done ≡ pair_at s at_least (at + 4 * i) → variable ≡ u16_at s (at + 4 * i) → pairs_at s (variable + 1) (at + 4 * (i + 1)) (count - (i + 1)) ≡ whole
+    pairs_next variable h e f =
+        ap₂ (λ (v p : ℕ). pairs_at s (v + 1) p (count - (i + 1))) f (omega arith)
+        ∙ goes_done _ _ _ e refl
+        ∙ pairs_step h
 
--- actions, and the sign-off behind them
-actions_step : (s : List ℕ) (at k : ℕ) → 0 < k → actions_at s at k ≡ and_then (action_at s at) (actions_at s (record_end s at) (k - 1))
-unfolding actions_at
-actions_step s at k h = ap (actions_at s at) (one_more k h)
+  -- action origins: they fall, or stop at one that is too large
+  module _ (at_least : ℕ) (w : action_origins_at s at_least (at + 2 * i) (count - i) ≡ whole) where
+    action_origins_step : i < count
+        → guard (leb at_least (u16_at s (at + 2 * i))) 6 (at + 2 * i) (guard (ltb (u16_at s (at + 2 * i)) 512) 5 (at + 2 * i) (action_origins_at s (u16_at s (at + 2 * i) + 1) (at + 2 * i + 2) (count - (i + 1)))) ≡ whole
+    unfolding action_origins_at
+    action_origins_step h = sym (ap (action_origins_at s at_least (at + 2 * i)) (more_from i count h)) ∙ w
 
-pub actions_none : (s : List ℕ) (at k : ℕ) (whole r : Outcome) → actions_at s at k ≡ whole → k ≤ 0 → r ≡ sign_off_at s at → r ≡ whole
-unfolding actions_at
-actions_none s at k whole r w h e = e ∙ sym (ap (actions_at s at) (none_left k h)) ∙ w
+    pub action_origins_none : count ≤ i → r ≡ done → r ≡ whole
+    unfolding action_origins_at
+    action_origins_none h e = e ∙ sym (ap (action_origins_at s at_least (at + 2 * i)) (none_from i count h)) ∙ w
 
-pub actions_stop : (s : List ℕ) (at k : ℕ) (whole r : Outcome) → actions_at s at k ≡ whole → 0 < k → r ≡ action_at s at → (r.number ≡ 0 → ⊥) → r ≡ whole
-actions_stop s at k whole r w h e d = stops _ _ r e d ∙ sym (actions_step s at k h) ∙ w
+    pub action_origins_fall : (n : ℕ) → i < count → n ≡ u16_at s (at + 2 * i) → n < at_least → r ≡ refusal 6 (at + 2 * i) → r ≡ whole
+    action_origins_fall n h e l f = stops_le _ _ 6 _ _ r at_least n refl e l f ∙ action_origins_step h
 
-pub actions_next : (s : List ℕ) (at k : ℕ) (whole r : Outcome) (next : ℕ) → actions_at s at k ≡ whole → 0 < k → r ≡ action_at s at → r.number ≡ 0 → next ≡ record_end s at → actions_at s next (k - 1) ≡ whole
-actions_next s at k whole r next w h e z f =
-    ap (λ (p : ℕ). actions_at s p (k - 1)) f
-    ∙ goes_on_lem _ _ _ r e z refl
-    ∙ sym (actions_step s at k h)
-    ∙ w
+    pub action_origins_stop : (n : ℕ) → i < count → n ≡ u16_at s (at + 2 * i) → at_least ≤ n → 512 ≤ n → r ≡ refusal 5 (at + 2 * i) → r ≡ whole
+    action_origins_stop n h e l m f =
+        goes_le _ _ 6 _ _ r at_least n refl e l (stops_lt _ _ 5 _ _ r n 512 e refl m f) ∙ action_origins_step h
 
--- action origins: they fall, or stop at one that is too large
-action_origins_step : (s : List ℕ) (at_least at k : ℕ) → 0 < k → action_origins_at s at_least at k ≡ guard (leb at_least (u16_at s at)) 6 at (guard (ltb (u16_at s at) 512) 5 at (action_origins_at s (u16_at s at + 1) (at + 2) (k - 1)))
-unfolding action_origins_at
-action_origins_step s at_least at k h = ap (action_origins_at s at_least at) (one_more k h)
+    pub action_origins_next : (n : ℕ) → i < count → n ≡ u16_at s (at + 2 * i) → at_least ≤ n → n < 512 → action_origins_at s (n + 1) (at + 2 * (i + 1)) (count - (i + 1)) ≡ whole
+    action_origins_next n h e l m =
+        ap₂ (λ (v p : ℕ). action_origins_at s (v + 1) p (count - (i + 1))) e (omega arith)
+        ∙ goes_le _ _ 6 _ _ _ at_least n refl e l (goes_lt _ _ 5 _ _ _ n 512 e refl m refl)
+        ∙ action_origins_step h
 
-pub action_origins_none : (s : List ℕ) (at_least at k : ℕ) (whole r : Outcome) → action_origins_at s at_least at k ≡ whole → k ≤ 0 → r ≡ done → r ≡ whole
-unfolding action_origins_at
-action_origins_none s at_least at k whole r w h e = e ∙ sym (ap (action_origins_at s at_least at) (none_left k h)) ∙ w
+-- actions, of which the next stands at `at`, and the sign-off behind them
+module _ (s : List ℕ) (at i count : ℕ) (whole : Outcome) (w : actions_at s at (count - i) ≡ whole) where
+  actions_step : i < count → and_then (action_at s at) (actions_at s (record_end s at) (count - (i + 1))) ≡ whole
+  unfolding actions_at
+  actions_step h = sym (ap (actions_at s at) (more_from i count h)) ∙ w
 
-pub action_origins_fall : (s : List ℕ) (at_least at k : ℕ) (whole : Outcome) (n : ℕ) (r : Outcome) → action_origins_at s at_least at k ≡ whole → 0 < k → n ≡ u16_at s at → n < at_least → r ≡ refusal 6 at → r ≡ whole
-action_origins_fall s at_least at k whole n r w h e l f =
-    stops_le _ _ 6 at _ r at_least n refl e l f ∙ sym (action_origins_step s at_least at k h) ∙ w
+  pub actions_none : (r : Outcome) → count ≤ i → r ≡ sign_off_at s at → r ≡ whole
+  unfolding actions_at
+  actions_none r h e = e ∙ sym (ap (actions_at s at) (none_from i count h)) ∙ w
 
-pub action_origins_stop : (s : List ℕ) (at_least at k : ℕ) (whole : Outcome) (n : ℕ) (r : Outcome) → action_origins_at s at_least at k ≡ whole → 0 < k → n ≡ u16_at s at → at_least ≤ n → 512 ≤ n → r ≡ refusal 5 at → r ≡ whole
-action_origins_stop s at_least at k whole n r w h e l m f =
-    goes_le _ _ 6 at _ r at_least n refl e l (stops_lt _ _ 5 at _ r n 512 e refl m f)
-    ∙ sym (action_origins_step s at_least at k h)
-    ∙ w
+  pub actions_stop : (o : Result Unit Refusal) (e : Refusal) → i < count → IsErrAnd o (λ x. x ≡ e) → refused e ≡ action_at s at → outcome_of o ≡ whole
+  actions_stop o e h up f = stops_up o e _ _ up f ∙ actions_step h
 
-pub action_origins_next : (s : List ℕ) (at_least at k : ℕ) (whole : Outcome) (n : ℕ) → action_origins_at s at_least at k ≡ whole → 0 < k → n ≡ u16_at s at → at_least ≤ n → n < 512 → action_origins_at s (n + 1) (at + 2) (k - 1) ≡ whole
-action_origins_next s at_least at k whole n w h e l m =
-    ap (λ (v : ℕ). action_origins_at s (v + 1) (at + 2) (k - 1)) e
-    ∙ goes_le _ _ 6 at _ _ at_least n refl e l (goes_lt _ _ 5 at _ _ n 512 e refl m refl)
-    ∙ sym (action_origins_step s at_least at k h)
-    ∙ w
+  pub actions_next : (next : ℕ) → i < count → done ≡ action_at s at → next ≡ record_end s at → actions_at s next (count - (i + 1)) ≡ whole
+  actions_next next h e f = ap (λ (p : ℕ). actions_at s p (count - (i + 1))) f ∙ goes_done _ _ _ e refl ∙ actions_step h
+
+-- variable origins, of which the next stands at `at` and has a variable of at least `at_least`
+module _ (s : List ℕ) (at_least at i count : ℕ) (whole : Outcome) (w : variable_origins_at s at_least at (count - i) ≡ whole) where
+  variable_origins_step : i < count → and_then (variable_origin_at s at_least at) (variable_origins_at s (u16_at s (at + 4) + 1) (record_end s at) (count - (i + 1))) ≡ whole
+  unfolding variable_origins_at
+  variable_origins_step h = sym (ap (variable_origins_at s at_least at) (more_from i count h)) ∙ w
+
+  pub variable_origins_none : (r : Outcome) → count ≤ i → r ≡ done → r ≡ whole
+  unfolding variable_origins_at
+  variable_origins_none r h e = e ∙ sym (ap (variable_origins_at s at_least at) (none_from i count h)) ∙ w
+
+  pub variable_origins_stop : (o : Result Unit Refusal) (e : Refusal) → i < count → IsErrAnd o (λ x. x ≡ e) → refused e ≡ variable_origin_at s at_least at → outcome_of o ≡ whole
+  variable_origins_stop o e h up f = stops_up o e _ _ up f ∙ variable_origins_step h
+
+  pub variable_origins_next : (variable next : ℕ) → i < count → done ≡ variable_origin_at s at_least at → variable ≡ u16_at s (at + 4) → next ≡ record_end s at → variable_origins_at s (variable + 1) next (count - (i + 1)) ≡ whole
+  variable_origins_next variable next h e f g = ap₂ (λ (v p : ℕ). variable_origins_at s (v + 1) p (count - (i + 1))) f g ∙ goes_done _ _ _ e refl ∙ variable_origins_step h
+
+-- records that are passed, and variable origins in a row that are counted
+module _ (s : List ℕ) (at i count : ℕ) where
+  pub records_next : (whole next : ℕ) → records_end s at (count - i) ≡ whole → i < count → next ≡ record_end s at → records_end s next (count - (i + 1)) ≡ whole
+  unfolding records_end
+  records_next whole next w h e = ap (λ (p : ℕ). records_end s p (count - (i + 1))) e ∙ sym (ap (records_end s at) (more_from i count h)) ∙ w
+
+  pub records_none : (whole : ℕ) → records_end s at (count - i) ≡ whole → count ≤ i → at ≡ whole
+  unfolding records_end
+  records_none whole w h = sym (ap (records_end s at) (none_from i count h)) ∙ w
+
+  module _ (whole : ℕ) (w : i + variable_origins_from s at (count - i) ≡ whole) where
+    pub origins_counted : (kind next : ℕ) → i < count → kind ≡ kind_at s at → kind ≡ 6 → next ≡ record_end s at → i + 1 + variable_origins_from s next (count - (i + 1)) ≡ whole
+    unfolding variable_origins_from
+    origins_counted kind next h k e f =
+        let one : variable_origins_from s at (count - i) ≡ suc (variable_origins_from s (record_end s at) (count - (i + 1))) =
+        ap (variable_origins_from s at) (more_from i count h) ∙ rw (eq-eqb (kind_at s at) 6 (sym k ∙ e)) refl in
+        let rest = ap (λ (p : ℕ). variable_origins_from s p (count - (i + 1))) f in
+        omega (arith, w, one, rest)
+
+    pub origins_stop : (kind : ℕ) → i < count → kind ≡ kind_at s at → (kind ≡ 6 → ⊥) → i ≡ whole
+    unfolding variable_origins_from
+    origins_stop kind h k d =
+        let none : variable_origins_from s at (count - i) ≡ 0 =
+        ap (variable_origins_from s at) (more_from i count h) ∙ rw (ne_eqb (kind_at s at) 6 (λ q. d (k ∙ q))) refl in
+        omega (arith, w, none)
+
+    pub origins_all : count ≤ i → i ≡ whole
+    unfolding variable_origins_from
+    origins_all h = omega (arith, w, ap (variable_origins_from s at) (none_from i count h))

@@ -7,7 +7,7 @@ use native.Mathlib.Nat.{add-zero}
 use lib.ListN.{length, get_or}
 use lib.Seq.{ext_get_or}
 use Rattle.files.specs.Below.{tabulate_from, tabulate}
-use Rattle.files.proofs.Countdown.{one_more, none_left}
+use Rattle.files.proofs.Countdown.{more_from, none_from}
 
 module _ {A : Type 0} (f : ℕ → A) where
   pub tabulate_from_length : (i n : ℕ) → length (tabulate_from i n f) ≡ n
@@ -28,9 +28,9 @@ module _ {A : Type 0} (f : ℕ → A) where
       ext_get_or d (tabulate n f) l (tabulate_from_length 0 n ∙ sym e)
       (λ k lt. let below : k < n = omega (arith, tabulate_from_length 0 n) in tabulate_entry n k d below ∙ h k below)
 
-  -- one entry more, where a loop counts down
-  pub tabulate_from_next : (i k : ℕ) → 0 < k → tabulate_from i k f ≡ f i ∷ tabulate_from (i + 1) (k - 1) f
-  tabulate_from_next i k h = ap (λ (n : ℕ). tabulate_from i n f) (one_more k h)
+  -- the entries from i on, of `count`
+  pub tabulate_from_next : (i count : ℕ) → i < count → tabulate_from i (count - i) f ≡ f i ∷ tabulate_from (i + 1) (count - (i + 1)) f
+  tabulate_from_next i count h = ap (λ (n : ℕ). tabulate_from i n f) (more_from i count h)
 
-  pub tabulate_from_none : (i k : ℕ) → k ≤ 0 → tabulate_from i k f ≡ []
-  tabulate_from_none i k h = ap (λ (n : ℕ). tabulate_from i n f) (none_left k h)
+  pub tabulate_from_none : (i count : ℕ) → count ≤ i → tabulate_from i (count - i) f ≡ []
+  tabulate_from_none i count h = ap (λ (n : ℕ). tabulate_from i n f) (none_from i count h)

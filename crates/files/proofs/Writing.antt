@@ -1,9 +1,9 @@
 -- Laws of what the writers write: one part of a file placed behind another.
-use Prim.Native.Nat.{ℕ, ◌+◌, ◌-◌, ◌/◌, ◌%◌, ◌≤◌, ◌<◌}
+use Prim.Native.Nat.{ℕ, ◌+◌, ◌-◌, ◌≤◌, ◌<◌}
 use mathlib.Core.Path.{◌≡◌, refl, sym, ap, ◌∙◌}
 use mathlib.Core.List.{List, [], ◌∷◌, ◌++◌}
 use native.Mathlib.Omega.{arith}
-use lib.ListN.{length, set}
+use lib.ListN.{length}
 use Rattle.files.specs.Below.{tabulate_from}
 use Rattle.files.specs.Bytes.{u16_bytes, u32_bytes, placed}
 use Rattle.files.specs.Records.{record_bytes, signed}
@@ -17,15 +17,6 @@ placed_u16_then b c at next n xs e f = placed_then b c at next (u16_bytes n) xs 
 
 pub placed_u32_then : (b c : List ℕ) (at next n : ℕ) (xs : List ℕ) → c ≡ placed b at (u32_bytes n) → next ≡ at + 4 → placed c next xs ≡ placed b at (u32_bytes n ++ xs)
 placed_u32_then b c at next n xs e f = placed_then b c at next (u32_bytes n) xs e (omega (arith, u32_bytes_length n))
-
--- the upper two bytes of a number behind its lower two
-pub placed_u32 : (b c : List ℕ) (at n : ℕ)
-    → c ≡ placed b at (u16_bytes n)
-    → set (set c (at + 2) (n / 65536 % 256)) (at + 3) (n / 16777216 % 256) ≡ placed b at (u32_bytes n)
-unfolding placed u32_bytes
-placed_u32 b c at n e =
-    ap (λ (m : ℕ). set (set c (at + 2) (n / 65536 % 256)) m (n / 16777216 % 256)) (omega arith)
-    ∙ placed_u16_then b c at (at + 2) n (n / 65536 % 256 ∷ n / 16777216 % 256 ∷ []) e refl
 
 -- a body behind the head of its record
 pub placed_record : (b head all : List ℕ) (at kind bytes : ℕ) (body : List ℕ)
@@ -53,17 +44,17 @@ placed_signed b c all end signer records h f e =
 
 -- a loop that writes the entries of a tabulated list: at its end nothing is left to be placed,
 -- and a turn places the bytes of one entry
-module _ {A : Type 0} (bytes : List A → List ℕ) (f : ℕ → A) (b : List ℕ) (at i left : ℕ) where
-  pub placed_none : left ≤ 0 → bytes [] ≡ [] → b ≡ placed b at (bytes (tabulate_from i left f))
+module _ {A : Type 0} (bytes : List A → List ℕ) (f : ℕ → A) (b : List ℕ) (at i count : ℕ) where
+  pub placed_none : count ≤ i → bytes [] ≡ [] → b ≡ placed b at (bytes (tabulate_from i (count - i) f))
   unfolding placed
-  placed_none h e = sym (ap (λ (l : List A). placed b at (bytes l)) (tabulate_from_none f i left h) ∙ ap (placed b at) e)
+  placed_none h e = sym (ap (λ (l : List A). placed b at (bytes l)) (tabulate_from_none f i count h) ∙ ap (placed b at) e)
 
   pub placed_next : (one : A → List ℕ) (c : List ℕ) (next : ℕ)
-      → 0 < left
-      → bytes (f i ∷ tabulate_from (i + 1) (left - 1) f) ≡ one (f i) ++ bytes (tabulate_from (i + 1) (left - 1) f)
+      → i < count
+      → bytes (f i ∷ tabulate_from (i + 1) (count - (i + 1)) f) ≡ one (f i) ++ bytes (tabulate_from (i + 1) (count - (i + 1)) f)
       → c ≡ placed b at (one (f i))
       → next ≡ at + length (one (f i))
-      → placed c next (bytes (tabulate_from (i + 1) (left - 1) f)) ≡ placed b at (bytes (tabulate_from i left f))
+      → placed c next (bytes (tabulate_from (i + 1) (count - (i + 1)) f)) ≡ placed b at (bytes (tabulate_from i (count - i) f))
   placed_next one c next h e p q =
-      placed_then b c at next (one (f i)) (bytes (tabulate_from (i + 1) (left - 1) f)) p q
-      ∙ sym (ap (λ (l : List A). placed b at (bytes l)) (tabulate_from_next f i left h) ∙ ap (placed b at) e)
+      placed_then b c at next (one (f i)) (bytes (tabulate_from (i + 1) (count - (i + 1)) f)) p q
+      ∙ sym (ap (λ (l : List A). placed b at (bytes l)) (tabulate_from_next f i count h) ∙ ap (placed b at) e)

@@ -1,29 +1,61 @@
 -- Laws of what the writer of origin files writes: the records of variable origins, and the file.
 use Prim.Native.Nat.{ℕ, ◌+◌, ◌*◌, ◌-◌, ◌≤◌, ◌<◌}
-use mathlib.Core.Path.{◌≡◌, ap, ap₂, ◌∙◌}
-use mathlib.Core.List.{List, ◌++◌}
+use mathlib.Core.Path.{◌≡◌, sym, ap, ap₂, ◌∙◌}
+use mathlib.Core.List.{List, ◌∷◌, ◌++◌, map}
 use native.Mathlib.Omega.{arith}
-use lib.ListN.{get_or, length-append}
+use lib.ListN.{length, get_or, take, drop, length-append, length-take, length-drop}
+use Rattle.std.proofs.Common.{drop-cons, add-one, get_or-take, get_or-drop}
+use Rattle.std.proofs.lemmas.List.{map-id, drop_all}
+use Rattle.files.proofs.Tabulate.{tabulate_is}
 use Rattle.files.specs.Below.{tabulate}
 use Rattle.files.specs.Bytes.{u16_bytes, u32_bytes, placed}
-use Rattle.files.specs.Dense.{OriginArrays, row_numbers, row_origin, held_origin}
+use Rattle.files.specs.Dense.{row_numbers, row_origin, held_origin}
+use Rattle.files.specs.declared.arrays.OriginArrays.{OriginArrays}
 use Rattle.files.specs.Lengths.{origins_needed}
 use Rattle.files.specs.OriginFile.{origin_body, variable_origin_bytes, origin_file}
 use Rattle.files.specs.Records.{record_bytes, number_bytes}
-use Rattle.files.proofs.Countdown.{one_more, none_left}
+use Rattle.files.proofs.Countdown.{more_from, none_from}
 use Rattle.files.proofs.Placed.{placed_then}
 use Rattle.files.proofs.RowLaws.{row_numbers_length}
 use Rattle.files.proofs.Lengths.{u16_bytes_length, record_bytes_length, number_bytes_length, variable_origin_bytes_length}
 use Rattle.files.proofs.Writing.{placed_u16_then, placed_record, placed_signed}
 
--- the bytes that variable origins take, as a loop that counts down adds them up
-pub origins_needed_none : (sizes : List ℕ) (i left : ℕ) → left ≤ 0 → origins_needed sizes i left ≡ 0
-unfolding origins_needed
-origins_needed_none sizes i left h = ap (origins_needed sizes i) (none_left left h)
+-- the bytes that the variable origins from place i on take, of `count`
+module _ (sizes : List ℕ) (i count : ℕ) where
+  pub origins_needed_none : count ≤ i → origins_needed sizes i (count - i) ≡ 0
+  unfolding origins_needed
+  origins_needed_none h = ap (origins_needed sizes i) (none_from i count h)
 
-pub origins_needed_next : (sizes : List ℕ) (i left : ℕ) → 0 < left → origins_needed sizes i left ≡ 6 + 2 * get_or sizes i 0 + origins_needed sizes (i + 1) (left - 1)
-unfolding origins_needed
-origins_needed_next sizes i left h = ap (origins_needed sizes i) (one_more left h)
+  pub origins_needed_next : i < count → origins_needed sizes i (count - i) ≡ 6 + 2 * get_or sizes i 0 + origins_needed sizes (i + 1) (count - (i + 1))
+  unfolding origins_needed
+  origins_needed_next h = ap (origins_needed sizes i) (more_from i count h)
+
+-- numbers placed one behind the other, from place i on
+module _ {A : Type 0} (value : A → ℕ) (b : List ℕ) (at i : ℕ) (xs : List A) (whole : List ℕ) (w : placed b (at + 2 * i) (number_bytes (map value (drop i xs))) ≡ whole) where
+  pub numbers_placed_next : (x : A) (n : ℕ) (c : List ℕ) → i < length xs → x ≡ get_or xs i x → n ≡ value x → c ≡ placed b (at + 2 * i) (u16_bytes n)
+      → placed c (at + 2 * (i + 1)) (number_bytes (map value (drop (i + 1) xs))) ≡ whole
+  unfolding number_bytes
+  numbers_placed_next x n c h ex en e =
+      let rest : List ℕ = number_bytes (map value (drop (i + 1) xs)) in
+      let first : drop i xs ≡ x ∷ drop (i + 1) xs = drop-cons xs i x h ∙ ap₂ (λ (y : A) (k : ℕ). y ∷ drop k xs) (sym ex) (sym (add-one i)) in
+      placed_then b c (at + 2 * i) (at + 2 * (i + 1)) (u16_bytes n) rest e (omega (arith, u16_bytes_length n))
+      ∙ ap (λ (m : ℕ). placed b (at + 2 * i) (u16_bytes m ++ rest)) en
+      ∙ sym (ap (λ (l : List A). placed b (at + 2 * i) (number_bytes (map value l))) first)
+      ∙ w
+
+  pub numbers_placed_all : length xs ≤ i → b ≡ whole
+  unfolding number_bytes placed
+  numbers_placed_all h = sym (ap (λ (l : List A). placed b (at + 2 * i) (number_bytes (map value l))) (drop_all i xs h)) ∙ w
+
+-- a part of a row, as the row's numbers
+pub row_part : (row : List ℕ) (base count n : ℕ) → base + count ≤ length row → n ≡ count → map (λ x. x) (take n (drop base row)) ≡ row_numbers row base count
+unfolding row_numbers
+row_part row base count n h e =
+    let part : List ℕ = take count (drop base row) in
+    let long : length part ≡ count = omega (arith, length-take count (drop base row), length-drop base row) in
+    ap (λ (k : ℕ). map (λ x. x) (take k (drop base row))) e
+    ∙ map-id part
+    ∙ sym (tabulate_is (λ i. get_or row (base + i) 0) count part 0 long (λ k l. sym (get_or-take count (drop base row) k 0 l ∙ get_or-drop base row k 0)))
 
 -- the record of a variable origin from its parts: head, number, values
 pub placed_origin : (numbers sizes values : List ℕ) (i : ℕ) (b head number all : List ℕ) (at n size : ℕ)

@@ -6,53 +6,55 @@ use native.Mathlib.Omega.{arith}
 use lib.ListN.{length, get_or, length-append}
 use Rattle.files.specs.Below.{tabulate}
 use Rattle.files.specs.Bytes.{u16_bytes, u32_bytes, placed}
-use Rattle.files.specs.Dense.{Arrays, row_pairs, row_variable, row_action, held}
+use Rattle.files.specs.Dense.{row_pairs, row_variable, row_action, held}
+use Rattle.files.specs.declared.arrays.Arrays.{Arrays}
 use Rattle.files.specs.Lengths.{action_needed, actions_needed}
 use Rattle.files.specs.Records.{record_bytes}
 use Rattle.files.specs.Task.{Pair, Action, variable_count, action_count}
 use Rattle.files.specs.TaskFile.{pair_bytes, variable_bytes, action_body, action_bytes, task_records, task_file}
-use Rattle.files.proofs.Countdown.{one_more, none_left}
+use Rattle.files.proofs.Countdown.{more_from, none_from}
 use Rattle.files.proofs.Tabulate.{tabulate_from_length}
 use Rattle.files.proofs.Placed.{placed_then}
 use Rattle.files.proofs.RowLaws.{row_pairs_none, row_pairs_skip, row_pairs_next}
 use Rattle.files.proofs.Lengths.{u16_bytes_length, record_bytes_length, pair_bytes_length, variable_bytes_length, action_body_length, action_bytes_length, task_records_length}
 use Rattle.files.proofs.Writing.{placed_record, placed_signed}
 
--- the bytes that actions take, as a loop that counts down adds them up
-pub actions_needed_none : (variables : ℕ) (conditions effects : List ℕ) (a left : ℕ) → left ≤ 0 → actions_needed variables conditions effects a left ≡ 0
-unfolding actions_needed
-actions_needed_none variables conditions effects a left h = ap (actions_needed variables conditions effects a) (none_left left h)
+-- the bytes that the actions from a on take, of `count`
+module _ (variables : ℕ) (conditions effects : List ℕ) (a count : ℕ) where
+  pub actions_needed_none : count ≤ a → actions_needed variables conditions effects a (count - a) ≡ 0
+  unfolding actions_needed
+  actions_needed_none h = ap (actions_needed variables conditions effects a) (none_from a count h)
 
-pub actions_needed_next : (variables : ℕ) (conditions effects : List ℕ) (a left : ℕ)
-    → 0 < left
-    → actions_needed variables conditions effects a left ≡ action_needed variables conditions effects a + actions_needed variables conditions effects (a + 1) (left - 1)
-unfolding actions_needed
-actions_needed_next variables conditions effects a left h = ap (actions_needed variables conditions effects a) (one_more left h)
+  pub actions_needed_next : a < count
+      → actions_needed variables conditions effects a (count - a) ≡ action_needed variables conditions effects a + actions_needed variables conditions effects (a + 1) (count - (a + 1))
+  unfolding actions_needed
+  actions_needed_next h = ap (actions_needed variables conditions effects a) (more_from a count h)
 
--- the bytes of a row's pairs, as a loop that counts down writes them
-pub placed_pairs_none : (b : List ℕ) (at : ℕ) (row : List ℕ) (base v left : ℕ) → left ≤ 0 → b ≡ placed b at (pair_bytes (row_pairs row base v left))
-unfolding placed pair_bytes
-placed_pairs_none b at row base v left h = sym (ap (λ (l : List Pair). placed b at (pair_bytes l)) (row_pairs_none row base v left h))
+-- the bytes of a row's pairs from variable v on, of `count`
+module _ (b : List ℕ) (at : ℕ) (row : List ℕ) (base v count : ℕ) where
+  pub placed_pairs_none : count ≤ v → b ≡ placed b at (pair_bytes (row_pairs row base v (count - v)))
+  unfolding placed pair_bytes
+  placed_pairs_none h = sym (ap (λ (l : List Pair). placed b at (pair_bytes l)) (row_pairs_none row base v (count - v) (omega arith)))
 
-module _ (b : List ℕ) (at : ℕ) (row : List ℕ) (base v left value : ℕ) (more : 0 < left) (is : value ≡ get_or row (base + v) 0) where
-  pub placed_pairs_skip : (c : List ℕ) (next : ℕ)
-      → c ≡ b
-      → next ≡ at
-      → value ≡ 255
-      → placed c next (pair_bytes (row_pairs row base (v + 1) (left - 1))) ≡ placed b at (pair_bytes (row_pairs row base v left))
-  placed_pairs_skip c next p q e =
-      ap₂ (λ (l : List ℕ) (n : ℕ). placed l n (pair_bytes (row_pairs row base (v + 1) (left - 1)))) p q
-      ∙ sym (ap (λ (l : List Pair). placed b at (pair_bytes l)) (row_pairs_skip row base v left value (one_more left more) is e))
+  module _ (value : ℕ) (more : v < count) (is : value ≡ get_or row (base + v) 0) where
+    pub placed_pairs_skip : (c : List ℕ) (next : ℕ)
+        → c ≡ b
+        → next ≡ at
+        → value ≡ 255
+        → placed c next (pair_bytes (row_pairs row base (v + 1) (count - (v + 1)))) ≡ placed b at (pair_bytes (row_pairs row base v (count - v)))
+    placed_pairs_skip c next p q e =
+        ap₂ (λ (l : List ℕ) (n : ℕ). placed l n (pair_bytes (row_pairs row base (v + 1) (count - (v + 1))))) p q
+        ∙ sym (ap (λ (l : List Pair). placed b at (pair_bytes l)) (row_pairs_skip row base v (count - v) value (more_from v count more) is e))
 
-  pub placed_pairs_next : (c : List ℕ) (next : ℕ)
-      → c ≡ placed b at (u16_bytes v ++ u16_bytes value)
-      → next ≡ at + 4
-      → (value ≡ 255 → ⊥)
-      → placed c next (pair_bytes (row_pairs row base (v + 1) (left - 1))) ≡ placed b at (pair_bytes (row_pairs row base v left))
-  unfolding pair_bytes u16_bytes
-  placed_pairs_next c next p q d =
-      placed_then b c at next (u16_bytes v ++ u16_bytes value) (pair_bytes (row_pairs row base (v + 1) (left - 1))) p q
-      ∙ sym (ap (λ (l : List Pair). placed b at (pair_bytes l)) (row_pairs_next row base v left value (one_more left more) is d))
+    pub placed_pairs_next : (c : List ℕ) (next : ℕ)
+        → c ≡ placed b at (u16_bytes v ++ u16_bytes value)
+        → next ≡ at + 4
+        → (value ≡ 255 → ⊥)
+        → placed c next (pair_bytes (row_pairs row base (v + 1) (count - (v + 1)))) ≡ placed b at (pair_bytes (row_pairs row base v (count - v)))
+    unfolding pair_bytes u16_bytes
+    placed_pairs_next c next p q d =
+        placed_then b c at next (u16_bytes v ++ u16_bytes value) (pair_bytes (row_pairs row base (v + 1) (count - (v + 1)))) p q
+        ∙ sym (ap (λ (l : List Pair). placed b at (pair_bytes l)) (row_pairs_next row base v (count - v) value (more_from v count more) is d))
 
 -- the record of an action from its parts: head, cost and counts, conditions, effects
 pub placed_action : (action : Action) (b head counts conditions effects : List ℕ) (at asked set middle : ℕ)

@@ -3,18 +3,11 @@ use Rattle.std.specs.Prelude.{ℕ, zero, suc, ◌+◌, ◌*◌, ◌≤◌, ◌<�
 use Rattle.files.specs.Below.{tabulate}
 use Rattle.files.specs.Task.{Pair, Variable, Action, Task, pair, variable, action}
 use Rattle.files.specs.OriginFile.{VariableOrigin, Origin}
-
 -- a number per variable, a number per action, and for each action a row of 64 cells, one per variable;
 -- in a row 255 stands for no pair
-pub record Arrays : Type 0 where
-  pub variables : ℕ
-  pub actions : ℕ
-  pub sizes : List ℕ
-  pub starts : List ℕ
-  pub goal : List ℕ
-  pub costs : List ℕ
-  pub conditions : List ℕ
-  pub effects : List ℕ
+pub use Rattle.files.specs.declared.arrays.Arrays.{Arrays}
+-- origins as arrays: original variables, how many values each has, a row of 32 new values for each, original actions
+pub use Rattle.files.specs.declared.arrays.OriginArrays.{OriginArrays}
 
 -- the pairs of `count` cells of the row at `base`, from variable v on
 unfoldable pub row_pairs : List ℕ → ℕ → ℕ → ℕ → List Pair
@@ -42,15 +35,6 @@ held d =
       goal = row_pairs d.goal 0 0 d.variables;
       actions = tabulate d.actions (row_action d.variables d.costs d.conditions d.effects);
     }
-
--- origins as arrays: original variables, how many values each has, a row of 32 new values for each, original actions
-pub record OriginArrays : Type 0 where
-  pub variables : ℕ
-  pub actions : ℕ
-  pub numbers : List ℕ
-  pub sizes : List ℕ
-  pub values : List ℕ
-  pub originals : List ℕ
 
 -- the numbers of `count` cells from `base` on
 unfoldable pub row_numbers : List ℕ → ℕ → ℕ → List ℕ

@@ -1,6 +1,6 @@
 -- Task E, and the form of a table of cases: what the definitions find, and what the document says.
 use Rattle.std.specs.Prelude.{ℕ, Bool, List, [], ◌∷◌, ◌++◌, eqb, replicate}
-use Rattle.files.specs.declared.Outcome.{Outcome}
+use Rattle.files.specs.Outcome.{Outcome}
 use Rattle.files.specs.Below.{same_list}
 use Rattle.files.specs.Task.{Pair, Variable, Action, pair, variable, action}
 use Rattle.files.specs.TaskFile.{task_file}

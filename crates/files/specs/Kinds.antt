@@ -1,9 +1,8 @@
 -- What holds of each kind of signed file: accepted contents, files that read back, and one file for one content.
 use Rattle.std.specs.Prelude.{ℕ, ◌≡◌, Bool, true, List}
-use Rattle.files.specs.declared.Outcome.{Outcome}
+use Rattle.files.specs.Outcome.{Outcome, done}
 use Rattle.files.specs.Accepted.{valid_signer}
 use Rattle.files.specs.Bytes.{Octets}
-use Rattle.files.specs.Outcome.{done}
 use Rattle.files.specs.Reading.{reading, under}
 use Rattle.files.specs.Records.{signer_of}
 

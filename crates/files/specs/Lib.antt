@@ -8,7 +8,6 @@ pub mod Records
 pub mod Task
 pub mod TaskFile
 pub mod OriginFile
-pub mod Runs
 pub mod PlanFile
 pub mod Reading
 pub mod Accepted

@@ -1,8 +1,7 @@
 -- The outcomes that a call can give: done, or one of its refusals, each with its number, its file and its place.
 use Rattle.std.specs.Prelude.{ℕ, Bool, cond, ◌&&◌, List, [], ◌∷◌, map, eqb, leb, length}
-use Rattle.files.specs.declared.Outcome.{Outcome}
+use Rattle.files.specs.Outcome.{Outcome, is_done}
 use Rattle.files.specs.Below.{any_of}
-use Rattle.files.specs.Outcome.{is_done}
 
 -- a refusal that a call can give: its number, its file, and the places that it can have
 pub record Refusal : Type 0 where

@@ -1,9 +1,8 @@
 -- Origin files: which variable, values and actions of the full task a reduced task's are.
 use Rattle.std.specs.Prelude.{ℕ, zero, suc, ◌+◌, ◌-◌, ◌/◌, cond, List, [], ◌∷◌, ◌++◌, leb, ltb, eqb}
 use Rattle.files.specs.Bytes.{u16_at, u16_bytes}
-use Rattle.files.specs.Outcome.{done, guard, and_then}
+use Rattle.files.specs.Outcome.{done, guard, and_then, Outcome}
 use Rattle.files.specs.Records.{body_length, kind_at, record_end, records_end, head_at, numbers_at, sign_off_at, size_fits, numbers_from, number_bytes, record_bytes, signed}
-use Rattle.files.specs.declared.Outcome.{Outcome}
 
 -- a kept variable by its original number, and the new value of each of its old values
 pub record VariableOrigin : Type 0 where
@@ -25,10 +24,6 @@ variable_origin_at s at_least at =
     (guard (leb at_least (u16_at s (at + 4))) 6 (at + 4)
     (guard (ltb (u16_at s (at + 4)) 64) 5 (at + 4)
     (numbers_at 32 s (at + 6) (values_in s at))))
-
--- the least variable of the origin at `at`: above that of the one at `before`, and any where it is the first, which has itself before it
-unfoldable pub least_after : List ℕ → ℕ → ℕ → ℕ
-least_after s before at = cond (eqb before at) 0 (u16_at s (before + 4) + 1)
 
 unfoldable pub variable_origins_at : List ℕ → ℕ → ℕ → ℕ → Outcome
 variable_origins_at s at_least at zero = done

@@ -1,8 +1,7 @@
 -- Plan files, read against a task of so many actions.
 use Rattle.std.specs.Prelude.{ℕ, ◌/◌, List}
-use Rattle.files.specs.Outcome.{and_then}
+use Rattle.files.specs.Outcome.{and_then, Outcome}
 use Rattle.files.specs.Records.{body_length, record_end, head_at, numbers_at, sign_off_at, size_fits, numbers_from, number_bytes, record_bytes, signed}
-use Rattle.files.specs.declared.Outcome.{Outcome}
 
 unfoldable pub steps_in : List ℕ → ℕ
 steps_in s = body_length s 0 / 2

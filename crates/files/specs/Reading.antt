@@ -1,12 +1,11 @@
 -- A file read: refused, or its content under its signer.
 use Rattle.std.specs.Prelude.{ℕ, cond, List}
-use Rattle.files.specs.Outcome.{is_done}
+use Rattle.files.specs.Outcome.{is_done, Outcome}
 use Rattle.files.specs.Records.{signer_of}
 use Rattle.files.specs.Task.{Task}
 use Rattle.files.specs.TaskFile.{check_task, task_of}
 use Rattle.files.specs.OriginFile.{Origin, check_origin, origin_of}
 use Rattle.files.specs.PlanFile.{check_plan_file, plan_of}
-use Rattle.files.specs.declared.Outcome.{Outcome}
 
 pub data Reading (A : Type 0) : Type 0 where
   refused : Outcome → Reading A

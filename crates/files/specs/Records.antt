@@ -1,8 +1,7 @@
 -- Records and the sign-off: what every kind of file shares.
 use Rattle.std.specs.Prelude.{ℕ, zero, suc, ◌+◌, ◌-◌, ◌%◌, ◌^◌, List, [], ◌∷◌, ◌++◌, length, get_or, leb, ltb, eqb}
 use Rattle.files.specs.Bytes.{u16_at, u32_at, u16_bytes, u32_bytes}
-use Rattle.files.specs.Outcome.{done, guard, and_then}
-use Rattle.files.specs.declared.Outcome.{Outcome}
+use Rattle.files.specs.Outcome.{done, guard, and_then, Outcome}
 use Rattle.files.specs.declared.records.Rule.{Rule}
 
 -- every record that is read starts below this offset: no sum of its place and of lengths in it wraps a usize

@@ -1,8 +1,7 @@
 -- A call as a row of stages, and what it answers and leaves by them.
 use Rattle.std.specs.Prelude.{◌≡◌, true, cond, List, [], ◌∷◌}
-use Rattle.files.specs.declared.Outcome.{Outcome}
+use Rattle.files.specs.Outcome.{Outcome, done, is_done, and_then}
 use Rattle.files.specs.Listed.{Refusal, listed}
-use Rattle.files.specs.Outcome.{done, is_done, and_then}
 
 -- a stage: its outcome, and what the lent buffers hold once it is done
 pub record Stage (B : Type 0) : Type 0 where

@@ -1,10 +1,9 @@
 -- Task files: the check in its order of refusals, the task that an accepted file holds, and the file of a task.
 use Rattle.std.specs.Prelude.{ℕ, zero, suc, ◌+◌, ◌*◌, ◌/◌, List, [], ◌∷◌, ◌++◌, length, leb, ltb, eqb}
 use Rattle.files.specs.Bytes.{u16_at, u32_at, u16_bytes, u32_bytes}
-use Rattle.files.specs.Outcome.{done, guard, and_then}
+use Rattle.files.specs.Outcome.{done, guard, and_then, Outcome}
 use Rattle.files.specs.Records.{body_length, record_end, records_end, head_at, sign_off_at, size_fits, record_bytes, signed}
 use Rattle.files.specs.Task.{Pair, Variable, Action, Task, pair, variable, action, variable_count, action_count}
-use Rattle.files.specs.declared.Outcome.{Outcome}
 
 unfoldable pub header_at : List ℕ → Outcome
 header_at s =

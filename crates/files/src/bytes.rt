@@ -10,6 +10,7 @@ pub fn byte_at(s: &[u8], at: usize) -> usize
     if at < s.len() { s[at] as usize } else { 0 }
 }
 
+// Kept: byte by byte, no plainer by `from_le_bytes`, which wants all bytes within the slice.
 // The numbers of 2 and of 4 bytes at a place, 0 for each byte past the end. The place is tested first:
 // within the slice no sum wraps.
 pub fn u16_at(s: &[u8], at: usize) -> usize
@@ -40,8 +41,8 @@ pub(crate) fn put_u16(buffer: &mut [u8], at: usize, n: usize)
     requires { at + 2 ≤ length buffer.old }
     ensures { buffer.new ≡ placed buffer.old at (u16_bytes n) }
 {
-    buffer[at] = (n % 256) as u8;
-    buffer[at + 1] = (n / 256 % 256) as u8;
+    let low = (n % 65536) as u16;
+    buffer[at..at + 2].copy_from_slice(&low.to_le_bytes());
 }
 
 // Writes the lower 32 bits of a number.
@@ -49,7 +50,6 @@ pub(crate) fn put_u32(buffer: &mut [u8], at: usize, n: usize)
     requires { at + 4 ≤ length buffer.old }
     ensures { buffer.new ≡ placed buffer.old at (u32_bytes n) }
 {
-    put_u16(buffer, at, n);
-    buffer[at + 2] = (n / 65536 % 256) as u8;
-    buffer[at + 3] = (n / 16777216 % 256) as u8;
+    let low = (n % 4294967296) as u32;
+    buffer[at..at + 4].copy_from_slice(&low.to_le_bytes());
 }

@@ -2,30 +2,28 @@
 ghost use Rattle.std.specs.Prelude.{◌≡◌, ◌++◌, ◌+◌, ◌*◌, ◌<◌, ◌≤◌, length, get_or};
 ghost use Rattle.files.specs.Bytes.{u16_bytes, placed};
 ghost use Rattle.files.specs.Clauses.{IsBelow, Writable};
+ghost use Rattle.files.specs.Outcome.{outcome_of};
 ghost use Rattle.files.specs.PlanFile.{check_plan_file, plan_of};
 
+use crate::refusals::{Reason, Refusal};
 use crate::units::{OriginalAction, Steps};
-use crate::{Outcome, bytes, limits, outcomes, reader, records};
+use crate::{bytes, limits, reader, records};
 
 // Whether a file is a plan file for a task of so many actions.
-pub fn check(s: &[u8], actions: usize) -> Outcome
-    ensures { result ≡ check_plan_file actions s.now }
+#[tactic(auto, using(crate::proofs::Guards::forms), unfolding(crate::specs::PlanFile::check_plan_file, crate::specs::Records::size_fits, crate::specs::PlanFile::steps_in))]
+pub fn check(s: &[u8], actions: usize) -> Result<(), Refusal>
+    ensures { outcome_of result ≡ check_plan_file actions s.now }
 {
     if limits::MOST_BYTES < s.len() {
-        return outcomes::refuse(outcomes::OUTSIDE_LIMITS, 0);
+        return Err(Refusal::at(Reason::OutsideLimits, 0));
     }
-    let head = records::check_head(s, 0, records::PLAN);
-    if head.number != 0 {
-        return head;
-    }
-    let numbers = records::check_numbers(actions, s, 4, records::body_length(s, 0) / 2);
-    if numbers.number != 0 {
-        return numbers;
-    }
+    records::check_head(s, 0, records::PLAN)?;
+    records::check_numbers(actions, s, 4, records::body_length(s, 0) / 2)?;
     records::check_sign_off(s, reader::record_after(s, 0))
 }
 
 // How many steps a plan file holds.
+#[tactic(auto, using(crate::proofs::Numbers::numbers_length), unfolding(crate::specs::PlanFile::plan_of, crate::specs::PlanFile::steps_in))]
 pub fn steps(s: &[u8]) -> Steps
     ensures { IsBelow result.0 (length (plan_of s.now)) 32768 }
 {

@@ -2,11 +2,15 @@
 ghost use Rattle.std.specs.Prelude.{◌≡◌, ◌++◌, ◌+◌, ◌*◌, ◌^◌, ◌<◌, ◌≤◌, length};
 ghost use Rattle.files.specs.Bytes.{u16_bytes, u32_bytes, placed};
 ghost use Rattle.files.specs.Clauses.{IsBelow, IsRule};
+ghost use Rattle.files.specs.Outcome.{outcome_of};
 ghost use Rattle.files.specs.Records.{offset_limit, body_length, kind_at, record_end, body_fits, head_at, numbers_at, sign_off_at, signer_of, record_bytes};
 
-use crate::{Outcome, bytes, outcomes};
+use crate::bytes;
+use crate::refusals::{Reason, Refusal};
 
 // The kinds of records.
+// Kept: numbers, since one `match` over a kind's number, with a range for the unknown kinds, is a rule of
+// the project, and its arms name constants; an enum beside them would name each kind twice.
 pub(crate) const HEADER: usize = 1;
 
 pub(crate) const VARIABLE: usize = 2;
@@ -87,6 +91,7 @@ const UNKNOWN_BODY: Rule = Rule {
 };
 
 // The body length rule of each kind, and of those that are unknown.
+#[tactic(auto, unfolding(crate::specs::Records::body_rule))]
 fn body_rule(kind: usize) -> Rule
     ensures { IsRule result kind }
 {
@@ -103,12 +108,14 @@ fn body_rule(kind: usize) -> Rule
     }
 }
 
+#[tactic(auto, unfolding(crate::specs::Records::body_length))]
 pub(crate) fn body_length(s: &[u8], at: usize) -> usize
     ensures { IsBelow result (body_length s.now at) 65536 }
 {
     bytes::u16_at(s, at)
 }
 
+#[tactic(auto, unfolding(crate::specs::Records::kind_at))]
 pub(crate) fn kind_at(s: &[u8], at: usize) -> usize
     requires { at < offset_limit }
     ensures { result ≡ kind_at s.now at }
@@ -117,6 +124,7 @@ pub(crate) fn kind_at(s: &[u8], at: usize) -> usize
 }
 
 // Where the record at `at` ends.
+#[tactic(auto, unfolding(crate::specs::Records::record_end))]
 pub(crate) fn record_end(s: &[u8], at: usize) -> usize
     requires { at < offset_limit }
     ensures { IsBelow result (record_end s.now at) (at + 65540) }
@@ -125,84 +133,81 @@ pub(crate) fn record_end(s: &[u8], at: usize) -> usize
 }
 
 // Whether a body of `body` bytes fits the rule of its kind.
-fn check_body(allowed: Rule, body: usize, at: usize) -> Outcome
+#[tactic(auto, using(crate::proofs::Guards::forms), unfolding(crate::specs::Records::body_fits))]
+fn check_body(allowed: Rule, body: usize, at: usize) -> Result<(), Refusal>
     requires { 0 < allowed.step }
-    ensures { result ≡ body_fits allowed body at }
+    ensures { outcome_of result ≡ body_fits allowed body at }
 {
     if body < allowed.least {
-        return outcomes::refuse(outcomes::WRONG_LENGTH, at);
+        return Err(Refusal::at(Reason::WrongLength, at));
     }
     let broken = (body - allowed.least) % allowed.step;
     if broken != 0 {
-        return outcomes::refuse(outcomes::WRONG_LENGTH, at);
+        return Err(Refusal::at(Reason::WrongLength, at));
     }
     if allowed.limit < body {
-        return outcomes::refuse(outcomes::OUTSIDE_LIMITS, at);
+        return Err(Refusal::at(Reason::OutsideLimits, at));
     }
-    outcomes::done()
+    Ok(())
 }
 
 // The head of the record at `at`, where `kind` is due.
-pub(crate) fn check_head(s: &[u8], at: usize, kind: usize) -> Outcome
+#[tactic(auto, using(crate::proofs::Guards::forms), unfolding(crate::specs::Records::head_at))]
+pub(crate) fn check_head(s: &[u8], at: usize, kind: usize) -> Result<(), Refusal>
     requires { at < offset_limit }
-    ensures { result ≡ head_at s.now at kind }
+    ensures { outcome_of result ≡ head_at s.now at kind }
 {
     if s.len() < at + 4 {
-        return outcomes::refuse(outcomes::CUT_SHORT, at);
+        return Err(Refusal::at(Reason::CutShort, at));
     }
     let end = record_end(s, at);
     if s.len() < end {
-        return outcomes::refuse(outcomes::CUT_SHORT, at);
+        return Err(Refusal::at(Reason::CutShort, at));
     }
     let found = kind_at(s, at);
     if found != kind {
-        return outcomes::refuse(outcomes::NOT_DUE, at);
+        return Err(Refusal::at(Reason::NotDue, at));
     }
     check_body(body_rule(found), body_length(s, at), at)
 }
 
 // `count` numbers of 2 bytes, each below the limit.
-pub(crate) fn check_numbers(limit: usize, s: &[u8], at: usize, count: usize) -> Outcome
+pub(crate) fn check_numbers(limit: usize, s: &[u8], at: usize, count: usize) -> Result<(), Refusal>
     requires { at + 2 * count < 2 ^ 64 }
-    ensures { result ≡ numbers_at limit s.now at count }
+    ensures { outcome_of result ≡ numbers_at limit s.now at count }
 {
-    let mut place = at;
-    let mut left = count;
-    while 0 < left {
-        let n = bytes::u16_at(s, place);
-        if limit <= n {
-            return outcomes::refuse(outcomes::OUT_OF_RANGE, place);
+    for i in 0..count {
+        let place = at + 2 * i;
+        if limit <= bytes::u16_at(s, place) {
+            return Err(Refusal::at(Reason::OutOfRange, place));
         }
-        place += 2;
-        left -= 1;
     }
-    outcomes::done()
+    Ok(())
 }
 
 // The sign-off at `at`, behind which nothing stands.
-pub(crate) fn check_sign_off(s: &[u8], at: usize) -> Outcome
+#[tactic(auto, using(crate::proofs::Guards::forms), unfolding(crate::specs::Records::sign_off_at))]
+pub(crate) fn check_sign_off(s: &[u8], at: usize) -> Result<(), Refusal>
     requires { at < offset_limit }
-    ensures { result ≡ sign_off_at s.now at }
+    ensures { outcome_of result ≡ sign_off_at s.now at }
 {
-    let head = check_head(s, at, SIGN_OFF);
-    if head.number != 0 {
-        return head;
-    }
+    check_head(s, at, SIGN_OFF)?;
     let signer = bytes::u32_at(s, at + 4);
     if signer < 1 {
-        return outcomes::refuse(outcomes::WRONG_SIGN_OFF, at + 4);
+        return Err(Refusal::at(Reason::WrongSignOff, at + 4));
     }
     let before = bytes::u32_at(s, at + 8);
     if before != at {
-        return outcomes::refuse(outcomes::WRONG_SIGN_OFF, at + 8);
+        return Err(Refusal::at(Reason::WrongSignOff, at + 8));
     }
     if s.len() != at + 12 {
-        return outcomes::refuse(outcomes::NOT_DUE, at + 12);
+        return Err(Refusal::at(Reason::NotDue, at + 12));
     }
-    outcomes::done()
+    Ok(())
 }
 
 // The signer of an accepted file.
+#[tactic(auto, unfolding(crate::specs::Records::signer_of))]
 pub fn signer(s: &[u8]) -> usize
     ensures { IsBelow result (signer_of s.now) 4294967296 }
 {

@@ -5,25 +5,27 @@ ghost use Rattle.files.specs.Clauses.{IsBelow};
 
 // A cost. C callers lend entries that hold one.
 #[repr(C)]
-#[derive(Clone, Copy)]
+#[derive(Clone, Copy, Debug, PartialEq, Eq, PartialOrd, Ord)]
 pub struct Minutes(pub u64);
 
 // A number of steps. C callers lend entries that hold one.
 #[repr(C)]
-#[derive(Clone, Copy)]
+#[derive(Clone, Copy, Debug, PartialEq, Eq, PartialOrd, Ord)]
 pub struct Steps(pub u16);
 
 // An action's number in the full task.
-#[derive(Clone, Copy)]
+#[derive(Clone, Copy, Debug, PartialEq, Eq)]
 pub struct OriginalAction(pub u16);
 
 // An action's number in the reduced task.
-#[derive(Clone, Copy)]
+#[derive(Clone, Copy, Debug, PartialEq, Eq)]
 pub struct ReducedAction(pub u16);
 
 // The minutes of a cost.
-pub fn minutes_of(cost: u32) -> Minutes
-    ensures { IsBelow result.0 cost 4294967296 }
-{
-    Minutes(cost as u64)
+impl From<u32> for Minutes {
+    ghost from_gives = { λ cost minutes. IsBelow minutes.0 cost 4294967296 };
+
+    fn from(cost: u32) -> Minutes {
+        Minutes(cost as u64)
+    }
 }

@@ -2,36 +2,26 @@
 ghost use Rattle.std.specs.Prelude.{◌≡◌, ◌++◌, ◌+◌, ◌*◌, ◌≤◌, length};
 ghost use Rattle.files.specs.Below.{tabulate};
 ghost use Rattle.files.specs.Bytes.{u16_bytes, u32_bytes, placed};
-ghost use Rattle.files.specs.Clauses.{IsBelow, IsAtMost, WithinLimits, RowWithin, Writable, Written, VariableCells, ActionRows, ActionsRows, ActionCells, ActionsCells};
+ghost use Rattle.files.specs.Clauses.{IsBelow, IsAtMost, WithinLimits, ActionWithin, RowWithin, Writable, Written};
 ghost use Rattle.files.specs.Dense.{row_pairs, row_variable, row_action, held, arrays};
-ghost use Rattle.files.specs.Lengths.{action_needed, actions_needed, task_needed};
+ghost use Rattle.files.specs.Lengths.{action_needed, actions_needed, task_needed, task_length};
 ghost use Rattle.files.specs.Outcome.{overwrite};
 ghost use Rattle.files.specs.Records.{record_bytes};
 ghost use Rattle.files.specs.TaskFile.{pair_bytes, variable_bytes, action_body, action_bytes, task_file};
 
+use crate::arrays::Arrays;
 use crate::units::Minutes;
 use crate::{bytes, limits, records};
-
-// A cell without a pair, read as a number.
-const NO_PAIR: usize = limits::NO_PAIR as usize;
 
 // How many pairs the first `count` cells of the row at `base` have.
 fn pairs_in(rows: &[u8], base: usize, count: usize) -> usize
     requires { RowWithin rows.now base count }
     ensures { IsAtMost result (length (row_pairs rows.now base 0 count)) 64 }
 {
-    let mut found: usize = 0;
-    let mut v: usize = 0;
-    let mut left = count;
-    while 0 < left {
-        let value = bytes::byte_at(rows, base + v);
-        if value != NO_PAIR {
-            found += 1;
-        }
-        v += 1;
-        left -= 1;
-    }
-    found
+    let row = &rows[base..base + count];
+    row.iter()
+        .filter(|value| **value != limits::NO_PAIR)
+        .count()
 }
 
 fn put_pair(buffer: &mut [u8], at: usize, variable: usize, value: usize)
@@ -48,16 +38,12 @@ fn put_pairs(buffer: &mut [u8], at: usize, rows: &[u8], base: usize, count: usiz
     ensures { Written buffer.old buffer.new at (pair_bytes (row_pairs rows.now base 0 count)) result (at + 4 * length (row_pairs rows.now base 0 count)) }
 {
     let mut place = at;
-    let mut v: usize = 0;
-    let mut left = count;
-    while 0 < left {
-        let value = bytes::byte_at(rows, base + v);
-        if value != NO_PAIR {
-            put_pair(buffer, place, v, value);
+    for v in 0..count {
+        let value = rows[base + v];
+        if value != limits::NO_PAIR {
+            put_pair(buffer, place, v, value as usize);
             place += 4;
         }
-        v += 1;
-        left -= 1;
     }
     place
 }
@@ -72,27 +58,6 @@ fn put_variable(buffer: &mut [u8], at: usize, size: usize, start: usize)
     bytes::put_u16(buffer, at + 6, start);
 }
 
-// Writes the records of `count` variables from offset 8 on.
-fn put_variables(buffer: &mut [u8], sizes: &[u8], starts: &[u8], count: usize)
-    requires { Writable (VariableCells sizes.now starts.now count) (8 + 8 * count) buffer.old }
-    ensures { buffer.new ≡ placed buffer.old 8 (variable_bytes (tabulate count (row_variable sizes.now starts.now))) }
-{
-    let mut at: usize = 8;
-    let mut v: usize = 0;
-    let mut left = count;
-    while 0 < left {
-        put_variable(
-            buffer,
-            at,
-            bytes::byte_at(sizes, v),
-            bytes::byte_at(starts, v),
-        );
-        at += 8;
-        v += 1;
-        left -= 1;
-    }
-}
-
 // Writes the header.
 fn put_header(buffer: &mut [u8], variables: usize, actions: usize)
     requires { 8 ≤ length buffer.old }
@@ -101,57 +66,6 @@ fn put_header(buffer: &mut [u8], variables: usize, actions: usize)
     records::put_head(buffer, 0, records::HEADER, 4);
     bytes::put_u16(buffer, 4, variables);
     bytes::put_u16(buffer, 6, actions);
-}
-
-// Writes the goal record at `at`, and says where it ends.
-fn put_goal(buffer: &mut [u8], at: usize, goal: &[u8], variables: usize) -> usize
-    requires { Writable (RowWithin goal.now 0 variables) (at + 4 + 4 * length (row_pairs goal.now 0 0 variables)) buffer.old }
-    ensures { Written buffer.old buffer.new at (record_bytes 3 (pair_bytes (row_pairs goal.now 0 0 variables))) result (at + 4 + 4 * length (row_pairs goal.now 0 0 variables)) }
-{
-    let pairs = pairs_in(goal, 0, variables);
-    records::put_head(buffer, at, records::GOAL, 4 * pairs);
-    put_pairs(buffer, at + 4, goal, 0, variables)
-}
-
-// How many bytes the record of action `a` takes.
-fn action_needed(conditions: &[u8], effects: &[u8], a: usize, variables: usize) -> usize
-    requires { ActionRows conditions.now effects.now variables a }
-    ensures { IsAtMost result (action_needed variables conditions.now effects.now a) 524 }
-{
-    let base = limits::ROW * a;
-    12 + 4 * pairs_in(conditions, base, variables) + 4 * pairs_in(effects, base, variables)
-}
-
-// How many bytes the records of `count` actions take.
-fn actions_needed(conditions: &[u8], effects: &[u8], variables: usize, count: usize) -> usize
-    requires { ActionsRows conditions.now effects.now variables count }
-    ensures { IsAtMost result (actions_needed variables conditions.now effects.now 0 count) (524 * count) }
-{
-    let mut bytes: usize = 0;
-    let mut a: usize = 0;
-    let mut left = count;
-    while 0 < left {
-        bytes += action_needed(conditions, effects, a, variables);
-        a += 1;
-        left -= 1;
-    }
-    bytes
-}
-
-// How many bytes the file of the task that arrays hold takes.
-pub fn task_needed(
-    variables: usize,
-    actions: usize,
-    goal: &[u8; 64],
-    conditions: &[u8; 32768],
-    effects: &[u8; 32768],
-) -> usize
-    requires { WithinLimits variables actions }
-    ensures { IsBelow result (task_needed variables actions goal.now conditions.now effects.now) 300000 }
-{
-    let pairs = pairs_in(goal, 0, variables);
-    let records = actions_needed(conditions, effects, variables, actions);
-    24 + 8 * variables + 4 * pairs + records
 }
 
 // Writes cost and counts of an action behind its record's head.
@@ -164,74 +78,97 @@ fn put_counts(buffer: &mut [u8], at: usize, cost: Minutes, conditions: usize, ef
     bytes::put_u16(buffer, at + 6, effects);
 }
 
-// Writes the record of action `a`, and says where it ends.
-fn put_action(
-    buffer: &mut [u8],
-    at: usize,
-    costs: &[u32],
-    conditions: &[u8],
-    effects: &[u8],
-    a: usize,
-    variables: usize,
-) -> usize
-    requires { Writable (ActionCells costs.now conditions.now effects.now variables a) (at + action_needed variables conditions.now effects.now a) buffer.old }
-    ensures { Written buffer.old buffer.new at (record_bytes 4 (action_body (row_action variables costs.now conditions.now effects.now a))) result (at + action_needed variables conditions.now effects.now a) }
-{
-    let base = limits::ROW * a;
-    let asked = pairs_in(conditions, base, variables);
-    let set = pairs_in(effects, base, variables);
-    let cost = costs[a] as u64;
-    records::put_head(buffer, at, records::ACTION, 8 + 4 * asked + 4 * set);
-    put_counts(buffer, at + 4, Minutes(cost), asked, set);
-    let middle = put_pairs(buffer, at + 12, conditions, base, variables);
-    put_pairs(buffer, middle, effects, base, variables)
-}
-
-// Writes the records of `count` actions from `at` on, and says where they end.
-fn put_actions(
-    buffer: &mut [u8],
-    at: usize,
-    costs: &[u32],
-    conditions: &[u8],
-    effects: &[u8],
-    variables: usize,
-    count: usize,
-) -> usize
-    requires { Writable (ActionsCells costs.now conditions.now effects.now variables count) (at + actions_needed variables conditions.now effects.now 0 count) buffer.old }
-    ensures { Written buffer.old buffer.new at (action_bytes (tabulate count (row_action variables costs.now conditions.now effects.now))) result (at + actions_needed variables conditions.now effects.now 0 count) }
-{
-    let mut place = at;
-    let mut a: usize = 0;
-    let mut left = count;
-    while 0 < left {
-        place = put_action(buffer, place, costs, conditions, effects, a, variables);
-        a += 1;
-        left -= 1;
+impl Arrays {
+    // How many bytes the file of the task takes.
+    #[tactic(auto, unfolding(crate::specs::Lengths::task_needed))]
+    pub fn file_length(&self) -> usize
+        requires { WithinLimits self.now.variables self.now.actions }
+        ensures { IsBelow result (task_length self.now) 300000 }
+    {
+        let pairs = pairs_in(&self.goal, 0, self.variables);
+        24 + 8 * self.variables + 4 * pairs + self.actions_length()
     }
-    place
-}
 
-// Writes the file of the task that arrays hold.
-pub fn write_task(
-    buffer: &mut [u8],
-    variables: usize,
-    actions: usize,
-    sizes: &[u8; 64],
-    starts: &[u8; 64],
-    goal: &[u8; 64],
-    costs: &[u32; 512],
-    conditions: &[u8; 32768],
-    effects: &[u8; 32768],
-    signer: usize,
-)
-    requires { Writable (WithinLimits variables actions) (task_needed variables actions goal.now conditions.now effects.now) buffer.old }
-    ensures { buffer.new ≡ overwrite buffer.old (task_file (held (arrays variables actions sizes.now starts.now goal.now costs.now conditions.now effects.now)) signer) }
-{
-    put_header(buffer, variables, actions);
-    put_variables(buffer, sizes, starts, variables);
-    let first = put_goal(buffer, 8 + 8 * variables, goal, variables);
-    let end = put_actions(
-        buffer, first, costs, conditions, effects, variables, actions,
-    );
-    records::put_sign_off(buffer, end, signer);
+    // How many bytes the record of action `a` takes.
+    #[tactic(auto, unfolding(crate::specs::Lengths::action_needed))]
+    fn action_length(&self, a: usize) -> usize
+        requires { ActionWithin a self.now.variables }
+        ensures { IsAtMost result (action_needed self.now.variables self.now.conditions self.now.effects a) 524 }
+    {
+        let base = limits::ROW * a;
+        let asked = pairs_in(&self.conditions, base, self.variables);
+        let set = pairs_in(&self.effects, base, self.variables);
+        12 + 4 * asked + 4 * set
+    }
+
+    // How many bytes the records of the actions take.
+    fn actions_length(&self) -> usize
+        requires { WithinLimits self.now.variables self.now.actions }
+        ensures { IsAtMost result (actions_needed self.now.variables self.now.conditions self.now.effects 0 self.now.actions) (524 * self.now.actions) }
+    {
+        let mut bytes = 0;
+        for a in 0..self.actions {
+            bytes += self.action_length(a);
+        }
+        bytes
+    }
+
+    // Writes the file of the task.
+    pub fn write(&self, buffer: &mut [u8], signer: usize)
+        requires { Writable (WithinLimits self.now.variables self.now.actions) (task_length self.now) buffer.old }
+        ensures { buffer.new ≡ overwrite buffer.old (task_file (held self.now) signer) }
+    {
+        put_header(buffer, self.variables, self.actions);
+        self.put_variables(buffer);
+        let first = self.put_goal(buffer, 8 + 8 * self.variables);
+        let end = self.put_actions(buffer, first);
+        records::put_sign_off(buffer, end, signer);
+    }
+
+    // Writes the records of the variables from offset 8 on.
+    fn put_variables(&self, buffer: &mut [u8])
+        requires { Writable (self.now.variables ≤ 64) (8 + 8 * self.now.variables) buffer.old }
+        ensures { buffer.new ≡ placed buffer.old 8 (variable_bytes (tabulate self.now.variables (row_variable self.now.sizes self.now.starts))) }
+    {
+        for v in 0..self.variables {
+            let size = self.sizes[v] as usize;
+            put_variable(buffer, 8 + 8 * v, size, self.starts[v] as usize);
+        }
+    }
+
+    // Writes the goal record at `at`, and says where it ends.
+    fn put_goal(&self, buffer: &mut [u8], at: usize) -> usize
+        requires { Writable (self.now.variables ≤ 64) (at + 4 + 4 * length (row_pairs self.now.goal 0 0 self.now.variables)) buffer.old }
+        ensures { Written buffer.old buffer.new at (record_bytes 3 (pair_bytes (row_pairs self.now.goal 0 0 self.now.variables))) result (at + 4 + 4 * length (row_pairs self.now.goal 0 0 self.now.variables)) }
+    {
+        let pairs = pairs_in(&self.goal, 0, self.variables);
+        records::put_head(buffer, at, records::GOAL, 4 * pairs);
+        put_pairs(buffer, at + 4, &self.goal, 0, self.variables)
+    }
+
+    // Writes the record of action `a`, and says where it ends.
+    fn put_action(&self, buffer: &mut [u8], at: usize, a: usize) -> usize
+        requires { Writable (ActionWithin a self.now.variables) (at + action_needed self.now.variables self.now.conditions self.now.effects a) buffer.old }
+        ensures { Written buffer.old buffer.new at (record_bytes 4 (action_body (row_action self.now.variables self.now.costs self.now.conditions self.now.effects a))) result (at + action_needed self.now.variables self.now.conditions self.now.effects a) }
+    {
+        let base = limits::ROW * a;
+        let asked = pairs_in(&self.conditions, base, self.variables);
+        let set = pairs_in(&self.effects, base, self.variables);
+        records::put_head(buffer, at, records::ACTION, 8 + 4 * asked + 4 * set);
+        put_counts(buffer, at + 4, Minutes::from(self.costs[a]), asked, set);
+        let middle = put_pairs(buffer, at + 12, &self.conditions, base, self.variables);
+        put_pairs(buffer, middle, &self.effects, base, self.variables)
+    }
+
+    // Writes the records of the actions from `at` on, and says where they end.
+    fn put_actions(&self, buffer: &mut [u8], at: usize) -> usize
+        requires { Writable (WithinLimits self.now.variables self.now.actions) (at + actions_needed self.now.variables self.now.conditions self.now.effects 0 self.now.actions) buffer.old }
+        ensures { Written buffer.old buffer.new at (action_bytes (tabulate self.now.actions (row_action self.now.variables self.now.costs self.now.conditions self.now.effects))) result (at + actions_needed self.now.variables self.now.conditions self.now.effects 0 self.now.actions) }
+    {
+        let mut place = at;
+        for a in 0..self.actions {
+            place = self.put_action(buffer, place, a);
+        }
+        place
+    }
 }

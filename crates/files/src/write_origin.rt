@@ -1,129 +1,93 @@
-// Origin files written from arrays, under a signer, into a buffer that is long enough.
-ghost use Rattle.std.specs.Prelude.{◌≡◌, ◌+◌, ◌*◌, ◌≤◌, length, get_or};
+// Origin files written from their arrays, under a signer, into a buffer that is long enough.
+ghost use Rattle.std.specs.Prelude.{◌≡◌, ℕ, ◌+◌, ◌*◌, ◌≤◌, length, get_or, map};
 ghost use Rattle.files.specs.Below.{tabulate};
 ghost use Rattle.files.specs.Bytes.{placed};
-ghost use Rattle.files.specs.Clauses.{IsBelow, IsAtMost, WithinLimits, RowWithin, Writable, Written, OriginCells, OriginsCells, OriginWithin};
-ghost use Rattle.files.specs.Dense.{row_numbers, row_origin, held_origin, origin_arrays};
-ghost use Rattle.files.specs.Lengths.{origins_needed, origin_needed};
+ghost use Rattle.files.specs.Clauses.{IsBelow, IsAtMost, WithinLimits, Writable, Written, OriginAt, OriginWithin};
+ghost use Rattle.files.specs.Dense.{row_numbers, row_origin, held_origin};
+ghost use Rattle.files.specs.Lengths.{origins_needed, origin_length};
 ghost use Rattle.files.specs.OriginFile.{origin_file, variable_origin_bytes, origin_body};
 ghost use Rattle.files.specs.Outcome.{overwrite};
 ghost use Rattle.files.specs.Records.{record_bytes, number_bytes};
 
+use crate::arrays::OriginArrays;
 use crate::{bytes, limits, records};
 
-// How many bytes the records of `count` variable origins take.
-fn origins_needed(sizes: &[u8], count: usize) -> usize
-    requires { RowWithin sizes.now 0 count }
-    ensures { IsAtMost result (origins_needed sizes.now 0 count) (520 * count) }
+// Writes numbers from `at` on, each by 2 bytes.
+fn put_numbers<T: Copy + Into<usize>>(buffer: &mut [u8], at: usize, numbers: &[T])
+    ghost value: { T → ℕ }
+    requires converted { (x : T) (n : ℕ) → T.converts x n → n ≡ value x }
+    requires room { at + 2 * length numbers.now ≤ length buffer.old }
+    ensures { buffer.new ≡ placed buffer.old at (number_bytes (map value numbers.now)) }
 {
-    let mut bytes: usize = 0;
-    let mut i: usize = 0;
-    let mut left = count;
-    while 0 < left {
-        bytes += 6 + 2 * bytes::byte_at(sizes, i);
-        i += 1;
-        left -= 1;
-    }
-    bytes
-}
-
-// How many bytes the file of the origins that arrays hold takes.
-pub fn origin_needed(variables: usize, actions: usize, sizes: &[u8; 64]) -> usize
-    requires { WithinLimits variables actions }
-    ensures { IsBelow result (origin_needed variables actions sizes.now) 40000 }
-{
-    16 + origins_needed(sizes, variables) + 2 * actions
-}
-
-// Writes `count` cells of a row from `base` on as numbers of 2 bytes.
-fn put_values(buffer: &mut [u8], at: usize, values: &[u8], base: usize, count: usize)
-    requires { Writable (base + count ≤ length values.now) (at + 2 * count) buffer.old }
-    ensures { buffer.new ≡ placed buffer.old at (number_bytes (row_numbers values.now base count)) }
-{
-    let mut place = at;
-    let mut i: usize = 0;
-    let mut left = count;
-    while 0 < left {
-        bytes::put_u16(buffer, place, bytes::byte_at(values, base + i));
-        place += 2;
-        i += 1;
-        left -= 1;
+    for (i, number) in numbers.iter().enumerate() {
+        bytes::put_u16(buffer, at + 2 * i, (*number).into());
     }
 }
 
-// Writes the record of the variable origin at place `i`, and says where it ends.
-fn put_origin(
-    buffer: &mut [u8],
-    at: usize,
-    numbers: &[u8],
-    sizes: &[u8],
-    values: &[u8],
-    i: usize,
-) -> usize
-    requires { Writable (OriginCells sizes.now values.now i) (at + 6 + 2 * get_or sizes.now i 0) buffer.old }
-    ensures { Written buffer.old buffer.new at (record_bytes 6 (origin_body (row_origin numbers.now sizes.now values.now i))) result (at + (6 + 2 * get_or sizes.now i 0)) }
-{
-    let size = bytes::byte_at(sizes, i);
-    records::put_head(buffer, at, records::VARIABLE_ORIGIN, 2 + 2 * size);
-    bytes::put_u16(buffer, at + 4, bytes::byte_at(numbers, i));
-    put_values(buffer, at + 6, values, limits::MOST_VALUES * i, size);
-    at + (6 + 2 * size)
-}
-
-// Writes the records of `count` variable origins from the buffer's start on, and says where they end.
-fn put_origins(
-    buffer: &mut [u8],
-    numbers: &[u8],
-    sizes: &[u8],
-    values: &[u8],
-    count: usize,
-) -> usize
-    requires { Writable (OriginsCells sizes.now values.now count) (origins_needed sizes.now 0 count) buffer.old }
-    ensures { Written buffer.old buffer.new 0 (variable_origin_bytes (tabulate count (row_origin numbers.now sizes.now values.now))) result (origins_needed sizes.now 0 count) }
-{
-    let mut place: usize = 0;
-    let mut i: usize = 0;
-    let mut left = count;
-    while 0 < left {
-        place = put_origin(buffer, place, numbers, sizes, values, i);
-        i += 1;
-        left -= 1;
+impl OriginArrays {
+    // How many bytes the file of the origins takes.
+    #[tactic(auto, unfolding(crate::specs::Lengths::origin_needed))]
+    pub fn file_length(&self) -> usize
+        requires { WithinLimits self.now.variables self.now.actions }
+        ensures { IsBelow result (origin_length self.now) 40000 }
+    {
+        16 + self.variables_length() + 2 * self.actions
     }
-    place
-}
 
-// Writes `count` original action numbers from `at` on.
-fn put_originals(buffer: &mut [u8], at: usize, originals: &[u16], count: usize)
-    requires { Writable (count ≤ length originals.now) (at + 2 * count) buffer.old }
-    ensures { buffer.new ≡ placed buffer.old at (number_bytes (row_numbers originals.now 0 count)) }
-{
-    let mut place = at;
-    let mut i: usize = 0;
-    let mut left = count;
-    while 0 < left {
-        bytes::put_u16(buffer, place, originals[i] as usize);
-        place += 2;
-        i += 1;
-        left -= 1;
+    // How many bytes the records of the variable origins take.
+    fn variables_length(&self) -> usize
+        requires { self.now.variables ≤ 64 }
+        ensures { IsAtMost result (origins_needed self.now.sizes 0 self.now.variables) (520 * self.now.variables) }
+    {
+        let mut bytes = 0;
+        for i in 0..self.variables {
+            bytes += 6 + 2 * (self.sizes[i] as usize);
+        }
+        bytes
     }
-}
 
-// Writes the file of the origins that arrays hold.
-pub fn write_origin(
-    buffer: &mut [u8],
-    variables: usize,
-    actions: usize,
-    numbers: &[u8; 64],
-    sizes: &[u8; 64],
-    values: &[u8; 2048],
-    originals: &[u16; 512],
-    signer: usize,
-)
-    requires { Writable (OriginWithin variables actions sizes.now) (origin_needed variables actions sizes.now) buffer.old }
-    ensures { buffer.new ≡ overwrite buffer.old (origin_file (held_origin (origin_arrays variables actions numbers.now sizes.now values.now originals.now)) signer) }
-{
-    let at = put_origins(buffer, numbers, sizes, values, variables);
-    records::put_head(buffer, at, records::ACTION_ORIGIN, 2 * actions);
-    put_originals(buffer, at + 4, originals, actions);
-    records::put_sign_off(buffer, at + 4 + 2 * actions, signer);
+    // Writes the file of the origins.
+    pub fn write(&self, buffer: &mut [u8], signer: usize)
+        requires { Writable (OriginWithin self.now.variables self.now.actions self.now.sizes) (origin_length self.now) buffer.old }
+        ensures { buffer.new ≡ overwrite buffer.old (origin_file (held_origin self.now) signer) }
+    {
+        let at = self.put_variables(buffer);
+        let actions = self.actions;
+        records::put_head(buffer, at, records::ACTION_ORIGIN, 2 * actions);
+        self.put_originals(buffer, at + 4);
+        records::put_sign_off(buffer, at + 4 + 2 * actions, signer);
+    }
+
+    // Writes the original numbers of the actions from `at` on.
+    fn put_originals(&self, buffer: &mut [u8], at: usize)
+        requires { Writable (self.now.actions ≤ 512) (at + 2 * self.now.actions) buffer.old }
+        ensures { buffer.new ≡ placed buffer.old at (number_bytes (row_numbers self.now.originals 0 self.now.actions)) }
+    {
+        put_numbers(buffer, at, &self.originals[..self.actions]);
+    }
+
+    // Writes the record of the variable origin at place `i`, and says where it ends.
+    fn put_variable(&self, buffer: &mut [u8], at: usize, i: usize) -> usize
+        requires { Writable (OriginAt i self.now.sizes) (at + 6 + 2 * get_or self.now.sizes i 0) buffer.old }
+        ensures { Written buffer.old buffer.new at (record_bytes 6 (origin_body (row_origin self.now.numbers self.now.sizes self.now.values i))) result (at + (6 + 2 * get_or self.now.sizes i 0)) }
+    {
+        let size = self.sizes[i] as usize;
+        records::put_head(buffer, at, records::VARIABLE_ORIGIN, 2 + 2 * size);
+        bytes::put_u16(buffer, at + 4, self.numbers[i] as usize);
+        let first = limits::MOST_VALUES * i;
+        put_numbers(buffer, at + 6, &self.values[first..first + size]);
+        at + (6 + 2 * size)
+    }
+
+    // Writes the records of the variable origins from the buffer's start on, and says where they end.
+    fn put_variables(&self, buffer: &mut [u8]) -> usize
+        requires { Writable (OriginWithin self.now.variables self.now.actions self.now.sizes) (origins_needed self.now.sizes 0 self.now.variables) buffer.old }
+        ensures { Written buffer.old buffer.new 0 (variable_origin_bytes (tabulate self.now.variables (row_origin self.now.numbers self.now.sizes self.now.values))) result (origins_needed self.now.sizes 0 self.now.variables) }
+    {
+        let mut place = 0;
+        for i in 0..self.variables {
+            place = self.put_variable(buffer, place, i);
+        }
+        place
+    }
 }

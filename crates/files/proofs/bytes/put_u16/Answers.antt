@@ -1,13 +1,16 @@
--- The bytes stored are, one behind the other, those of `u16Bytes`.
-use native.Mathlib.Omega.{arith}
-use mathlib.Core.Path.{refl}
-use lib.ListN.{length-set}
-use Rattle.files.specs.Bytes.{placed, u16_bytes}
+-- The lower bytes of the number, the lowest first, are copied into their place.
+use Rattle.std.proofs.Common.{◌≡◌, ◌/◌, ◌%◌, ℕ, [], ◌∷◌, arith}
+use mathlib.Core.Path.{◌∙◌}
+use Rattle.files.specs.Bytes.{u16_bytes}
+use Rattle.files.proofs.Placed.{placed_at_once}
 use Rattle.files.proofs.bytes.put_u16.Goals as goal
 
-pub bounds-buffer-at-2 : goal.bounds-buffer-at-2
-bounds-buffer-at-2 c = simp length-set (omega arith)
-
 pub returns : goal.returns
-unfolding placed u16_bytes
-returns c = refl
+unfolding u16_bytes
+returns c =
+    let n : ℕ = c.args.n in
+    let m : ℕ = n % 65536 in
+    let b0 : m % 256 ≡ n % 256 = omega arith in
+    let b1 : m / 256 % 256 ≡ n / 256 % 256 = omega arith in
+    let low : c.to_le_bytes.result ≡ u16_bytes n = c.to_le_bytes.ensures ∙ (λ i. b0 i ∷ b1 i ∷ []) in
+    placed_at_once c.args.buffer.now c.args.at _ (u16_bytes n) _ c.requires (omega arith) (c.copy_from_slice.ensures.after ∙ low)

@@ -1,14 +1,6 @@
-use mathlib.Core.Path.{◌∙◌}
-use native.Mathlib.Omega.{arith}
-use lib.ListN.{length-set}
-use Rattle.files.proofs.Decoding.{cleared_next, cleared_none}
+use Rattle.std.proofs.Common.{arith}
+use Rattle.files.proofs.Decoding.{cleared_at_once}
 use Rattle.files.proofs.decode.clear_row.Goals as goal
 
-pub loop-left-preserved : goal.loop-left-preserved
-loop-left-preserved c = (search cleared_next, omega (arith, length-set c.loop-left.row c.loop-left.at 255), length-set c.loop-left.row c.loop-left.at 255 ∙ c.loop-left.invariant.2)
-
-pub shape_of-row : goal.shape_of-row
-shape_of-row c = c.loop-left.invariant.2
-
 pub returns : goal.returns
-returns c = search cleared_none
+returns c = cleared_at_once _ _ _ _ _ c.requires (omega arith) (c.fill.ensures.after (λ y h. h))

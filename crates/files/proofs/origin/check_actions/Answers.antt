@@ -1,4 +1,3 @@
-use borrow.Author.Rules.{rules}
 use Rattle.files.proofs.Steps.{action_origins_none, action_origins_fall, action_origins_stop, action_origins_next}
 use Rattle.files.proofs.origin.check_actions.Goals as goal
 
@@ -8,8 +7,8 @@ returns-then-action-at_least c = search action_origins_fall
 pub returns-then-action-ge-MOST_ACTIONS : goal.returns-then-action-ge-MOST_ACTIONS
 returns-then-action-ge-MOST_ACTIONS c = search action_origins_stop
 
-pub loop-left-preserved : goal.loop-left-preserved
-loop-left-preserved c = search (rules, action_origins_next)
+pub loop-i-preserved : goal.loop-i-preserved
+loop-i-preserved c = search action_origins_next
 
 pub returns : goal.returns
 returns c = search action_origins_none

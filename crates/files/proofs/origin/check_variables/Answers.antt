@@ -1,9 +1,18 @@
--- The run of accepted variable origins has all of them, or ends before one that is refused.
-use Rattle.files.proofs.RunLaws.{origins_taken, origins_refused}
+use Rattle.std.proofs.Common.{◌≡◌, List, Bor, ℕ, refl, ap, arith}
+use mathlib.Core.Path.{◌∙◌}
+use Rattle.files.specs.Records.{record_end}
+use Rattle.files.proofs.Steps.{variable_origins_none, variable_origins_stop, variable_origins_next}
 use Rattle.files.proofs.origin.check_variables.Goals as goal
 
-pub returns-then-run-gt0 : goal.returns-then-run-gt0
-returns-then-run-gt0 c = origins_refused _ _ _ _ c.run_from-run.ensures.is c.if-run-gt0.true c.check_after.ensures
+pub returns-in_err-check_variable : goal.returns-in_err-check_variable
+returns-in_err-check_variable c = search (variable_origins_stop, c.in_err-check_variable.ensures)
+
+pub loop-preserved : goal.loop-preserved
+loop-preserved c =
+    let r = c.loop.reader in
+    let file = ap (λ (b : Bor (List ℕ)). b.now) c.past-reader.ensures.file ∙ c.loop.invariant.0 in
+    let at : c.past-reader.result.at ≡ record_end c.args.s.now r.at = c.past-reader.ensures.is ∙ ap (λ (s : List ℕ). record_end s r.at) c.loop.invariant.0 in
+    (file, variable_origins_next _ _ _ _ _ _ c.loop.invariant.1 _ _ c.loop-test.true c.in_ok-check_variable.ensures c.variable_at-at_least.ensures.is at, omega (arith, c.loop.invariant.2, c.past-reader.ensures.below, c.loop-test.true))
 
 pub returns : goal.returns
-returns c = origins_taken _ _ _ _ c.run_from-run.ensures.is c.if-run-gt0.false c.done.ensures
+returns c = variable_origins_none _ _ _ _ _ _ c.loop.invariant.1 _ c.loop-test.false refl

@@ -1,12 +1,7 @@
--- The loop's invariant: the check of `left` numbers from `place` on is the check from the start.
-use Prim.Native.Nat.{◌+◌, ◌*◌, ◌^◌, ◌<◌}
-use mathlib.Core.Path.{◌≡◌}
+-- The check of the numbers from i on is the check of all.
+use Rattle.std.proofs.Common.{◌≡◌, ◌+◌, ◌*◌, ◌-◌}
 use Rattle.files.specs.Records.{numbers_at}
 use Rattle.files.proofs.records.check_numbers.Given as goal
 
-abbrev pub invariant-loop-left : goal.invariant-loop-left
-invariant-loop-left l =
-    (numbers_at l.limit l.s l.place l.left ≡ numbers_at l.limit l.s l.at l.count) × (l.place + 2 * l.left < 2 ^ 64)
-
-abbrev pub decreases-loop-left : goal.decreases-loop-left
-decreases-loop-left l = l.left
+abbrev pub invariant-loop-i : goal.invariant-loop-i
+invariant-loop-i l = numbers_at l.limit l.s (l.at + 2 * l.i) (l.count - l.i) ≡ numbers_at l.limit l.s l.at l.count

@@ -1,12 +1,11 @@
-use borrow.Author.Rules.{rules}
 use Rattle.files.proofs.Steps.{variables_none, variables_stop, variables_next}
 use Rattle.files.proofs.task.check_variables.Goals as goal
 
-pub returns-then-variable-ne0 : goal.returns-then-variable-ne0
-returns-then-variable-ne0 c = search variables_stop
+pub returns-in_err-check_variable : goal.returns-in_err-check_variable
+returns-in_err-check_variable c = search (variables_stop, c.in_err-check_variable.ensures)
 
-pub loop-left-preserved : goal.loop-left-preserved
-loop-left-preserved c = search (rules, variables_next)
+pub loop-i-preserved : goal.loop-i-preserved
+loop-i-preserved c = search (variables_next, c.in_ok-check_variable.ensures)
 
 pub returns : goal.returns
 returns c = search variables_none

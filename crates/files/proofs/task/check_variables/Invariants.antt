@@ -1,13 +1,7 @@
--- The loop's invariant: the check of `left` variables from `place` on is the check from the start.
-use Prim.Native.Nat.{◌+◌, ◌*◌, ◌<◌}
-use mathlib.Core.Path.{◌≡◌}
-use Rattle.files.specs.Records.{offset_limit}
+-- The check of the variables from i on is the check of all.
+use Rattle.std.proofs.Common.{◌≡◌, ◌+◌, ◌*◌, ◌-◌}
 use Rattle.files.specs.TaskFile.{variables_at}
 use Rattle.files.proofs.task.check_variables.Given as goal
 
-abbrev pub invariant-loop-left : goal.invariant-loop-left
-invariant-loop-left l =
-    (variables_at l.s l.place l.left ≡ variables_at l.s l.at l.count) × (l.place + 8 * l.left < offset_limit)
-
-abbrev pub decreases-loop-left : goal.decreases-loop-left
-decreases-loop-left l = l.left
+abbrev pub invariant-loop-i : goal.invariant-loop-i
+invariant-loop-i l = variables_at l.s (l.at + 8 * l.i) (l.count - l.i) ≡ variables_at l.s l.at l.count

@@ -1,25 +1,22 @@
-use mathlib.Core.Path.{ap}
-use native.Mathlib.Omega.{arith}
-use lib.ListN.{length}
-use Rattle.files.proofs.Countdown.{one_more}
-use Rattle.files.proofs.RowLaws.{row_pairs_none, row_pairs_next, row_pairs_skip}
+-- As many cells of the row have a pair as the row has pairs.
+use Rattle.std.proofs.Common.{◌≡◌, ◌+◌, ◌-◌, length, take, drop, count_by, arith, rules}
+use native.Mathlib.Nat.{add-zero}
+use mathlib.Core.Path.{ap₂, ◌∙◌}
+use lib.ListN.{length-take}
+use Rattle.std.proofs.lemmas.List.Sums.{count_by-le-length}
+use Rattle.files.specs.Dense.{row_pairs}
+use Rattle.files.proofs.RowLaws.{has_pair, row_pairs_counted}
 use Rattle.files.proofs.write.pairs_in.Goals as goal
-use Rattle.files.proofs.write.pairs_in.Goals.{then-value-ne-NO_PAIR, else-value-ne-NO_PAIR}
-
-pub loop-left-preserved : goal.loop-left-preserved
-loop-left-preserved c =
-    let args = c.args in
-    let loop = c.loop-left in
-    let more = c.loop-left-test.true in
-    let is = c.byte_at-value.ensures.is in
-    elim c.if-value-ne-NO_PAIR.branch [
-      | then-value-ne-NO_PAIR w ↦ omega (arith, ap length (row_pairs_next args.rows.now args.base loop.v loop.left _ (one_more _ more) is w.if-value-ne-NO_PAIR.true))
-      | else-value-ne-NO_PAIR w ↦ omega (arith, ap length (row_pairs_skip args.rows.now args.base loop.v loop.left _ (one_more _ more) is w.if-value-ne-NO_PAIR.false))
-    ]
 
 pub returns : goal.returns
 returns c =
-    let args = c.args in
-    let loop = c.loop-left in
-    let none = ap length (row_pairs_none args.rows.now args.base loop.v loop.left c.loop-left-test.false) in
-    record { is = omega arith; at_most = omega arith }
+    let rows = c.args.rows.now in
+    let row = take (c.args.base + c.args.count - c.args.base) (drop c.args.base rows) in
+    let long : c.args.count ≡ c.args.base + c.args.count - c.args.base = omega arith in
+    let counted : c.count.result ≡ count_by has_pair row = search rules in
+    let pairs : length (row_pairs rows c.args.base 0 c.args.count) ≡ count_by has_pair row =
+    row_pairs_counted rows c.args.base 0 c.args.count (omega arith) ∙ ap₂ (λ m n. count_by has_pair (take m (drop n rows))) long (add-zero c.args.base) in
+    record {
+      is = omega (arith, counted, pairs);
+      at_most = omega (arith, counted, count_by-le-length has_pair row, length-take (c.args.base + c.args.count - c.args.base) (drop c.args.base rows));
+    }
