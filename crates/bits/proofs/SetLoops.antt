@@ -1,5 +1,5 @@
 -- The first number of a set from one on: in a word, and word by word.
-use Prim.Native.Nat.{ℕ, ◌+◌, ◌-◌, ◌*◌, ◌/◌, ◌%◌, ◌^◌, ◌≤◌, ◌<◌}
+use Prim.Native.Nat.{ℕ, ◌+◌, ◌-◌, ◌*◌, ◌/◌, ◌%◌, ◌^◌, ◌≤◌, ◌<◌, min}
 use mathlib.Core.Path.{◌≡◌, refl, sym, ap, ◌∙◌}
 use mathlib.Core.Bool.{Bool, false}
 use mathlib.Core.List.{List}
@@ -11,7 +11,7 @@ use lib.ListN.{length, length-set, get_or, set}
 use lib.Seq.{get_or-set_other}
 use Rattle.files.proofs.Filling.{filled_before, filled_after}
 use Rattle.files.proofs.Logic.{split_le}
-use Rattle.bits.specs.Sets.{in_word, in_words, FirstFrom, LesserOf, Added, Kept}
+use Rattle.bits.specs.Sets.{in_word, in_words, FirstFrom, Added, Kept}
 use Rattle.bits.proofs.BitLaws.{in_shifted, none_before, there_at, in_place, place_below, in_words_with}
 
 -- in a word
@@ -69,14 +69,14 @@ module _ (words : List ℕ) (at : ℕ) where
       pub scan_next : 64 ≤ r → 64 * place < limit → limit ≤ 512 → Scanned words at from (place + 1) 0
       scan_next h l few = record { few = omega arith; inside = omega arith; reached = omega (arith, s.reached, f.first, f.last); skipped = λ k a b. up_to k a (omega arith) }
 
-      pub scan_found : (found : ℕ) → r < 64 → from ≤ limit → LesserOf (64 * place + r) limit found → FirstFrom (in_words words at) limit from found
+      pub scan_found : (found : ℕ) → r < 64 → from ≤ limit → found ≡ min limit (64 * place + r) → FirstFrom (in_words words at) limit from found
       scan_found found h start lesser =
           split_le limit (64 * place + r)
           (λ l.
-          let is : found ≡ limit = lesser.other l in
+          let is : found ≡ limit = omega arith in
           record { first = omega arith; last = omega arith; skipped = λ k a b. up_to k a (omega arith); there = λ m. absurd (omega arith) })
           (λ l.
-          let is : found ≡ 64 * place + r = lesser.one l in
+          let is : found ≡ 64 * place + r = omega arith in
           record {
             first = omega (arith, s.reached, f.first);
             last = omega arith;

@@ -1,6 +1,7 @@
 -- Sets of small numbers as the bits of words: variables in one word, actions in eight.
-use Rattle.std.specs.Prelude.{ℕ, ◌+◌, ◌/◌, ◌%◌, ◌^◌, ◌≤◌, ◌<◌, ◌≡◌, Bool, true, false, ◌||◌, List, eqb, length, get_or}
+use Rattle.std.specs.Prelude.{ℕ, ◌+◌, ◌/◌, ◌%◌, ◌^◌, ◌≤◌, ◌<◌, ◌≡◌, Bool, true, false, ◌||◌, List, eqb, length, get_or, Option, None, Some}
 use Rattle.std.specs.Int.Bits.{bit_and}
+use Rattle.bits.specs.declared.sets.Numbers.{Numbers}
 
 -- number k is in the set of a word
 unfoldable pub in_word : ℕ → ℕ → Bool
@@ -37,11 +38,6 @@ pub record Added (at k : ℕ) (words₀ words : List ℕ) : Type 0 where
   pub has : (j : ℕ) → in_words words at j ≡ in_words words₀ at j || eqb j k
   pub others : (i : ℕ) → (i ≡ at + k / 64 → ⊥) → get_or words i 0 ≡ get_or words₀ i 0
 
--- the lesser of two numbers
-pub record LesserOf (first second r : ℕ) : Type 0 where
-  pub one : first < second → r ≡ first
-  pub other : second ≤ first → r ≡ second
-
 -- a row at a place, and eight words beside
 pub record CanKeep (at : ℕ) (rows words : List ℕ) : Type 0 where
   pub room : at + 8 ≤ length rows
@@ -50,3 +46,22 @@ pub record CanKeep (at : ℕ) (rows words : List ℕ) : Type 0 where
 -- the words have their bits that are in the row too
 abbrev pub Kept : (rows : List ℕ) (at : ℕ) (words₀ words : List ℕ) → Type 0
 Kept rows at words₀ words = (i : ℕ) → i < 8 → get_or words i 0 ≡ bit_and (get_or rows (at + i) 0) (get_or words₀ i 0)
+
+-- the numbers of a set of eight words that are still to be given
+abbrev pub CanGoOn : Numbers → Type 0
+CanGoOn n = InEightWords n.words.now n.at n.limit n.from
+
+-- the first of them is given, and those behind it are left; or there was none
+abbrev pub NumberGiven : Numbers → Option ℕ → Numbers → Type 0
+NumberGiven n None after = FirstFrom (in_words n.words.now n.at) n.limit n.from n.limit × (after ≡ record n { from = n.limit })
+NumberGiven n (Some k) after = FirstFrom (in_words n.words.now n.at) n.limit n.from k × (k < n.limit) × (after ≡ record n { from = k + 1 })
+
+-- a word has those of the numbers below `count` that pass a test, and no others
+pub record WordOf (passes : ℕ → Bool → Type 0) (count word : ℕ) : Type 0 where
+  pub has : (k : ℕ) → k < count → passes k (in_word word k)
+  pub none : (k : ℕ) → count ≤ k → in_word word k ≡ false
+
+-- the eight words at a place have those of the numbers below `count` that pass a test; every word before them is as it was
+pub record AllPut (passes : ℕ → Bool → Type 0) (at count : ℕ) (words₀ words : List ℕ) : Type 0 where
+  pub has : (k : ℕ) → k < count → passes k (in_words words at k)
+  pub before : (i : ℕ) → i < at → get_or words i 0 ≡ get_or words₀ i 0

@@ -1,93 +1,26 @@
 -- The loops over rows of actions by fact: from one turn to the next, and at the end.
-use Prim.Native.Nat.{ℕ, ◌+◌, ◌-◌, ◌*◌, ◌≤◌, ◌<◌}
+use Prim.Native.Nat.{ℕ, ◌+◌, ◌*◌, ◌≤◌, ◌<◌}
 use mathlib.Core.Path.{◌≡◌, refl, sym, ap, ap₂, subst, ◌∙◌}
-use mathlib.Core.Bool.{Bool, true, false, ◌&&◌}
+use mathlib.Core.Bool.{Bool, ◌&&◌}
 use mathlib.Core.List.{List}
 use native.Mathlib.Omega.{arith}
 use native.Mathlib.Numerals.{add-one}
-use lib.Dec.{leb}
-use lib.ListN.{length, get_or, set, length-set, replicate}
-use lib.Seq.{get_or-set_same, get_or-set_other}
-use borrow.Author.Tests.{le-leb, lt-leb}
-use Rattle.files.specs.Below.{bit, all_below, sum_of}
-use Rattle.files.proofs.BelowLaws.{bit_true, bit_false}
-use Rattle.files.proofs.Filling.{below_next}
+use lib.ListN.{get_or, replicate}
+use Rattle.files.specs.Below.{all_below, sum_of}
 use Rattle.files.proofs.Logic.{split_le}
 use Rattle.files.proofs.LoopCounts.{sum_within}
-use Rattle.lookup.specs.FactRows.{can_have, most_facts, leads_to_fact, costs_within, fact_number, RowsByFact, CheapRows, RowsFor, InAllRows, InCheapRows, WordHas, RowPut, VariablePut}
-use Rattle.bits.specs.Sets.{in_word, in_words, LesserOf, Kept}
-use Rattle.bits.proofs.BitLaws.{in_both_words, in_full_words, in_row_before, in_row}
-
-pub lesser_both : (a b r : ℕ) → LesserOf a b r → (r ≤ a) × (r ≤ b)
-lesser_both a b r l =
-    split_le b a
-    (λ h. let is : r ≡ b = l.other h in (omega arith, omega arith))
-    (λ h. let is : r ≡ a = l.one h in (omega arith, omega arith))
+use Rattle.lookup.specs.FactRows.{most_facts, leads_to_fact, costs_within, fact_number, RowsByFact, CheapRows, RowsFor, InAllRows, InCheapRows, VariablePut}
+use Rattle.bits.specs.Sets.{in_words, Kept, AllPut}
+use Rattle.bits.proofs.BitLaws.{in_both_words, in_full_words, in_row_before}
 
 pub sum_none : (l : List ℕ) → 0 ≡ sum_of l 0
 unfolding sum_of
 sum_none l = refl
 
--- the bit of an action
-module _ (conditions effects : List ℕ) (v z a condition effect : ℕ) (b : Bool)
-    (c : condition ≡ get_or conditions (64 * a + v) 0) (e : effect ≡ get_or effects (64 * a + v) 0) (have : b ≡ can_have condition effect z) where
-  lead_is : b ≡ leads_to_fact conditions effects v z a
-  unfolding leads_to_fact
-  lead_is = have ∙ (λ i. can_have (c i) (e i) z)
-
-  pub lead_one : b ≡ true → 1 ≡ bit (leads_to_fact conditions effects v z a)
-  lead_one t = sym (bit_true (leads_to_fact conditions effects v z a) (sym lead_is ∙ t))
-
-  pub lead_none : b ≡ false → 0 ≡ bit (leads_to_fact conditions effects v z a)
-  lead_none t = sym (bit_false (leads_to_fact conditions effects v z a) (sym lead_is ∙ t))
-
--- the bit of a cost
-module _ (cost most : ℕ) where
-  pub cost_within_lem : cost ≤ most → 1 ≡ bit (leb cost most)
-  cost_within_lem h = sym (bit_true (leb cost most) (le-leb cost most h))
-
-  pub cost_over : most < cost → 0 ≡ bit (leb cost most)
-  cost_over h = sym (bit_false (leb cost most) (lt-leb cost most h))
-
-pub cost_bit : (costs : List ℕ) (most a b : ℕ) → b ≡ bit (leb (get_or costs a 0) most) → b ≡ bit (costs_within costs most a)
-unfolding costs_within
-cost_bit costs most a b e = e
-
--- the words of a row before that at i are written
-pub record Rowed (test : ℕ → Bool) (actions at : ℕ) (rows₀ rows : List ℕ) (i : ℕ) : Type 0 where
-  pub few : i ≤ 8
-  pub same : length rows ≡ length rows₀
-  pub has : (p k : ℕ) → p < i → k < 64 → 64 * p + k < actions → in_word (get_or rows (at + p) 0) k ≡ test (64 * p + k)
-  pub before : (j : ℕ) → j < at → get_or rows j 0 ≡ get_or rows₀ j 0
-
-module _ (test : ℕ → Bool) (actions at : ℕ) (rows₀ : List ℕ) where
-  pub row_begin : Rowed test actions at rows₀ rows₀ 0
-  row_begin = record { few = omega arith; same = refl; has = λ p k l. absurd (omega arith); before = λ j l. refl }
-
-  module _ (rows : List ℕ) (i : ℕ) (r : Rowed test actions at rows₀ rows i) where
-    pub row_next : (word count : ℕ) → 64 * i < actions → actions ≤ 512 → at + i < length rows → LesserOf (actions - 64 * i) 64 count
-        → WordHas test (64 * i) count word → Rowed test actions at rows₀ (set rows (at + i) word) (i + 1)
-    row_next word count h most room lesser w =
-        record {
-          few = omega arith;
-          same = length-set rows (at + i) word ∙ r.same;
-          has =
-              λ p k l few inside.
-              split_le i p
-              (λ a.
-              let here : i ≡ p = omega arith in
-              subst
-              (λ (q : ℕ). in_word (get_or (set rows (at + i) word) (at + q) 0) k ≡ test (64 * q + k))
-              here
-              (ap (λ (x : ℕ). in_word x k) (get_or-set_same rows (at + i) word 0 room)
-              ∙ w k (split_le 64 (actions - 64 * i) (λ b. omega (arith, lesser.other b)) (λ b. omega (arith, lesser.one b)))))
-              (λ a. ap (λ (x : ℕ). in_word x k) (get_or-set_other rows (at + i) (at + p) word 0 (omega arith)) ∙ r.has p k a few inside);
-          before = below_next rows₀ rows at i word r.before;
-        }
-
-    pub row_end : actions ≤ 64 * i → RowPut test actions at rows₀ rows
-    row_end h =
-        record { has = in_row rows at test actions (λ p k few inside. r.has p k (omega arith) few inside); before = r.before }
+-- the row of the actions that pass a test was written, and no word before it
+pub record RowPut (test : ℕ → Bool) (actions at : ℕ) (rows₀ rows : List ℕ) : Type 0 where
+  pub has : (a : ℕ) → a < actions → in_words rows at a ≡ test a
+  pub before : (i : ℕ) → i < at → get_or rows i 0 ≡ get_or rows₀ i 0
 
 -- the rows of a variable
 module _ (conditions effects : List ℕ) (v actions fact : ℕ) (few : actions ≤ 512) (rows₀ : List ℕ) where
@@ -107,6 +40,12 @@ module _ (conditions effects : List ℕ) (v actions fact : ℕ) (few : actions �
             (λ m. in_row_before rows' rows (8 * (fact + z)) (8 * (fact + value)) r.before (omega arith) a (omega arith) ∙ p.has z a m h);
         before = λ i l. r.before i (omega arith) ∙ p.before i l;
       }
+
+  pub variable_put : (rows rows' : List ℕ) (value : ℕ) (passes : ℕ → Bool → Type 0) → VariablePut conditions effects v value actions fact rows₀ rows
+      → AllPut passes (8 * (fact + value)) actions rows rows' → ((a : ℕ) (b : Bool) → passes a b → b ≡ leads_to_fact conditions effects v value a)
+      → VariablePut conditions effects v (value + 1) actions fact rows₀ rows'
+  variable_put rows rows' value passes p put means =
+      variable_next rows rows' value p (record { has = λ a h. means a (in_words rows' (8 * (fact + value)) a) (put.has a h); before = put.before })
 
   pub variable_end : (rows : List ℕ) (value size : ℕ) → value ≤ size → size ≤ value → VariablePut conditions effects v value actions fact rows₀ rows
       → VariablePut conditions effects v size actions fact rows₀ rows
@@ -147,6 +86,13 @@ rows_kept variables actions sizes conditions costs most rows rows' few actions_f
           ∙ all v z a h l k;
       cheap = put.has;
     }
+
+pub cheap_put : (variables actions : ℕ) (sizes conditions costs : List ℕ) (most : ℕ) (rows rows' : List ℕ) (passes : ℕ → Bool → Type 0) → sum_of sizes variables ≤ most_facts → actions ≤ 512
+    → RowsByFact variables actions sizes conditions conditions rows → AllPut passes (8 * most_facts) actions rows rows'
+    → ((a : ℕ) (b : Bool) → passes a b → b ≡ costs_within costs most a) → CheapRows variables actions sizes conditions costs most rows'
+cheap_put variables actions sizes conditions costs most rows rows' passes few actions_few all put means =
+    rows_kept variables actions sizes conditions costs most rows rows' few actions_few all
+    (record { has = λ a h. means a (in_words rows' (8 * most_facts) a) (put.has a h); before = put.before })
 
 -- the actions that are in the rows of the values before v
 module _ (sizes values rows : List ℕ) where

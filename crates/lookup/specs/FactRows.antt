@@ -2,7 +2,7 @@
 use Rattle.std.specs.Prelude.{ℕ, ◌+◌, ◌*◌, ◌≤◌, ◌<◌, ◌≡◌, Bool, cond, ◌&&◌, List, eqb, leb, length, get_or}
 use Rattle.files.specs.Below.{all_below, sum_of}
 use Rattle.plans.specs.Tally.{meets_cell}
-use Rattle.bits.specs.Sets.{in_word, in_words}
+use Rattle.bits.specs.Sets.{in_words}
 
 -- the most facts of a task that is searched
 abbrev pub most_facts : ℕ
@@ -48,11 +48,6 @@ pub record CanFillRows (variables actions : ℕ) (sizes rows : List ℕ) : Type 
   pub few : FewFacts variables sizes rows
   pub actions_few : actions ≤ 512
 
--- and with room for the row behind them
-pub record CanFillCheap (variables actions : ℕ) (sizes rows : List ℕ) : Type 0 where
-  pub facts : CanFillRows variables actions sizes rows
-  pub room : most_words ≤ length rows
-
 -- the rows of the conditions, and that of the actions that are cheap enough
 pub record CheapRows (variables actions : ℕ) (sizes conditions costs : List ℕ) (most : ℕ) (rows : List ℕ) : Type 0 where
   pub by_fact : RowsByFact variables actions sizes conditions conditions rows
@@ -72,60 +67,18 @@ pub record EightWords (variables : ℕ) (sizes values rows words : List ℕ) : T
   pub all : InAllRows variables sizes values rows words
   pub eight : length words ≡ 8
 
--- the same with the row behind those of the facts
-pub record CheapRowsFor (variables : ℕ) (sizes values rows : List ℕ) : Type 0 where
-  pub rows_for : RowsFor variables sizes values rows
-  pub room : most_words ≤ length rows
-
+-- and in the row behind those of the facts
 abbrev pub InCheapRows : (variables : ℕ) (sizes values rows words : List ℕ) → Type 0
 InCheapRows variables sizes values rows words =
     (a : ℕ) → a < 512 → in_words words 0 a ≡ in_words rows (8 * most_facts) a && all_below variables (λ v. in_words rows (8 * fact_number sizes v (get_or values v 0)) a)
 
--- the cell of a variable in the row of an action
-pub record CellOf (v a : ℕ) : Type 0 where
-  pub variable : v < 64
-  pub action : a < 512
-
--- actions for a word
-pub record WordOf (v first count : ℕ) : Type 0 where
-  pub variable : v < 64
-  pub most : count ≤ 64
-  pub inside : first + count ≤ 512
-
--- actions for a word by their costs
-pub record WordOfCosts (first count : ℕ) : Type 0 where
-  pub most : count ≤ 64
-  pub inside : first + count ≤ 512
-
--- a word has those of its actions that pass a test
-abbrev pub WordHas : (test : ℕ → Bool) (first count word : ℕ) → Type 0
-WordHas test first count word = (k : ℕ) → k < count → in_word word k ≡ test (first + k)
-
--- room for a row at a place
-pub record RoomForRow (at v actions : ℕ) (rows : List ℕ) : Type 0 where
-  pub within : at + 8 ≤ 8 * most_facts
-  pub room : 8 * most_facts ≤ length rows
-  pub variable : v < 64
-  pub actions_few : actions ≤ 512
-
--- room for the row behind those of the facts
-pub record RoomForCheap (actions : ℕ) (rows : List ℕ) : Type 0 where
-  pub room : most_words ≤ length rows
-  pub actions_few : actions ≤ 512
-
--- the row of the actions that pass a test was written, and no word before it
-pub record RowPut (test : ℕ → Bool) (actions at : ℕ) (rows₀ rows : List ℕ) : Type 0 where
-  pub has : (a : ℕ) → a < actions → in_words rows at a ≡ test a
-  pub before : (i : ℕ) → i < at → get_or rows i 0 ≡ get_or rows₀ i 0
-
--- room for the rows of a variable, from that of a fact on
-pub record RoomForVariable (fact v size actions : ℕ) (rows : List ℕ) : Type 0 where
+-- few facts with those of a variable of so many values, from a fact on
+pub record RowsInside (fact v size actions : ℕ) : Type 0 where
   pub within : fact + size ≤ most_facts
-  pub room : 8 * most_facts ≤ length rows
   pub variable : v < 64
   pub actions_few : actions ≤ 512
 
--- they were written, and no word before them
+-- the rows of a variable were written, from that of a fact on, and no word before them
 pub record VariablePut (conditions effects : List ℕ) (v size actions fact : ℕ) (rows₀ rows : List ℕ) : Type 0 where
   pub has : (z a : ℕ) → z < size → a < actions → in_words rows (8 * (fact + z)) a ≡ leads_to_fact conditions effects v z a
   pub before : (i : ℕ) → i < 8 * fact → get_or rows i 0 ≡ get_or rows₀ i 0

@@ -1,8 +1,9 @@
 -- What each action does to the number of a state: what its effects add, what their conditions take away, and the variables that it sets without a condition.
-use Rattle.std.specs.Prelude.{ℕ, zero, suc, ◌+◌, ◌*◌, ◌≤◌, ◌<◌, ◌≡◌, Bool, not, cond, ◌&&◌, ◌||◌, List, eqb, ltb, length, get_or}
+use Rattle.std.specs.Prelude.{ℕ, zero, suc, ◌+◌, ◌*◌, ◌≤◌, ◌<◌, ◌≡◌, Bool, not, cond, ◌&&◌, ◌||◌, List, eqb, ltb, get_or}
 use Rattle.files.specs.Below.{sum_below}
 use Rattle.plans.specs.State.{State}
 use Rattle.bits.specs.Sets.{in_word}
+use Rattle.lookup.specs.declared.moves.Move.{Move}
 
 -- what a change of one in the value of variable v adds to the number of a state
 unfoldable pub row_weight : List ℕ → ℕ → ℕ
@@ -27,41 +28,31 @@ asked_of conditions effects base v =
 unfoldable pub set_freely : List ℕ → List ℕ → ℕ → ℕ → Bool
 set_freely conditions effects base v = not (eqb (get_or effects (base + v) 0) 255) && eqb (get_or conditions (base + v) 0) 255
 
--- the most numbers of the moves: three an action
-abbrev pub most_moves : ℕ
-most_moves = 1536
+-- the move of an action past the last
+abbrev pub no_move : Move
+no_move = record { set = 0; asked = 0; free = 0 }
+
+-- the move of the step at `base`
+pub record MoveOf (variables base : ℕ) (sizes conditions effects : List ℕ) (m : Move) : Type 0 where
+  pub set : m.set ≡ weighted sizes (set_by effects base) variables
+  pub asked : m.asked ≡ weighted sizes (asked_of conditions effects base) variables
+  pub free : (v : ℕ) → v < 64 → in_word m.free v ≡ ltb v variables && set_freely conditions effects base v
 
 -- the moves of the actions
-pub record MovesOf (variables actions : ℕ) (sizes conditions effects moves : List ℕ) : Type 0 where
-  pub set : (a : ℕ) → a < actions → get_or moves (3 * a) 0 ≡ weighted sizes (set_by effects (64 * a)) variables
-  pub asked : (a : ℕ) → a < actions → get_or moves (3 * a + 1) 0 ≡ weighted sizes (asked_of conditions effects (64 * a)) variables
-  pub free : (a v : ℕ) → a < actions → v < 64 → in_word (get_or moves (3 * a + 2) 0) v ≡ ltb v variables && set_freely conditions effects (64 * a) v
+abbrev pub MovesIn : (variables actions : ℕ) (sizes conditions effects : List ℕ) (moves : List Move) → Type 0
+MovesIn variables actions sizes conditions effects moves = (a : ℕ) → a < actions → MoveOf variables (64 * a) sizes conditions effects (get_or moves a no_move)
+
+-- few variables and actions, and small weights
+pub record CanFillMoves (variables actions : ℕ) (weights : List ℕ) : Type 0 where
+  pub variables_few : variables ≤ 64
+  pub actions_few : actions ≤ 512
+  pub weights_few : (v : ℕ) → v < variables → get_or weights v 0 ≤ 4096
 
 -- the array of weights has those of the variables
 abbrev pub WeightsOf : (variables : ℕ) (sizes weights : List ℕ) → Type 0
 WeightsOf variables sizes weights = (v : ℕ) → v < variables → get_or weights v 0 ≡ row_weight sizes v
 
--- small weights, and room for the moves
-pub record CanMove (variables actions : ℕ) (weights moves : List ℕ) : Type 0 where
-  pub variables_few : variables ≤ 64
-  pub actions_few : actions ≤ 512
-  pub weights_few : (v : ℕ) → v < variables → get_or weights v 0 ≤ 4096
-  pub room : most_moves ≤ length moves
-
--- a step at `base`, and small weights; what its effects add, and what their conditions take away
-pub record CanSum (variables base : ℕ) (weights : List ℕ) : Type 0 where
-  pub variables_few : variables ≤ 64
-  pub base_few : base ≤ 32704
-  pub weights_few : (v : ℕ) → v < variables → get_or weights v 0 ≤ 4096
-
+-- what the effects of the step at `base` add, and what their conditions take away
 pub record SumsOf (variables base : ℕ) (sizes conditions effects : List ℕ) (set asked : ℕ) : Type 0 where
   pub set_is : set ≡ weighted sizes (set_by effects base) variables
   pub asked_is : asked ≡ weighted sizes (asked_of conditions effects base) variables
-
--- a step at `base`, and the variables that it sets without a condition
-pub record CanMark (variables base : ℕ) : Type 0 where
-  pub variables_few : variables ≤ 64
-  pub base_few : base ≤ 32704
-
-abbrev pub FreeWord : (variables base : ℕ) (conditions effects : List ℕ) (word : ℕ) → Type 0
-FreeWord variables base conditions effects word = (v : ℕ) → in_word word v ≡ ltb v variables && set_freely conditions effects base v
