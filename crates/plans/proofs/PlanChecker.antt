@@ -7,10 +7,9 @@ use native.Mathlib.Omega.{arith}
 use lib.Dec.{ltb}
 use lib.ListN.{length}
 use borrow.Author.Tests.{lt-ltb, ltb-true}
-use Rattle.files.specs.declared.Outcome.{Outcome}
+use Rattle.files.specs.Outcome.{Outcome, done, refusal, is_done, and_then, in_second}
 use Rattle.files.specs.Below.{all_of}
 use Rattle.files.specs.Listed.{listed, gives, refused_at, file_refusals}
-use Rattle.files.specs.Outcome.{done, refusal, is_done, and_then, in_second}
 use Rattle.files.specs.Task.{Task, action_count, action_of}
 use Rattle.files.specs.TaskFile.{check_task, task_of}
 use Rattle.files.specs.PlanFile.{check_plan_file, plan_of}
@@ -21,9 +20,8 @@ use Rattle.files.proofs.Stages.{both_last, answer_by_lem}
 use Rattle.files.proofs.Valid.{all_at}
 use Rattle.plans.specs.State.{State, start_state, apply}
 use Rattle.plans.specs.Plan.{IsPlan, no_steps, total_of, step_of}
-use Rattle.plans.specs.Check.{take_steps, plan_outcome, with_total, answer, check_plan}
+use Rattle.plans.specs.Check.{Checked, take_steps, plan_outcome, with_total, answer, check_plan}
 use Rattle.plans.specs.Checker.{step_refused, check_refusals, CheckAnswers, CheckerRight, ListRight}
-use Rattle.plans.specs.declared.Checked.{Checked}
 use Rattle.plans.proofs.OrderLaws.{total_steps}
 use Rattle.plans.proofs.RunLaws.{runs_plan, plan_runs, walk_done, done_walk}
 use Rattle.plans.proofs.CheckLaws.{file_steps_known}

@@ -1,22 +1,26 @@
 -- Rows of cells and states: all conditions of a row hold where each cell is met, step by step; and the effects of a row
 -- change each value by itself. First for the row at a place of a list, and then for a row of its own.
-use Prim.Native.Nat.{ℕ, zero, suc, ◌+◌, ◌-◌, ◌≤◌, ◌<◌}
-use mathlib.Core.Path.{◌≡◌, refl, sym, ap, ◌∙◌}
-use mathlib.Core.Bool.{Bool, true, false, cond, ◌&&◌}
-use mathlib.Core.List.{List}
+use Prim.Native.Nat.{ℕ, zero, suc, ◌+◌, ◌≤◌, ◌<◌}
+use mathlib.Core.Path.{◌≡◌, refl, sym, ap, ap₂, subst, ◌∙◌}
+use mathlib.Core.Bool.{Bool, true, cond, ◌&&◌}
+use mathlib.Core.List.{List, []}
 use mathlib.Core.Option
 use mathlib.Core.Option.{Option, none, some}
 use native.Mathlib.Omega.{arith}
-use lib.ListN.{length, get_or, get_or-eq_default}
+use lib.ListN.{length, get_or, drop, drop_of_length-le, get_or-eq_default}
+use lib.Seq.{drop-cons}
 use lib.Dec.{eqb}
+use denote.Param.Members.{Mut}
+use Rattle.std.specs.Fn.{Called}
+use Rattle.std.specs.List.{list_all, zip}
+use Rattle.std.specs.Array.{IsFromFnResult, IsFromFnResultFrom}
 use borrow.Author.Tests.{eqb-true, eqb-false, eq-eqb, ne_eqb}
 use Rattle.files.specs.Below.{all_below}
 use Rattle.files.specs.Task.{Pair, Action, pair, value_in}
 use Rattle.files.specs.Dense.{row_pairs}
 use Rattle.files.proofs.BelowLaws.{all_below_intro, all_below_elim}
-use Rattle.files.proofs.Countdown.{one_more}
 use Rattle.files.proofs.Logic.{split, split_le, and_split, and_join}
-use Rattle.files.proofs.RowLaws.{row_pairs_none, row_pairs_skip, row_pairs_next}
+use Rattle.files.proofs.RowLaws.{row_pairs_skip, row_pairs_next}
 use Rattle.files.proofs.RowValues.{cell_value, row_pairs_value, row_pairs_behind}
 use Rattle.files.proofs.Truth.{same_truth}
 use Rattle.plans.specs.State.{State, holds, all_hold, apply}
@@ -58,22 +62,6 @@ module _ (row : List ℕ) (base : ℕ) (s : State) where
       (λ e.
       ap (λ (l : List Pair). all_hold l s) (row_pairs_next row base v left x more refl (eqb-false x 255 e))
       ∙ ap (λ (t : Bool). t && later) (admits_is (pair v x) (s v) ∙ meets_some x (s v) (eqb-false x 255 e)))
-
-  -- conditions, as a loop that counts down wants them
-  module _ (v left : ℕ) where
-    hold_step : 0 < left → all_hold (row_pairs row base v left) s ≡ meets_at v && all_hold (row_pairs row base (v + 1) (left - 1)) s
-    hold_step h = hold_more v left (left - 1) (one_more left h)
-
-    pub row_next : (whole b : Bool) → all_hold (row_pairs row base v left) s ≡ whole → 0 < left → b ≡ meets_at v → b ≡ true
-        → all_hold (row_pairs row base (v + 1) (left - 1)) s ≡ whole
-    row_next whole b w h e t = sym (hold_step h ∙ ap (λ (m : Bool). m && all_hold (row_pairs row base (v + 1) (left - 1)) s) (sym e ∙ t)) ∙ w
-
-    pub row_stop : (whole b : Bool) → all_hold (row_pairs row base v left) s ≡ whole → 0 < left → b ≡ meets_at v → b ≡ false → false ≡ whole
-    row_stop whole b w h e t = sym (hold_step h ∙ ap (λ (m : Bool). m && all_hold (row_pairs row base (v + 1) (left - 1)) s) (sym e ∙ t)) ∙ w
-
-    pub row_none : (whole : Bool) → all_hold (row_pairs row base v left) s ≡ whole → left ≤ 0 → true ≡ whole
-    unfolding all_hold
-    row_none whole w h = sym (ap (λ (l : List Pair). all_hold l s) (row_pairs_none row base v left h)) ∙ w
 
   -- all hold where each cell is met
   held_at : (v count w : ℕ) → all_hold (row_pairs row base v count) s ≡ true → v ≤ w → w < v + count → meets_at w ≡ true
@@ -120,21 +108,27 @@ module _ (row : List ℕ) (base : ℕ) (s : State) where
   unfolding apply
   apply_behind a n v is h = ap (λ (l : List Pair). Option.get_or (value_in l v) (s v)) is ∙ row_behind n v h
 
--- a row of its own, and values in a list
-module _ (row state : List ℕ) (v left : ℕ) where
-  here : meets_cell (get_or row v 0) (get_or state v 0) ≡ meets_at row 0 (list_state state) v
-  unfolding list_state
-  here = ap (λ (n : ℕ). meets_cell (get_or row n 0) (get_or state v 0)) (omega arith)
+-- a row of its own, and values in a list: all conditions hold where each cell is met
+abbrev pub cell_met : ℕ × ℕ → Bool
+cell_met p = meets_cell p.0 p.1
 
-  pub hold_next : (whole b : Bool) → all_hold (row_pairs row 0 v left) (list_state state) ≡ whole → 0 < left → b ≡ meets_cell (get_or row v 0) (get_or state v 0) → b ≡ true
-      → all_hold (row_pairs row 0 (v + 1) (left - 1)) (list_state state) ≡ whole
-  hold_next whole b w h e t = row_next row 0 (list_state state) v left whole b w h (e ∙ here) t
+module _ (row state : List ℕ) where
+  met_from : (v count : ℕ) → v + count ≡ length row → length state ≡ length row
+      → list_all cell_met (zip (drop v row) (drop v state)) ≡ all_hold (row_pairs row 0 v count) (list_state state)
+  unfolding all_hold row_pairs list_state
+  met_from v zero h e = let none : drop v row ≡ [] = drop_of_length-le row {i = v} (omega arith) in rw none refl
+  met_from v (suc count) h e =
+      let next : suc v ≡ v + 1 = omega arith in
+      let here : get_or row v 0 ≡ get_or row (0 + v) 0 = ap (λ (n : ℕ). get_or row n 0) (omega arith) in
+      ap₂ (λ (a b : List ℕ). list_all cell_met (zip a b)) (drop-cons row v 0 (omega arith)) (drop-cons state v 0 (omega arith))
+      ∙ ap₂ (λ (a b : Bool). a && b) (cell here) (ap (λ (n : ℕ). list_all cell_met (zip (drop n row) (drop n state))) next ∙ met_from (v + 1) count (omega arith) e)
+      ∙ sym (hold_more row 0 (list_state state) v (suc count) count refl)
+    where
+      cell : {x y : ℕ} → x ≡ y → meets_cell x (get_or state v 0) ≡ meets_cell y (list_state state v)
+      cell q = ap (λ (x : ℕ). meets_cell x (get_or state v 0)) q
 
-  pub hold_stop : (whole b : Bool) → all_hold (row_pairs row 0 v left) (list_state state) ≡ whole → 0 < left → b ≡ meets_cell (get_or row v 0) (get_or state v 0) → b ≡ false → false ≡ whole
-  hold_stop whole b w h e t = row_stop row 0 (list_state state) v left whole b w h (e ∙ here) t
-
-  pub hold_none : (whole : Bool) → all_hold (row_pairs row 0 v left) (list_state state) ≡ whole → left ≤ 0 → true ≡ whole
-  hold_none whole w h = row_none row 0 (list_state state) v left whole w h
+  pub all_met : (n : ℕ) → length row ≡ n → length state ≡ n → list_all cell_met (zip row state) ≡ all_hold (row_pairs row 0 0 n) (list_state state)
+  all_met n a b = met_from 0 n (omega arith) (omega arith)
 
 pub effect_cell : (row : List ℕ) (value w : ℕ) → w < 64 → after_cell (get_or row w 0) value ≡ Option.get_or (value_in (row_pairs row 0 0 64) w) value
 effect_cell row value w h = ap (λ (n : ℕ). after_cell (get_or row n 0) value) (omega arith) ∙ sym (row_value row 0 (λ u. value) 64 w h)
@@ -147,3 +141,16 @@ effects_applied row state next a b h w =
     split_le 64 w
     (λ l. get_or-eq_default next 0 (omega arith) ∙ sym (row_behind row 0 (λ u. get_or state w 0) 64 w l ∙ get_or-eq_default state 0 (omega arith)))
     (λ l. h w l ∙ effect_cell row (get_or state w 0) w l)
+
+-- a list that is made cell by cell, by calls of a function
+module _ {F : Type 0} (g : Mut F (ℕ × Unit {0}) ℕ) (f : F) (h : ℕ → ℕ) (calls : (i y : ℕ) (q : F) → Called g f (i, tt) y q → (q ≡ f) × (y ≡ h i)) where
+  made_from : (ys : List ℕ) (i n : ℕ) → IsFromFnResultFrom g f ys i n → (w : ℕ) → i ≤ w → w < i + n → get_or ys w 0 ≡ h w
+  made_from ys i zero m w a b = absurd (omega arith)
+  made_from ys i (suc n) m w a b =
+      let call = calls i m.1 m.0 m.3 in
+      split_le w i
+      (λ l. let here : w ≡ i = omega arith in rw here (m.2.1 0 ∙ call.1))
+      (λ l. made_from ys (i + 1) n (subst (λ (q : F). IsFromFnResultFrom g q ys (i + 1) n) call.0 m.4) w (omega arith) (omega arith))
+
+  pub made_of : (ys : List ℕ) (n : ℕ) → IsFromFnResult g f ys n → (w : ℕ) → w < n → get_or ys w 0 ≡ h w
+  made_of ys n m w b = made_from ys 0 n m.each w (omega arith) (omega arith)

@@ -7,20 +7,25 @@ use native.Mathlib.Omega.{arith}
 use native.Mathlib.Numerals.{add-one}
 use lib.ListN.{length, get_or, drop, drop_of_length-le, get_or-eq_default}
 use lib.Seq.{drop-cons}
-use Rattle.files.specs.declared.Outcome.{Outcome}
-use Rattle.files.specs.Outcome.{done, refusal, is_done, guard}
+use Rattle.files.specs.Outcome.{Outcome, done, refusal, refused, is_done, guard}
+use Rattle.files.specs.declared.refusals.Refusal.{Refusal}
+use Rattle.std.specs.Prelude.{Ok, Err}
 use Rattle.files.specs.Below.{tabulate}
 use Rattle.files.specs.Task.{Pair, Variable, Action, Task, variable, action_of}
-use Rattle.files.specs.Dense.{Arrays, row_variable, held}
-use Rattle.files.proofs.Guards.{guard_passes, guard_refuses, is_done_lem, is_refused}
+use Rattle.files.specs.Dense.{row_variable, row_action, held}
+use Rattle.files.proofs.HeldTask.{held_action}
+use Rattle.files.specs.declared.arrays.Arrays.{Arrays}
+use Rattle.files.proofs.Guards.{guard_passes, guard_refuses, refused_stands}
 use Rattle.files.proofs.Logic.{split_le}
 use Rattle.files.proofs.Tabulate.{tabulate_entry, tabulate_from_length}
 use Rattle.plans.proofs.OrderLaws.{total_steps}
 use Rattle.plans.specs.State.{State, start_state, all_hold, applicable, apply}
 use Rattle.plans.specs.Plan.{Total, no_steps, add_step, total_of, step_of}
-use Rattle.plans.specs.Check.{take_steps, with_total, answer, walk_answer}
-use Rattle.plans.specs.Tally.{list_state, state_of, total_in, end_answer}
-use Rattle.plans.specs.declared.Checked.{Checked}
+use Rattle.plans.specs.Check.{Checked, take_steps, with_total, checked_of, answer, walk_answer}
+use Rattle.plans.specs.declared.PlanTotal.{PlanTotal}
+use Rattle.plans.proofs.CheckLaws.{answer_refused}
+use Rattle.plans.specs.Tally.{list_state, row_of, state_of, total_in, end_answer}
+use Rattle.plans.specs.declared.tally.Row.{Row}
 use Rattle.plans.specs.declared.tally.Tally.{Tally}
 
 -- the start state of the task that arrays hold, by its cells
@@ -39,6 +44,12 @@ held_start d values inside behind =
     (λ l.
     inside v l
     ∙ sym (ap (λ (x : Variable). x.start) (tabulate_entry (row_variable d.sizes d.starts) d.variables v (variable 0 0) l))))
+
+-- the row of a step's action is the task's action of that step
+pub step_is : (d : Arrays) (plan : List ℕ) (i : ℕ) → step_of plan i < d.actions → (row : Row) (a : ℕ) → row_of row ≡ row_action d.variables d.costs d.conditions d.effects a
+    → a ≡ step_of plan i → action_of (held d) (step_of plan i) ≡ row_of row
+step_is d plan i h row a e f =
+    held_action d (step_of plan i) h ∙ ap (row_action d.variables d.costs d.conditions d.effects) (sym f) ∙ sym e
 
 -- before step i, with the tally so far
 pub record Walking (t : Task) (plan : List ℕ) (tally : Tally) (i : ℕ) : Type 0 where
@@ -82,14 +93,11 @@ module _ (t : Task) (plan : List ℕ) where
           steps = omega (arith, ap (λ (x : Total). x.steps) z, w.steps);
         }
 
-    pub walking_stops : (r : Checked) (o : Outcome) → applicable due (state_of tally) ≡ false → o ≡ refusal 22 i → r ≡ with_total o no_steps → r ≡ walk_answer t plan
-    unfolding walk_answer answer
-    walking_stops r o e f g =
-        let refused : o ≡ take_steps t (start_state t) 0 plan = guard_refuses (applicable due (state_of tally)) 22 i _ o e f ∙ sym walk_step ∙ w.checks in
-        let number : o.number ≡ 0 → ⊥ = λ q. omega (arith, ap (λ (x : Outcome). x.number) f) in
-        g
-        ∙ ap (λ (b : Bool). with_total o (cond b (total_of t plan) no_steps)) (sym (is_refused o number))
-        ∙ ap (λ (x : Outcome). with_total x (cond (is_done x) (total_of t plan) no_steps)) refused
+    pub walking_stops : (r : Refusal) → applicable due (state_of tally) ≡ false → refused r ≡ refusal 22 i → checked_of (Err r) ≡ walk_answer t plan
+    unfolding walk_answer
+    walking_stops r e f =
+        let stops : refused r ≡ take_steps t (start_state t) 0 plan = guard_refuses (applicable due (state_of tally)) 22 i _ (refused r) e f ∙ sym walk_step ∙ w.checks in
+        answer_refused r t plan ∙ ap (λ (o : Outcome). answer o t plan) stops
 
   -- after the last step
   pub walking_ends : (tally : Tally) (i : ℕ) (goal : List Pair) → Walking t plan tally i → length plan ≤ i → i ≤ length plan → t.goal ≡ goal → end_answer tally goal ≡ walk_answer t plan
@@ -104,19 +112,15 @@ module _ (t : Task) (plan : List ℕ) where
 
 -- the last answer, from the test of the goal
 module _ (tally : Tally) (goal : List Pair) where
-  pub end_refuses : (o : Outcome) (r : Checked) → all_hold goal (state_of tally) ≡ false → o ≡ refusal 23 tally.steps.0 → r ≡ with_total o no_steps → r ≡ end_answer tally goal
-  unfolding end_answer
-  end_refuses o r e f g =
-      let refused : o ≡ guard (all_hold goal (state_of tally)) 23 tally.steps.0 done = guard_refuses (all_hold goal (state_of tally)) 23 tally.steps.0 done o e f in
-      let number : o.number ≡ 0 → ⊥ = λ q. omega (arith, ap (λ (x : Outcome). x.number) f) in
-      g
-      ∙ ap (λ (b : Bool). with_total o (cond b (total_in tally) no_steps)) (sym (is_refused o number))
-      ∙ ap (λ (x : Outcome). with_total x (cond (is_done x) (total_in tally) no_steps)) refused
+  abbrev given : Outcome → Checked
+  given o = with_total o (cond (is_done o) (total_in tally) no_steps)
 
-  pub end_passes : (o : Outcome) (r : Checked) → all_hold goal (state_of tally) ≡ true → o ≡ done → r ≡ with_total o (total_in tally) → r ≡ end_answer tally goal
+  pub end_refuses : (r : Refusal) → all_hold goal (state_of tally) ≡ false → refused r ≡ refusal 23 tally.steps.0 → checked_of (Err r) ≡ end_answer tally goal
   unfolding end_answer
-  end_passes o r e f g =
-      let passes : o ≡ guard (all_hold goal (state_of tally)) 23 tally.steps.0 done = guard_passes (all_hold goal (state_of tally)) 23 tally.steps.0 done o e f in
-      g
-      ∙ ap (λ (b : Bool). with_total o (cond b (total_in tally) no_steps)) (sym (is_done_lem o (ap (λ (x : Outcome). x.number) f)))
-      ∙ ap (λ (x : Outcome). with_total x (cond (is_done x) (total_in tally) no_steps)) passes
+  end_refuses r e f =
+      ap (λ (b : Bool). with_total (refused r) (cond b (total_in tally) no_steps)) (sym (refused_stands r))
+      ∙ ap given (guard_refuses (all_hold goal (state_of tally)) 23 tally.steps.0 done (refused r) e f)
+
+  pub end_passes : (total : PlanTotal) → all_hold goal (state_of tally) ≡ true → total ≡ record { cost = tally.minutes; steps = tally.steps } → checked_of (Ok total) ≡ end_answer tally goal
+  unfolding end_answer with_total total_in is_done
+  end_passes total e f = ap (λ (x : PlanTotal). checked_of (Ok x)) f ∙ ap given (guard_passes (all_hold goal (state_of tally)) 23 tally.steps.0 done done e refl)

@@ -1,13 +1,15 @@
 -- The plan checker's answer.
-use Rattle.std.specs.Prelude.{ℕ, ◌+◌, cond, List, [], ◌∷◌}
-use Rattle.files.specs.declared.Outcome.{Outcome}
-use Rattle.files.specs.Outcome.{done, is_done, guard, and_then, in_second}
+use Rattle.std.specs.Prelude.{ℕ, ◌+◌, cond, List, [], ◌∷◌, Result, Ok, Err}
+use Rattle.files.specs.Outcome.{Outcome, done, refused, is_done, guard, and_then, in_second}
+use Rattle.files.specs.declared.refusals.Refusal.{Refusal}
+use Rattle.files.specs.declared.units.Minutes.{Minutes}
+use Rattle.files.specs.declared.units.Steps.{Steps}
 use Rattle.files.specs.Task.{Task, action_count, action_of}
 use Rattle.files.specs.TaskFile.{check_task, task_of}
 use Rattle.files.specs.PlanFile.{check_plan_file, plan_of}
 use Rattle.plans.specs.State.{State, start_state, all_hold, applicable, apply}
 use Rattle.plans.specs.Plan.{Total, no_steps, total_of}
-use Rattle.plans.specs.declared.Checked.{Checked}
+use Rattle.plans.specs.declared.PlanTotal.{PlanTotal}
 
 -- the steps in turn from a state, the first being step i; then the goal
 unfoldable pub take_steps : Task → State → ℕ → List ℕ → Outcome
@@ -22,9 +24,20 @@ plan_outcome task plan =
     (and_then (in_second (check_plan_file (action_count (task_of task)) plan))
     (take_steps (task_of task) (start_state (task_of task)) 0 (plan_of plan)))
 
+-- what the plan checker answers
+pub record Checked : Type 0 where
+  pub outcome : Outcome
+  pub cost : Minutes
+  pub steps : Steps
+
 -- an outcome with cost and steps, which are 0 beside a refusal
 unfoldable pub with_total : Outcome → Total → Checked
 with_total o total = record { outcome = o; cost = record { 0 = total.minutes }; steps = record { 0 = total.steps } }
+
+-- the numbers of the call's answer
+abbrev pub checked_of : Result PlanTotal Refusal → Checked
+checked_of (Ok total) = record { outcome = done; cost = total.cost; steps = total.steps }
+checked_of (Err r) = with_total (refused r) no_steps
 
 -- the total of the list beside an outcome that is done
 unfoldable pub answer : Outcome → Task → List ℕ → Checked

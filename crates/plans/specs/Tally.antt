@@ -5,8 +5,7 @@ use Rattle.files.specs.Task.{Pair, Action, action}
 use Rattle.files.specs.Dense.{row_pairs}
 use Rattle.plans.specs.State.{State, all_hold}
 use Rattle.plans.specs.Plan.{Total, no_steps}
-use Rattle.plans.specs.Check.{with_total}
-use Rattle.plans.specs.declared.Checked.{Checked}
+use Rattle.plans.specs.Check.{Checked, with_total}
 use Rattle.plans.specs.declared.tally.Row.{Row}
 use Rattle.plans.specs.declared.tally.Tally.{Tally}
 

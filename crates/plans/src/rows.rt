@@ -9,6 +9,7 @@ ghost use Rattle.plans.specs.State.{all_hold};
 ghost use Rattle.plans.specs.Tally.{list_state, meets_cell, after_cell};
 
 use files::limits;
+use std::array;
 
 // The first `count` cells of the row at `base`; no pair for the other variables.
 pub(crate) fn row_at(rows: &[u8], base: usize, count: usize) -> [u8; 64]
@@ -16,11 +17,7 @@ pub(crate) fn row_at(rows: &[u8], base: usize, count: usize) -> [u8; 64]
     ensures { row_pairs result 0 0 64 ≡ row_pairs rows.now base 0 count }
 {
     let mut row = [limits::NO_PAIR; 64];
-    let mut v: usize = 0;
-    while v < count {
-        row[v] = rows[base + v];
-        v += 1;
-    }
+    row[..count].copy_from_slice(&rows[base..base + count]);
     row
 }
 
@@ -30,11 +27,7 @@ pub(crate) fn state_of(values: &[u8; 64], count: usize) -> [u8; 64]
     ensures { ValuesCopied result values.now count }
 {
     let mut state = [0u8; 64];
-    let mut v: usize = 0;
-    while v < count {
-        state[v] = values[v];
-        v += 1;
-    }
+    state[..count].copy_from_slice(&values[..count]);
     state
 }
 
@@ -42,42 +35,28 @@ pub(crate) fn state_of(values: &[u8; 64], count: usize) -> [u8; 64]
 pub(crate) fn all_hold(row: [u8; 64], state: [u8; 64]) -> bool
     ensures { result ≡ all_hold (row_pairs row 0 0 64) (list_state state) }
 {
-    let mut v: usize = 0;
-    let mut left = limits::ROW;
-    while 0 < left {
-        if !meets(row[v], state[v]) {
-            return false;
-        }
-        v += 1;
-        left -= 1;
-    }
-    true
+    row.iter()
+        .zip(&state)
+        .all(|(condition, value)| meets(*condition, *value))
 }
 
 // Whether a value meets a condition's cell.
+#[tactic(auto, unfolding(crate::specs::Tally::meets_cell))]
 pub fn meets(condition: u8, value: u8) -> bool
     ensures { result ≡ meets_cell condition value }
 {
-    if condition == limits::NO_PAIR {
-        return true;
-    }
-    condition == value
+    condition == limits::NO_PAIR || condition == value
 }
 
 // The state after the effects of a row.
 pub(crate) fn applied(row: [u8; 64], state: [u8; 64]) -> [u8; 64]
     ensures { (v : ℕ) → get_or result v 0 ≡ Option.get_or (value_in (row_pairs row 0 0 64) v) (get_or state v 0) }
 {
-    let mut next = state;
-    let mut v: usize = 0;
-    while v < limits::ROW {
-        next[v] = cell_after(row[v], next[v]);
-        v += 1;
-    }
-    next
+    array::from_fn(|v| cell_after(row[v], state[v]))
 }
 
 // The value after an effect cell.
+#[tactic(auto, unfolding(crate::specs::Tally::after_cell))]
 pub fn cell_after(effect: u8, value: u8) -> u8
     ensures { result ≡ after_cell effect value }
 {

@@ -17,6 +17,7 @@ pub struct Row {
 }
 
 // The state that a plan has reached, and the minutes and steps that it took.
+// Kept: by value and handed back, a rule of the project ("is taken on by one step and handed back").
 #[derive(Clone, Copy)]
 pub struct Tally {
     pub state: [u8; 64],
@@ -30,7 +31,7 @@ impl Tally {
         ensures { TallyIs result (list_state state) no_steps }
     {
         Tally {
-            state: state,
+            state,
             minutes: Minutes(0),
             steps: Steps(0),
         }
@@ -40,9 +41,7 @@ impl Tally {
     pub fn meets(self, action: Row) -> bool
         ensures { result ≡ applicable (row_of action) (state_of self) }
     {
-        let conditions = action.conditions;
-        let state = self.state;
-        rows::all_hold(conditions, state)
+        rows::all_hold(action.conditions, self.state)
     }
 
     // The tally after a step.
@@ -50,15 +49,10 @@ impl Tally {
         requires { StepFits self action }
         ensures { TallyIs result (apply (row_of action) (state_of self)) (add_step (row_of action) (total_in self)) }
     {
-        let effects = action.effects;
-        let state = self.state;
-        let next = rows::applied(effects, state);
-        let minutes = self.minutes.0 + action.cost.0;
-        let steps = self.steps.0 + 1;
         Tally {
-            state: next,
-            minutes: Minutes(minutes),
-            steps: Steps(steps),
+            state: rows::applied(action.effects, self.state),
+            minutes: Minutes(self.minutes.0 + action.cost.0),
+            steps: Steps(self.steps.0 + 1),
         }
     }
 }

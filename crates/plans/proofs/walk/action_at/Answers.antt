@@ -6,4 +6,4 @@ use Rattle.plans.proofs.walk.action_at.Goals as goal
 
 pub returns : goal.returns
 unfolding row_of row_action
-returns c = record { is = λ i. action (c.minutes_of-cost.ensures.is i) (c.row_at-asked.ensures i) (c.row_at-set.ensures i); cost_below = c.minutes_of-cost.ensures.below }
+returns c = record { is = λ i. action (c.from.ensures.is i) (c.row_at.ensures i) (c.row_at-2.ensures i); cost_below = c.from.ensures.below }

@@ -12,4 +12,4 @@ unfolding state_of list_state apply row_of total_in add_step
 returns c =
     let a = c.args in
     let minutes : a.self.minutes.0 + a.action.cost.0 ≡ a.action.cost.0 + a.self.minutes.0 = omega arith in
-    record { reached = fun_ext (λ v. c.applied-next.ensures v); counted = λ i. record { minutes = minutes i; steps = a.self.steps.0 + 1 } }
+    record { reached = fun_ext (λ v. c.applied.ensures v); counted = λ i. record { minutes = minutes i; steps = a.self.steps.0 + 1 } }
