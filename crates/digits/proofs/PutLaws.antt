@@ -1,11 +1,13 @@
 -- Laws of runs of stores, and what the stores of the code make: digits by threes from the right, blanks, and a column.
-use Prim.Native.Nat.{ℕ, zero, suc, ◌+◌, ◌-◌, ◌/◌, ◌%◌, ◌^◌, ◌≤◌, ◌<◌}
+use Prim.Native.Nat.{ℕ, suc, ◌+◌, ◌-◌, ◌/◌, ◌%◌, ◌^◌, ◌≤◌, ◌<◌}
 use mathlib.Core.Path.{◌≡◌, refl, sym, ap, ◌∙◌}
-use mathlib.Core.List.{List, [], ◌∷◌, ◌++◌}
+use mathlib.Core.List.{List, [], ◌∷◌, ◌++◌, append_assoc}
 use native.Mathlib.Nat.{add-zero}
 use native.Mathlib.Omega.{arith}
-use lib.ListN.{length, set, drop, replicate, length-replicate}
+use lib.ListN.{length, set, take, drop, replicate, length-replicate, length-drop}
 use lib.Seq.{sets, sets-eq, set_comm, length-sets, length-take-le}
+use borrow.Rule.Slice.PartMut.{put_mid}
+use Rattle.std.proofs.lemmas.List.{drop-drop}
 use mir.Syntax.{w8}
 use mir.Val.{Fits}
 use Rattle.digits.specs.Clauses.{Counts}
@@ -23,6 +25,13 @@ sets_append b at (x ∷ xs) ys =
 
 pub sets_same : (b last : List ℕ) (at : ℕ) (xs : List ℕ) → last ≡ sets b at xs → length last ≡ length b
 sets_same b last at xs e = ap (λ (l : List ℕ). length l) e ∙ length-sets b at xs
+
+-- a part of a buffer that is written over at once
+pub part_set : (b xs : List ℕ) (at k : ℕ) → length xs ≡ k → at + k ≤ length b → put_mid at k b xs ≡ sets b at xs
+part_set b xs at k l h =
+    ap (λ (r : List ℕ). take at b ++ (xs ++ r)) (drop-drop k at b ∙ ap (λ (n : ℕ). drop (at + n) b) (sym l))
+    ∙ sym (append_assoc (take at b) xs (drop (at + length xs) b))
+    ∙ sym (sets-eq xs b at (omega arith))
 
 -- a store before a run, and two runs that do not overlap: either may be first
 sets_set : (b : List ℕ) (i x p : ℕ) (ys : List ℕ) → i < p → set (sets b p ys) i x ≡ sets (set b i x) p ys
@@ -95,17 +104,14 @@ group_put b last whole at end rest w e l h p =
     ∙ ap (λ (r : List ℕ). sets b at r) (sym (decimal_next rest l h))
     ∙ w
 
-pub blank_put : (b whole : List ℕ) (place left : ℕ) → sets b place (replicate left 32) ≡ whole → 0 < left
-    → sets (set b place 32) (place + 1) (replicate (left - 1) 32) ≡ whole
-blank_put b whole place zero w h = absurd (omega (arith, h))
-blank_put b whole place (suc k) w h =
-    let e : place + 1 ≡ suc place = omega arith in
-    let f : suc k - 1 ≡ k = omega arith in
-    rw (e, f) w
-
-pub blanks_done : (b whole : List ℕ) (place left : ℕ) → sets b place (replicate left 32) ≡ whole → left ≤ 0 → b ≡ whole
-blanks_done b whole place zero w h = w
-blanks_done b whole place (suc k) w h = absurd (omega (arith, h))
+pub blanks_put : (b part : List ℕ) (at count : ℕ) → at + count ≤ length b → part ≡ replicate (length (take (at + count - at) (drop at b))) 32
+    → put_mid at (at + count - at) b part ≡ sets b at (replicate count 32)
+blanks_put b part at count h e =
+    let all : length (take (at + count - at) (drop at b)) ≡ at + count - at = length-take-le (at + count - at) (drop at b) (omega (arith, length-drop at b)) in
+    let k : at + count - at ≡ count = omega arith in
+    ap (put_mid at (at + count - at) b) (e ∙ ap (λ (n : ℕ). replicate n 32) all)
+    ∙ part_set b (replicate (at + count - at) 32) at (at + count - at) (length-replicate {A = ℕ} (at + count - at) 32) (omega (arith, h))
+    ∙ ap (λ (n : ℕ). sets b at (replicate n 32)) k
 
 pub column_put : (b blanks last : List ℕ) (at width count n : ℕ) → count ≡ length (decimal n) → blanks ≡ sets b at (replicate (width - count) 32)
     → last ≡ sets blanks (at + (width - count)) (decimal n) → last ≡ sets b at (column width n)

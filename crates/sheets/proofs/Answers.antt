@@ -3,15 +3,13 @@ use Prim.Native.Nat.{ℕ}
 use mathlib.Core.Path.{◌≡◌, refl, ap, ◌∙◌}
 use mathlib.Core.Bool.{true}
 use mathlib.Core.List.{List, [], ◌∷◌}
-use Rattle.files.specs.declared.Outcome.{Outcome}
+use Rattle.files.specs.Outcome.{Outcome, is_done, fits}
 use Rattle.files.specs.Listed.{listed, short}
-use Rattle.files.specs.Outcome.{is_done, fits}
 use Rattle.files.specs.PlanFile.{plan_of}
 use Rattle.files.specs.Stages.{outcome_of}
 use Rattle.files.proofs.Listed.{listed_done, listed_front, listed_behind, listed_guard, listed_both, listed_at}
 use Rattle.files.proofs.Logic.{split}
-use Rattle.plans.specs.declared.Checked.{Checked}
-use Rattle.plans.specs.Check.{with_total, check_plan}
+use Rattle.plans.specs.Check.{Checked, with_total, check_plan}
 use Rattle.plans.specs.Checker.{check_refusals, check_stages}
 use Rattle.plans.proofs.PlanChecker.{check_answers}
 use Rattle.sheets.specs.Sheet.{page_length, sheet_outcome}

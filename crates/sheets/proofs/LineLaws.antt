@@ -9,11 +9,13 @@ use lib.Dec.{eqb}
 use lib.ListN.{length, get_or, set, replicate, length-append, length-replicate, get_or-replicate, get_or-append}
 use lib.Seq.{sets, get_or-append-add, get_or-append_seam}
 use borrow.Author.Tests.{le-leb}
+use borrow.Rule.Slice.PartMut.{put_mid}
 use Rattle.files.specs.Below.{any_of}
 use Rattle.files.specs.Bytes.{placed}
 use Rattle.files.proofs.Logic.{and_join, or_left, or_right, split_le}
 use Rattle.files.proofs.Placed.{placed_then}
 use Rattle.digits.specs.Decimal.{ascii, decimal, column}
+use Rattle.digits.proofs.PutLaws.{part_set}
 use Rattle.digits.proofs.DecimalLaws.{decimal_few, decimal_are, column_length}
 use Rattle.sheets.specs.Sheet.{step_line, signed_line}
 use Rattle.sheets.specs.Clauses.{NumbersFit}
@@ -163,15 +165,9 @@ module _ (step action minutes total : ℕ) (f : NumbersFit step action minutes t
       let p₅ = next_part b b₄ b₅ at (at + 20) (column 4 step ++ blanks ++ column 5 action ++ column 9 minutes) (column 12 total) p₄ (omega (arith, l₁, a₂, l₃, a₃, l₄, a₄)) e₅ in
       next_part b b₅ (set b₅ (at + 32) 10) at (at + 32) (front step action minutes total f) (10 ∷ []) p₅ (omega (arith, front_length step action minutes total f)) refl
 
-pub word_written : (b : List ℕ) (at : ℕ)
-    → set (set (set (set (set (set b at 83) (at + 1) 73) (at + 2) 71) (at + 3) 78) (at + 4) 69) (at + 5) 68 ≡ placed b at (ascii "SIGNED")
-unfolding ascii placed
-word_written b at =
-    let two : at + 1 + 1 ≡ at + 2 = omega arith in
-    let three : at + 2 + 1 ≡ at + 3 = omega arith in
-    let four : at + 3 + 1 ≡ at + 4 = omega arith in
-    let five : at + 4 + 1 ≡ at + 5 = omega arith in
-    rw (two, three, four, five) refl
+pub word_written : (b part : List ℕ) (at k : ℕ) → k ≡ 6 → at + 6 ≤ length b → part ≡ letters → put_mid at k b part ≡ placed b at (ascii "SIGNED")
+unfolding ascii
+word_written b part at k e h f = ap (put_mid at k b) f ∙ part_set b letters at k (sym e) (omega arith) ∙ stores_placed b at letters
 
 module _ (signer : ℕ) (h : signer < 2 ^ 32) (b b₁ b₂ : List ℕ) (at : ℕ) where
   pub signed_written : b₁ ≡ placed b at (ascii "SIGNED") → b₂ ≡ sets b₁ (at + 6) (column 26 signer) → set b₂ (at + 32) 10 ≡ placed b at (signed_line signer)

@@ -6,10 +6,9 @@ use mathlib.Core.List.{List}
 use native.Mathlib.Omega.{arith}
 use lib.ListN.{length, take}
 use lib.Seq.{take_at}
-use Rattle.files.specs.declared.Outcome.{Outcome}
+use Rattle.files.specs.Outcome.{Outcome, done, fits, overwrite}
 use Rattle.files.specs.Accepted.{accepted_task}
 use Rattle.files.specs.Bytes.{Octets}
-use Rattle.files.specs.Outcome.{done, fits, overwrite}
 use Rattle.files.specs.PlanFile.{check_plan_file, plan_of}
 use Rattle.files.specs.Records.{signer_of}
 use Rattle.files.specs.Task.{action_count}
@@ -21,9 +20,8 @@ use Rattle.files.proofs.Valid.{task_valid}
 use Rattle.plans.specs.Check.{check_plan}
 use Rattle.plans.specs.Checker.{check_refusals}
 use Rattle.plans.proofs.PlanChecker.{checker_right}
-use Rattle.sheets.specs.declared.Laid.{Laid}
 use Rattle.sheets.specs.Right.{SheetRight, PageRight, PagesRight}
-use Rattle.sheets.specs.Sheet.{sheet_of, page_length, sheet_whole, sheet_outcome, sheet_answer, sheet_page}
+use Rattle.sheets.specs.Sheet.{Laid, sheet_of, page_length, sheet_whole, sheet_outcome, sheet_answer, sheet_page}
 use Rattle.sheets.proofs.Answers.{checker_listed}
 use Rattle.sheets.proofs.Right.{sheets_right}
 

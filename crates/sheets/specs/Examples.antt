@@ -3,8 +3,7 @@ use Rattle.std.specs.Prelude.{ℕ, List, [], ◌∷◌, ◌++◌, replicate}
 use Rattle.files.specs.Examples.{file_e, file_lamp_alone, used, outcome_parts, Case, case}
 use Rattle.files.specs.PlanFile.{plan_file}
 use Rattle.digits.specs.Decimal.{ascii}
-use Rattle.sheets.specs.declared.Laid.{Laid}
-use Rattle.sheets.specs.Sheet.{sheet_answer, sheet_page}
+use Rattle.sheets.specs.Sheet.{Laid, sheet_answer, sheet_page}
 
 -- outcome, page bytes, cost and steps
 abbrev pub sheet_numbers : Laid → List ℕ

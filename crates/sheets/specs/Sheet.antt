@@ -1,7 +1,9 @@
 -- The sheet for the heading: a line a step with its minutes and the running total, and the plan file's signer below.
-use Rattle.std.specs.Prelude.{ℕ, ◌+◌, ◌*◌, List, [], ◌∷◌, ◌++◌, length}
-use Rattle.files.specs.declared.Outcome.{Outcome}
-use Rattle.files.specs.Outcome.{done, fits, overwrite}
+use Rattle.std.specs.Prelude.{ℕ, ◌+◌, ◌*◌, List, [], ◌∷◌, ◌++◌, length, Result, Ok, Err}
+use Rattle.files.specs.Outcome.{Outcome, done, refused, fits, overwrite}
+use Rattle.files.specs.declared.refusals.Refusal.{Refusal}
+use Rattle.files.specs.declared.units.Minutes.{Minutes}
+use Rattle.files.specs.declared.units.Steps.{Steps}
 use Rattle.files.specs.PlanFile.{plan_of}
 use Rattle.files.specs.Records.{signer_of}
 use Rattle.files.specs.Stages.{Stage, stage, outcome_of, left_by, answer_by, ByStages}
@@ -9,7 +11,7 @@ use Rattle.files.specs.Task.{Task, action_of}
 use Rattle.files.specs.TaskFile.{task_of}
 use Rattle.plans.specs.Check.{check_plan}
 use Rattle.digits.specs.Decimal.{ascii, column}
-use Rattle.sheets.specs.declared.Laid.{Laid}
+use Rattle.sheets.specs.declared.LaidPage.{LaidPage}
 
 -- step number in 4 columns, two blanks, action number in 5, minutes in 9, running total in 12
 unfoldable pub step_line : ℕ → ℕ → ℕ → ℕ → List ℕ
@@ -41,6 +43,13 @@ sheet_stages task plan page =
     ∷ stage (fits (page_length (plan_of plan)) (length page) done) (overwrite page (sheet_of (task_of task) (plan_of plan) (signer_of plan)))
     ∷ []
 
+-- what the call answers: the bytes of the page, and the plan's cost and steps
+pub record Laid : Type 0 where
+  pub outcome : Outcome
+  pub page : ℕ
+  pub cost : Minutes
+  pub steps : Steps
+
 -- the page's length, with cost and steps as the plan checker gives them
 abbrev pub sheet_whole : List ℕ → List ℕ → Laid
 sheet_whole task plan = record { outcome = done; page = page_length (plan_of plan); cost = (check_plan task plan).cost; steps = (check_plan task plan).steps }
@@ -48,6 +57,11 @@ sheet_whole task plan = record { outcome = done; page = page_length (plan_of pla
 -- beside a refusal every number is 0
 abbrev pub no_sheet : Outcome → Laid
 no_sheet o = record { outcome = o; page = 0; cost = record { 0 = 0 }; steps = record { 0 = 0 } }
+
+-- the numbers of the call's answer
+abbrev pub laid_of : Result LaidPage Refusal → Laid
+laid_of (Ok laid) = record { outcome = done; page = laid.length; cost = laid.cost; steps = laid.steps }
+laid_of (Err r) = no_sheet (refused r)
 
 -- the call: what it answers, and what the page buffer holds now
 abbrev pub LaysSheet : List ℕ → List ℕ → List ℕ → Laid → List ℕ → Type 0

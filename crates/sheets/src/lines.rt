@@ -7,13 +7,10 @@ ghost use Rattle.sheets.specs.Clauses.{LineFits, StepsFit, SignerFits};
 ghost use Rattle.sheets.specs.Sheet.{step_line, step_lines, signed_line};
 
 use digits::columns;
-use files::units::minutes_of;
 use plans::{Minutes, OriginalAction, Steps};
 
 // How many bytes a line has.
 pub const LINE: usize = 33;
-
-const LINE_FEED: u8 = 10;
 
 // Writes the line of a step: its number, its action, its minutes and the running total.
 fn put_step(
@@ -32,7 +29,7 @@ fn put_step(
     columns::put_column(page, at + 6, 5, action.0 as u64);
     columns::put_column(page, at + 11, 9, minutes.0);
     columns::put_column(page, at + 20, 12, total.0);
-    page[at + 32] = LINE_FEED;
+    page[at + 32] = b'\n';
 }
 
 // Writes a line for each step of a plan file, from the page's start on.
@@ -40,17 +37,20 @@ pub fn put_steps(page: &mut [u8], plan: &[u8], costs: &[u32; 512])
     requires { StepsFit page.old (plan_of plan.now) costs.now }
     ensures { page.new ≡ placed page.old 0 (step_lines (λ a. get_or costs.now a 0) 0 0 (plan_of plan.now)) }
 {
-    let steps = files::plan::steps(plan);
-    let count = steps.0 as usize;
+    let steps = files::plan::steps(plan).0 as usize;
     let mut total = Minutes(0);
-    let mut i: usize = 0;
-    while i < count {
+    for i in 0..steps {
         let action = files::plan::step(plan, i);
-        let minutes = minutes_of(costs[action.0 as usize]);
-        let sum = Minutes(total.0 + minutes.0);
-        put_step(page, LINE * i, Steps((i + 1) as u16), action, minutes, sum);
-        total = sum;
-        i += 1;
+        let minutes = Minutes::from(costs[action.0 as usize]);
+        total = Minutes(total.0 + minutes.0);
+        put_step(
+            page,
+            LINE * i,
+            Steps((i + 1) as u16),
+            action,
+            minutes,
+            total,
+        );
     }
 }
 
@@ -59,12 +59,7 @@ fn put_word(page: &mut [u8], at: usize)
     requires { at + 6 ≤ length page.old }
     ensures { page.new ≡ placed page.old at (ascii "SIGNED") }
 {
-    page[at] = b'S';
-    page[at + 1] = b'I';
-    page[at + 2] = b'G';
-    page[at + 3] = b'N';
-    page[at + 4] = b'E';
-    page[at + 5] = b'D';
+    page[at..at + 6].copy_from_slice(b"SIGNED");
 }
 
 // Writes the last line: the word, then the signer.
@@ -74,5 +69,5 @@ pub fn put_signed(page: &mut [u8], at: usize, signer: u64)
 {
     put_word(page, at);
     columns::put_column(page, at + 6, 26, signer);
-    page[at + 32] = LINE_FEED;
+    page[at + 32] = b'\n';
 }

@@ -6,18 +6,18 @@ use Rattle.digits.proofs.PutLaws.{sets_same, group_put}
 use Rattle.digits.proofs.groups.put_digits.Goals as goal
 
 pub overflow_sub-end : goal.overflow_sub-end
-overflow_sub-end c =
+overflow_sub-end g c =
     let now = c.loop-rest in
     omega (arith, now.invariant.1, decimal_next_length now.rest c.loop-rest-test.true now.invariant.4)
 
 pub put_three-requires : goal.put_three-requires
-put_three-requires c =
+put_three-requires g c =
     let now = c.loop-rest in
     let more = decimal_next_length now.rest c.loop-rest-test.true now.invariant.4 in
     record { below = omega arith; room = omega (arith, now.invariant.1, now.invariant.2, more) }
 
 pub loop-rest-preserved : goal.loop-rest-preserved
-loop-rest-preserved c =
+loop-rest-preserved g c =
     let now = c.loop-rest in
     let taken = c.loop-rest-test.true in
     let put = c.put_three in

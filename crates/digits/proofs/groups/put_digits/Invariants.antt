@@ -7,7 +7,7 @@ use Rattle.digits.specs.Decimal.{decimal}
 use Rattle.digits.proofs.groups.put_digits.Given as goal
 
 abbrev pub invariant-loop-rest : goal.invariant-loop-rest
-invariant-loop-rest l =
+invariant-loop-rest g l =
     (sets l.buffer l.at (decimal l.rest) ≡ sets l.initial.buffer l.at (decimal l.n))
     × (l.at + length (decimal l.rest) ≡ l.end)
     × (l.end ≤ length l.buffer)
@@ -15,4 +15,4 @@ invariant-loop-rest l =
     × (l.rest < 2 ^ 64)
 
 abbrev pub decreases-loop-rest : goal.decreases-loop-rest
-decreases-loop-rest l = l.rest
+decreases-loop-rest g l = l.rest

@@ -8,37 +8,37 @@ use Rattle.digits.proofs.PutLaws.{tens_fit, units_fit, front_three_put, front_tw
 use Rattle.digits.proofs.groups.put_front.Goals as goal
 
 pub put_three-requires : goal.put_three-requires
-put_three-requires c =
+put_three-requires g c =
     let fit = c.requires in
     record { below = fit.below; room = omega (arith, fit.room, front_three c.args.n c.if-n-gt99.true fit.below) }
 
 pub returns-then-n-gt99 : goal.returns-then-n-gt99
-returns-then-n-gt99 c = search (rules, front_three_put)
+returns-then-n-gt99 g c = search (rules, front_three_put)
 
 pub overflow_cast-buffer : goal.overflow_cast-buffer
-overflow_cast-buffer c = search (rules, tens_fit)
+overflow_cast-buffer g c = search (rules, tens_fit)
 
 pub bounds-buffer-at : goal.bounds-buffer-at
-bounds-buffer-at c =
+bounds-buffer-at g c =
     let long = front_two c.args.n c.if-n-gt9.true (omega (arith, c.if-n-gt99.false)) in
     omega (arith, c.requires.room, long)
 
 pub bounds-buffer-at-then-n-gt9 : goal.bounds-buffer-at-then-n-gt9
-bounds-buffer-at-then-n-gt9 c =
+bounds-buffer-at-then-n-gt9 g c =
     let long = front_two c.args.n c.if-n-gt9.true (omega (arith, c.if-n-gt99.false)) in
     simp length-set (omega (arith, c.requires.room, long))
 
 pub returns-then-n-gt9 : goal.returns-then-n-gt9
-returns-then-n-gt9 c = search (rules, front_two_put)
+returns-then-n-gt9 g c = search (rules, front_two_put)
 
 pub overflow_add-buffer-2 : goal.overflow_add-buffer-2
-overflow_add-buffer-2 c = search (rules, units_fit, Fits-8_16)
+overflow_add-buffer-2 g c = search (rules, units_fit, Fits-8_16)
 
 pub overflow_cast-buffer-2 : goal.overflow_cast-buffer-2
-overflow_cast-buffer-2 c = search (rules, units_fit)
+overflow_cast-buffer-2 g c = search (rules, units_fit)
 
 pub bounds-buffer-at-2 : goal.bounds-buffer-at-2
-bounds-buffer-at-2 c = omega (arith, c.requires.room, front_one c.args.n (omega (arith, c.if-n-gt9.false)))
+bounds-buffer-at-2 g c = omega (arith, c.requires.room, front_one c.args.n (omega (arith, c.if-n-gt9.false)))
 
 pub returns : goal.returns
-returns c = search (rules, front_one_put)
+returns g c = search (rules, front_one_put)

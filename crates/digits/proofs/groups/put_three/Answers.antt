@@ -4,7 +4,7 @@ use Rattle.digits.proofs.PutLaws.{hundreds_fit, three_put}
 use Rattle.digits.proofs.groups.put_three.Goals as goal
 
 pub overflow_cast-buffer : goal.overflow_cast-buffer
-overflow_cast-buffer c = search (rules, hundreds_fit)
+overflow_cast-buffer g c = search (rules, hundreds_fit)
 
 pub returns : goal.returns
-returns c = search (rules, three_put)
+returns g c = search (rules, three_put)

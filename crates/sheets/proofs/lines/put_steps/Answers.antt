@@ -18,8 +18,8 @@ bounds-costs-action c =
     let below : l.i < length plan = omega (arith, c.steps-steps.ensures.is, c.loop-i-test.true) in
     omega (arith, c.requires.known l.i below, c.step-action.ensures)
 
-pub overflow_add-sum : goal.overflow_add-sum
-overflow_add-sum c = omega (arith, c.minutes_of-minutes.ensures.below, c.loop-i.invariant.sum, c.loop-i.invariant.within, c.requires.few)
+pub overflow_add-total : goal.overflow_add-total
+overflow_add-total c = omega (arith, c.from-minutes.ensures.below, c.loop-i.invariant.sum, c.loop-i.invariant.within, c.requires.few)
 
 pub put_step-requires : goal.put_step-requires
 put_step-requires c =
@@ -27,7 +27,7 @@ put_step-requires c =
     let plan = plan_of c.args.plan.now in
     let below : l.i < length plan = omega (arith, c.steps-steps.ensures.is, c.loop-i-test.true) in
     record {
-      numbers = due_fits (λ (a : ℕ). get_or c.args.costs.now a 0) _ plan _ l.i l.total.0 l.invariant below c.requires.few _ _ c.step-action.ensures c.minutes_of-minutes.ensures.is (c.requires.known l.i below) (c.requires.cheap l.i below);
+      numbers = due_fits (λ (a : ℕ). get_or c.args.costs.now a 0) _ plan _ l.i l.total.0 l.invariant below c.requires.few _ _ c.step-action.ensures c.from-minutes.ensures.is (c.requires.known l.i below) (c.requires.cheap l.i below);
       room = omega (arith, l.invariant.long, c.requires.room, below);
     }
 
@@ -36,7 +36,7 @@ loop-i-preserved c =
     let l = c.loop-i in
     let plan = plan_of c.args.plan.now in
     let below : l.i < length plan = omega (arith, c.steps-steps.ensures.is, c.loop-i-test.true) in
-    writing_next (λ (a : ℕ). get_or c.args.costs.now a 0) _ plan _ l.i l.total.0 l.invariant below c.requires.few _ _ c.step-action.ensures c.minutes_of-minutes.ensures.is (c.requires.known l.i below) (c.requires.cheap l.i below) _ c.put_step.ensures
+    writing_next (λ (a : ℕ). get_or c.args.costs.now a 0) _ plan _ l.i l.total.0 l.invariant below c.requires.few _ _ c.step-action.ensures c.from-minutes.ensures.is (c.requires.known l.i below) (c.requires.cheap l.i below) _ c.put_step.ensures
 
 pub shape_of-page : goal.shape_of-page
 shape_of-page c = c.loop-i.invariant.long

@@ -1,9 +1,9 @@
 -- Blanks for what the number leaves of the width, and the digits behind them.
 use Rattle.digits.proofs.PutLaws.{column_put}
-use Rattle.digits.proofs.columns.put_column.Goals as goal
+use Rattle.digits.proofs.groups.put_column.Goals as goal
 
 pub returns : goal.returns
-returns c =
+returns g c =
     let args = c.args in
     let blanks = c.put_blanks in
     let places = c.places-count in
