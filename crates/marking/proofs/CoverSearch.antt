@@ -16,12 +16,11 @@ module _ (kept table effects tracked : List ℕ) (variables actions a : ℕ) whe
   abbrev covering : ℕ → Bool
   covering b = covers_at kept table effects tracked variables b a
 
-  -- no action from `from` on before b covers a; b could, if it is one
-  pub record Sought (from b : ℕ) : Type 0 where
-    pub first : from ≤ b
-    pub within : b ≤ actions
-    pub none : (j : ℕ) → from ≤ j → j < b → covering j ≡ false
-    pub could : b < actions → in_words table (8 * a) b ≡ true
+  -- no action from `from` on before `next` covers a
+  pub record Sought (from next : ℕ) : Type 0 where
+    pub first : from ≤ next
+    pub within : next ≤ actions
+    pub none : (j : ℕ) → from ≤ j → j < next → covering j ≡ false
 
   -- what could not cover does not
   skipped : (j : ℕ) → in_words table (8 * a) j ≡ false → covering j ≡ false
@@ -32,29 +31,28 @@ module _ (kept table effects tracked : List ℕ) (variables actions a : ℕ) whe
   unfolding covers_at
   unlike j e = ap (λ (t : Bool). in_words table (8 * a) j && t) e ∙ and-false (in_words table (8 * a) j)
 
-  pub sought_begin : (from b : ℕ) → FirstFrom (in_words table (8 * a)) actions from b → Sought from b
-  sought_begin from b f = record { first = f.first; within = f.last; none = λ j m l. skipped j (f.skipped j m l); could = f.there }
+  pub sought_begin : (from : ℕ) → from ≤ actions → Sought from from
+  sought_begin from few = record { first = omega arith; within = few; none = λ j h l. absurd (omega arith) }
 
-  pub sought_next : (from b r : ℕ) → Sought from b → kept_alike kept effects tracked variables b a ≡ false → FirstFrom (in_words table (8 * a)) actions (b + 1) r → Sought from r
-  sought_next from b r s e f =
-      record {
-        first = omega (arith, s.first, f.first);
-        within = f.last;
-        none =
-            λ j h l.
-            split_le (b + 1) j
-            (λ m. skipped j (f.skipped j m l))
-            (λ m. split_le b j (λ k. let here : j ≡ b = omega arith in rw here (unlike b e)) (λ k. s.none j h k));
-        could = f.there;
-      }
+  module _ (from next b : ℕ) (s : Sought from next) (f : FirstFrom (in_words table (8 * a)) actions next b) where
+    passed : (j : ℕ) → from ≤ j → j < b → covering j ≡ false
+    passed j h l = split_le next j (λ m. skipped j (f.skipped j m l)) (λ m. s.none j h m)
 
-  pub sought_found : (from b : ℕ) → Sought from b → b < actions → kept_alike kept effects tracked variables b a ≡ true → FirstFrom covering actions from b
-  unfolding covers_at
-  sought_found from b s l e = record { first = s.first; last = s.within; skipped = s.none; there = λ m. and_join (s.could l) e }
+    pub sought_next : b < actions → kept_alike kept effects tracked variables b a ≡ false → Sought from (b + 1)
+    sought_next l e =
+        record {
+          first = omega (arith, s.first, f.first);
+          within = omega arith;
+          none = λ j h m. split_le b j (λ k. let here : j ≡ b = omega arith in rw here (unlike b e)) (λ k. passed j h k);
+        }
 
-  pub sought_none : (from b : ℕ) → Sought from b → actions ≤ b → FirstFrom covering actions from actions
-  sought_none from b s h =
-      record { first = omega (arith, s.first, s.within); last = omega arith; skipped = λ j m l. s.none j m (omega arith); there = λ l. absurd (omega arith) }
+    pub sought_found : b < actions → kept_alike kept effects tracked variables b a ≡ true → FirstFrom covering actions from b
+    unfolding covers_at
+    sought_found l e = record { first = omega (arith, s.first, f.first); last = f.last; skipped = passed; there = λ m. and_join (f.there l) e }
+
+  pub sought_none : (from next : ℕ) → Sought from next → FirstFrom (in_words table (8 * a)) actions next actions → FirstFrom covering actions from actions
+  sought_none from next s f =
+      record { first = omega (arith, s.first, s.within); last = omega arith; skipped = passed from next actions s f; there = λ l. absurd (omega arith) }
 
   -- what is found covers, wherever the search began
   pub coverer_found : (from r : ℕ) → actions ≤ 512 → FirstFrom covering actions from r → r < actions → CovererIs r actions (covered_at kept table effects tracked variables actions a)

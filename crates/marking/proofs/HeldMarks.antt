@@ -7,9 +7,13 @@ use native.Mathlib.Omega.{arith}
 use lib.ListN.{get_or}
 use Rattle.files.specs.Below.{any_below}
 use Rattle.files.specs.Task.{Pair, Task, action_of, size_of, start_of}
-use Rattle.files.specs.Dense.{Arrays, held}
+use Rattle.files.specs.Dense.{held}
+use Rattle.files.specs.declared.arrays.Arrays.{Arrays}
 use Rattle.files.proofs.HeldTask.{variables_held, actions_held, start_held, effects_held, effect_at}
 use Rattle.files.proofs.Truth.{any_same}
+use Rattle.files.specs.Accepted.{accepted_task}
+use Rattle.files.specs.Clauses.{WithinLimits}
+use Rattle.files.proofs.Valid.{task_valid}
 use Rattle.marking.specs.Marks.{Marks, kept, relevant, action_marks, fact_marks}
 use Rattle.marking.specs.Links.{sets_other, threatened}
 use Rattle.marking.specs.Dense.{is_marked, other_than}
@@ -58,3 +62,9 @@ module _ (d : Arrays) where
 
     pub held_shaped : Shaped (held d) (held_marks (held d) actions facts)
     held_shaped = rw marks_held (marks_of_shaped (held d) (is_marked actions) fact_at)
+
+-- an accepted task is within limits, and so are the arrays that hold it
+pub held_limits : (d : Arrays) → accepted_task (held d) ≡ true → WithinLimits d.variables d.actions
+held_limits d e =
+    let valid = task_valid (held d) e in
+    record { few_variables = omega (arith, valid.variables_few, variables_held d); few_actions = omega (arith, valid.actions_few, actions_held d) }

@@ -14,6 +14,7 @@ pub mod SameMarks
 pub mod MarkCount
 pub mod RoundBound
 pub mod MarkingClosed
+pub mod Bits
 pub mod RowTests
 pub mod SetWhere
 pub mod Places
@@ -30,6 +31,7 @@ pub mod RoundCovering
 pub mod RoundFacts
 pub mod RoundProgress
 pub mod RoundCount
+pub mod LikeLevels
 pub mod Rounding
 pub mod MarkLaws
 pub mod MarkRow

@@ -7,7 +7,8 @@ use native.Mathlib.Omega.{arith}
 use lib.ListN.{length, get_or, length-map}
 use Rattle.files.specs.Below.{tabulate, bit, join_below, sum_below, sum_of}
 use Rattle.files.specs.Bytes.{placed}
-use Rattle.files.specs.Dense.{Arrays, held}
+use Rattle.files.specs.Dense.{held}
+use Rattle.files.specs.declared.arrays.Arrays.{Arrays}
 use Rattle.files.specs.Outcome.{overwrite}
 use Rattle.files.specs.Task.{variable_count, action_count, fact_count, size_of}
 use Rattle.files.proofs.BelowLaws.{map_entry}

@@ -1,21 +1,27 @@
 -- Marking by its stage: from what the code came to, and what a caller reads off it.
 use Prim.Native.Nat.{ℕ}
 use mathlib.Core.Path.{◌≡◌, refl, sym, ap, subst, ◌∙◌}
-use mathlib.Core.Bool.{true, false, cond}
+use mathlib.Core.Bool.{true, cond}
 use mathlib.Core.List.{List}
 use lib.ListN.{length}
-use Rattle.files.specs.declared.Outcome.{Outcome}
-use Rattle.files.specs.Outcome.{done, refusal, is_done, and_then}
+use Rattle.files.specs.Outcome.{Outcome, done, refused, guard, is_done, and_then}
+use Rattle.std.specs.Prelude.{Result}
+use Rattle.std.specs.Result.{IsErrAnd}
+use Rattle.std.proofs.lemmas.Result.{err_from_is_err_and}
+use Rattle.files.specs.declared.refusals.Refusal.{Refusal}
+use Rattle.marking.specs.declared.Counts.{Counts}
 use Rattle.files.specs.Stages.{outcome_of}
 use Rattle.files.specs.Task.{Task}
 use Rattle.files.specs.TaskFile.{check_task, task_of}
-use Rattle.files.proofs.Guards.{goes_on_lem, stops, guard_passes, guard_refuses, is_done_lem, is_refused}
+use Rattle.files.proofs.Guards.{goes_on_lem, stops, is_done_lem, is_refused}
 use Rattle.files.proofs.Listed.{listed_itself}
 use Rattle.files.proofs.Logic.{split}
 use Rattle.files.proofs.Stages.{is_yes, both_yes, both_last, by_end, by_stop, by_next}
-use Rattle.marking.specs.declared.Marked.{Marked}
-use Rattle.marking.specs.Mark.{valid_level, marks_fit, MarkBuffers, marked_buffers, mark_input, mark_stages, mark_whole, no_marks, MarksTask, MarksFile}
+use Rattle.marking.specs.Mark.{valid_level, marks_fit, Marked, MarkBuffers, marked_buffers, mark_input, mark_stages, mark_whole, no_marks, marked_of, MarksTask, MarksFile}
 use Rattle.marking.proofs.Answers.{marks_listed}
+
+pub marked_err : (r : Result Counts Refusal) (e : Refusal) → IsErrAnd r (λ x. x ≡ e) → marked_of r ≡ no_marks (refused e)
+marked_err r e h = let p = err_from_is_err_and r h in rw (p.1, p.2) refl
 
 -- a refusal, of what is given or of the room, leaves both buffers untouched
 stage_refused : (input : Outcome) (t : Task) (level : ℕ) (b : MarkBuffers) (o : Outcome) → o ≡ and_then input (marks_fit t (length b.actions) (length b.facts)) → (o.number ≡ 0 → ⊥)
@@ -86,16 +92,13 @@ module _ (file : List ℕ) (level : ℕ) where
     refused_file d = stops (check_task file) _ read e d
 
     module _ (z : read.number ≡ 0) where
-      pub refused_level : (o : Outcome) → valid_level level ≡ false → o ≡ refusal 8 0 → o ≡ mark_input file level
+      pub refused_level : (o : Outcome) → o ≡ guard (valid_level level) 8 0 done → o ≡ mark_input file level
       unfolding mark_input
-      refused_level o v q = goes_on_lem (check_task file) _ o read e z (guard_refuses (valid_level level) 8 0 _ o v q)
-
-      input_done : valid_level level ≡ true → done ≡ mark_input file level
-      unfolding mark_input
-      input_done v = goes_on_lem (check_task file) _ done read e z (guard_passes (valid_level level) 8 0 _ done v refl)
+      refused_level o q = goes_on_lem (check_task file) _ o read e z q
 
       -- else the marks are those of the task that the arrays hold
-      pub of_task : valid_level level ≡ true → (b : MarkBuffers) (t : Task) → t ≡ task_of file → (r : Marked) (now : MarkBuffers) → MarksTask done t level b r now → MarksFile file level b r now
-      of_task v b t is r now k =
-          subst (λ (o : Outcome). MarksTask o (task_of file) level b r now) (input_done v)
-          (subst (λ (x : Task). MarksTask done x level b r now) is k)
+      pub of_task : done ≡ guard (valid_level level) 8 0 done → (n : ℕ) → n ≡ level → (b : MarkBuffers) (t : Task) → t ≡ task_of file → (r : Marked) (now : MarkBuffers) → MarksTask done t n b r now → MarksFile file level b r now
+      of_task v n same b t is r now k =
+          subst (λ (o : Outcome). MarksTask o (task_of file) level b r now) (refused_level done v)
+          (subst (λ (x : Task). MarksTask done x level b r now) is
+          (subst (λ (l : ℕ). MarksTask done t l b r now) same k))

@@ -6,7 +6,8 @@ use mathlib.Core.List.{List}
 use lib.Dec.{eqb}
 use lib.ListN.{length, get_or}
 use Rattle.files.specs.Below.{bit}
-use Rattle.files.specs.Dense.{Arrays, held}
+use Rattle.files.specs.Dense.{held}
+use Rattle.files.specs.declared.arrays.Arrays.{Arrays}
 use Rattle.files.specs.Task.{action_of, size_of}
 use Rattle.marking.specs.Marks.{names}
 use Rattle.marking.specs.Links.{threatened, unlinked}

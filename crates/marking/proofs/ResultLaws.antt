@@ -1,26 +1,35 @@
 -- Marks as they are written: a byte at a time, and a variable's bytes behind those of the variables before it.
-use Prim.Native.Nat.{ℕ, zero, suc, ◌+◌, ◌*◌, ◌-◌, ◌≤◌, ◌<◌}
-use mathlib.Core.Path.{◌≡◌, refl, ap, ◌∙◌}
-use mathlib.Core.List.{List, [], ◌∷◌}
+use Prim.Native.Nat.{ℕ, zero, suc, ◌+◌, ◌*◌}
+use mathlib.Core.Path.{◌≡◌, refl, sym, ap, ◌∙◌}
+use mathlib.Core.List.{List, [], ◌∷◌, ◌++◌}
 use native.Mathlib.Omega.{arith}
 use native.Mathlib.Numerals.{add-one}
+use native.Mathlib.Nat.{add-zero, zero-add}
 use lib.ListN.{length, get_or, set, length-append}
-use Rattle.files.specs.Below.{tabulate_from, join_below, sum_below, sum_of}
+use Rattle.files.specs.Below.{tabulate_from, tabulate, join_below, sum_below, sum_of}
 use Rattle.files.specs.Bytes.{placed}
 use Rattle.files.proofs.Placed.{placed_then}
 use Rattle.files.proofs.Tabulate.{tabulate_from_length}
-use Rattle.files.proofs.Writing.{placed_none, placed_next}
 use Rattle.marking.specs.Dense.{fact_byte, fact_bytes}
 
--- a loop that writes a byte a turn
-module _ (f : ℕ → ℕ) (b : List ℕ) (at i left : ℕ) where
-  pub bytes_none : left ≤ 0 → b ≡ placed b at (tabulate_from i left f)
-  bytes_none h = placed_none (λ l. l) f b at i left h refl
+-- one entry more
+module _ (f : ℕ → ℕ) where
+  tabulate_from_more : (i n : ℕ) → tabulate_from i (suc n) f ≡ tabulate_from i n f ++ (f (i + n) ∷ [])
+  tabulate_from_more i zero = ap (λ (k : ℕ). f k ∷ []) (sym (add-zero i))
+  tabulate_from_more i (suc n) =
+      ap (λ l. f i ∷ l)
+      (tabulate_from_more (i + 1) n ∙ ap (λ (k : ℕ). tabulate_from (i + 1) n f ++ (f k ∷ [])) (omega arith))
 
-  pub bytes_next : (x : ℕ) → 0 < left → x ≡ f i → placed (set b at x) (at + 1) (tabulate_from (i + 1) (left - 1) f) ≡ placed b at (tabulate_from i left f)
+  tabulate_more : (n : ℕ) → tabulate (n + 1) f ≡ tabulate n f ++ (f n ∷ [])
+  tabulate_more n = rw (add-one n) (tabulate_from_more 0 n ∙ ap (λ (k : ℕ). tabulate n f ++ (f k ∷ [])) (zero-add n))
+
+  -- a loop that writes a byte a turn: behind the bytes that stand comes the next
+  pub byte_next : (old now : List ℕ) (at n place x : ℕ) → now ≡ placed old at (tabulate n f) → place ≡ at + n → x ≡ f n → set now place x ≡ placed old at (tabulate (n + 1) f)
   unfolding placed
-  bytes_next x h e =
-      placed_next (λ l. l) f b at i left (λ y. y ∷ []) (set b at x) (at + 1) h refl (ap (set b at) e) refl
+  byte_next old now at n place x e h is =
+      placed_then old now at place (tabulate n f) (x ∷ []) e (omega (arith, tabulate_from_length f 0 n))
+      ∙ ap (λ (y : ℕ). placed old at (tabulate n f ++ (y ∷ []))) is
+      ∙ ap (placed old at) (sym (tabulate_more n))
 
 row_length : (facts unlinked : List ℕ) (v size : ℕ) → length (fact_bytes facts unlinked v size) ≡ size
 unfolding fact_bytes

@@ -8,7 +8,8 @@ use lib.Dec.{eqb}
 use borrow.Author.Tests.{eqb-true, eqb-false, eq-eqb, ne_eqb}
 use Rattle.bits.specs.Sets.{in_words}
 use Rattle.files.specs.Below.{any_below, all_below}
-use Rattle.files.specs.Dense.{Arrays, held}
+use Rattle.files.specs.Dense.{held}
+use Rattle.files.specs.declared.arrays.Arrays.{Arrays}
 use Rattle.files.specs.Task.{Pair, action_of, action_count, variable_count, value_in}
 use Rattle.files.proofs.Logic.{split}
 use Rattle.files.proofs.RowValues.{cell_value, row_pairs_value}

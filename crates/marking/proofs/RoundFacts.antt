@@ -9,7 +9,8 @@ use lib.Dec.{eqb, ltb}
 use lib.ListN.{get_or}
 use borrow.Author.Tests.{eqb-true, eq-eqb, lt-ltb, ltb-true}
 use Rattle.files.specs.Below.{any_below, bit}
-use Rattle.files.specs.Dense.{Arrays, row_pairs, held}
+use Rattle.files.specs.Dense.{row_pairs, held}
+use Rattle.files.specs.declared.arrays.Arrays.{Arrays}
 use Rattle.files.specs.Task.{Pair, action_of, size_of, mentions}
 use Rattle.files.proofs.BelowLaws.{any_below_intro, any_below_elim, bit_most}
 use Rattle.files.proofs.Logic.{clash, split, and_split, and_join, or_split, or_left, or_right}

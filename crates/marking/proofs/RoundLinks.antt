@@ -9,7 +9,8 @@ use lib.Dec.{eqb, leb, ltb}
 use lib.ListN.{get_or}
 use borrow.Author.Tests.{eqb-true, eq-eqb, lt-ltb}
 use Rattle.files.specs.Below.{any_below, bit}
-use Rattle.files.specs.Dense.{Arrays, held}
+use Rattle.files.specs.Dense.{held}
+use Rattle.files.specs.declared.arrays.Arrays.{Arrays}
 use Rattle.files.specs.Task.{size_of}
 use Rattle.files.proofs.BelowLaws.{any_below_intro, any_below_elim}
 use Rattle.files.proofs.Logic.{clash, split, and_split, and_join, or_split, or_left, or_right}

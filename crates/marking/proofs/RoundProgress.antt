@@ -9,7 +9,8 @@ use lib.Dec.{eqb, leb}
 use lib.ListN.{get_or}
 use Rattle.bits.specs.Sets.{in_words}
 use Rattle.files.specs.Below.{bit}
-use Rattle.files.specs.Dense.{Arrays, held}
+use Rattle.files.specs.Dense.{held}
+use Rattle.files.specs.declared.arrays.Arrays.{Arrays}
 use Rattle.files.specs.Task.{Pair, Task, action_of, action_count, variable_count, size_of, start_of}
 use Rattle.files.proofs.BelowLaws.{any_below_intro, any_below_elim, bit_most}
 use Rattle.files.proofs.Logic.{clash, split, and_split, and_join, or_split, or_left, or_right}

@@ -7,8 +7,9 @@ use mathlib.Core.List.{List}
 use native.Mathlib.Omega.{arith}
 use lib.Dec.{eqb}
 use lib.ListN.{get_or, replicate, length-replicate}
-use Rattle.files.specs.Below.{bit, sum_below, any_below, sum_of}
-use Rattle.files.specs.Dense.{Arrays, held}
+use Rattle.files.specs.Below.{bit, sum_below, any_below}
+use Rattle.files.specs.Dense.{held}
+use Rattle.files.specs.declared.arrays.Arrays.{Arrays}
 use Rattle.files.specs.Task.{Task, action_count, variable_count, fact_count, size_of}
 use Rattle.files.proofs.BelowLaws.{bit_most}
 use Rattle.files.proofs.Countdown.{one_more}
@@ -27,7 +28,7 @@ use Rattle.marking.proofs.MarkCount.{mark_count, mark_count_most}
 use Rattle.marking.proofs.MarkTables.{marks_of_same}
 use Rattle.marking.proofs.Progress.{Progress}
 use Rattle.marking.proofs.RoundBound.{round_more}
-use Rattle.marking.proofs.RoundCount.{mark_sum, sum_zero, sum_same_marks, marks_same_sum}
+use Rattle.marking.proofs.RoundCount.{mark_sum, sum_same_marks, marks_same_sum}
 use Rattle.marking.proofs.RoundFacts.{names_held, named_inside}
 use Rattle.marking.proofs.RoundLaws.{first_marks_lem}
 use Rattle.marking.proofs.RoundProgress.{Round, round_held, round_progress, free_marked}
@@ -61,9 +62,6 @@ module _ (t : Task) (level : ℕ) (m : Marks) where
 
 all_left : (n : ℕ) → n - 0 ≡ n
 all_left n = omega arith
-
-zero_add : (n : ℕ) → 0 + n ≡ n
-zero_add n = omega arith
 
 -- facts are few
 pub facts_few : (t : Task) → Valid t → fact_count t ≤ 2048
@@ -136,18 +134,14 @@ module _ (d : Arrays) (ok : Valid (held d)) (level : ℕ) where
           whole = λ one v x y h i j q. first_named v y h j ∙ names_whole one v y x ∙ sym (first_named v x h i) ∙ q;
         }
 
-    none_yet : sum_of (replicate 512 0) d.actions ≡ 0
-    unfolding sum_of
-    none_yet = sum_zero d.actions (λ i. get_or {A = ℕ} (replicate 512 0) i 0) (λ i l. zeros_entry 512 i)
-
-    pub rounding_begins : (count : ℕ) → count ≡ sum_of facts 2048 → Rounding d level (replicate 512 0) facts (replicate 2048 0) (replicate 64 0) (replicate 512 0) (replicate 512 0) 0 count
+    pub rounding_begins : (count : ℕ) → count ≡ mark_sum d (replicate 512 0) facts → Rounding d level (replicate 512 0) facts (replicate 2048 0) (replicate 64 0) (replicate 512 0) (replicate 512 0) 0 count
     unfolding marking
     rounding_begins count e =
         record {
           progress = first_progress;
           ahead = ap₂ (λ (n : ℕ) (m : Marks). mark_from n (held d) level m 0) (all_left (limit d)) first_held;
           few = omega arith;
-          counted = e ∙ sym (ap (λ (n : ℕ). n + sum_of facts 2048) none_yet ∙ zero_add (sum_of facts 2048));
+          counted = e;
         }
 
   -- there is a round left, and rounds are few

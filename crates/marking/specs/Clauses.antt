@@ -1,10 +1,15 @@
 -- Names for the parts of what functions ask and ensure.
 use Rattle.std.specs.Prelude.{ℕ, ◌+◌, ◌*◌, ◌≤◌, ◌<◌, ◌≡◌, Bool, false, List, ltb, length, get_or}
 use Rattle.bits.specs.Sets.{in_words}
-use Rattle.files.specs.Below.{bit}
+use Rattle.files.specs.Below.{bit, count_below}
 use Rattle.files.specs.Clauses.{WithinLimits}
 use Rattle.files.specs.Dense.{OriginSizes}
 use Rattle.marking.specs.Dense.{conditions_in, could_cover_at, unlinked_at}
+
+-- how many of the numbers below a bound pass a test
+pub record CountOf (passes : ℕ → Bool → Type 0) (count r : ℕ) : Type 0 where
+  pub is : (p : ℕ → Bool) → ((i : ℕ) (b : Bool) → i < count → passes i b → b ≡ p i) → r ≡ count_below count p
+  pub at_most : r ≤ count
 
 -- bytes few enough that their sum fits
 pub record Summable (bytes : List ℕ) (count : ℕ) : Type 0 where

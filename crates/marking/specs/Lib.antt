@@ -4,6 +4,7 @@ pub mod Links
 pub mod Covering
 pub mod Rounds
 pub mod Mark
+pub mod Levels
 pub mod Answers
 pub mod Dense
 pub mod Clauses

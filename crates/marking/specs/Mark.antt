@@ -1,15 +1,15 @@
 -- The result of marking as bytes, and the answer of the call with what its buffers hold.
-use Rattle.std.specs.Prelude.{ℕ, ◌+◌, Bool, ◌&&◌, List, [], ◌∷◌, map, leb, length}
-use Rattle.files.specs.declared.Outcome.{Outcome}
+use Rattle.std.specs.Prelude.{ℕ, ◌+◌, Bool, ◌&&◌, List, [], ◌∷◌, map, leb, length, Result, Ok, Err}
+use Rattle.files.specs.Outcome.{Outcome, done, refused, guard, and_then, fits, overwrite}
+use Rattle.files.specs.declared.refusals.Refusal.{Refusal}
 use Rattle.files.specs.Below.{tabulate, bit, join_below}
-use Rattle.files.specs.Outcome.{done, guard, and_then, fits, overwrite}
 use Rattle.files.specs.Stages.{Stage, stage, left_by, answer_by, ByStages}
 use Rattle.files.specs.Task.{Task, variable_count, action_count, fact_count, size_of}
 use Rattle.files.specs.TaskFile.{check_task, task_of}
 use Rattle.marking.specs.Marks.{Marks, kept, relevant}
 use Rattle.marking.specs.Links.{linked}
 use Rattle.marking.specs.Rounds.{marking}
-use Rattle.marking.specs.declared.Marked.{Marked}
+use Rattle.marking.specs.declared.Counts.{Counts}
 
 -- a byte per action: 1 kept, 0 not
 unfoldable pub action_marks_of : Task → ℕ → List ℕ
@@ -55,6 +55,13 @@ mark_input task level =
 unfoldable pub mark_stages : Outcome → Task → ℕ → MarkBuffers → List (Stage MarkBuffers)
 mark_stages input t level b = stage (and_then input (marks_fit t (length b.actions) (length b.facts))) (marked_buffers t level b) ∷ []
 
+-- what marking answers: both lengths written and the round count, 0 beside a refusal
+pub record Marked : Type 0 where
+  pub outcome : Outcome
+  pub action_marks : ℕ
+  pub fact_marks : ℕ
+  pub rounds : ℕ
+
 -- both lengths and the round count
 abbrev pub mark_whole : Task → ℕ → Marked
 mark_whole t level = record { outcome = done; action_marks = action_count t; fact_marks = fact_count t; rounds = (marking t level).rounds }
@@ -62,6 +69,11 @@ mark_whole t level = record { outcome = done; action_marks = action_count t; fac
 -- beside a refusal there are no lengths and no rounds
 abbrev pub no_marks : Outcome → Marked
 no_marks o = record { outcome = o; action_marks = 0; fact_marks = 0; rounds = 0 }
+
+-- the numbers of an answer
+abbrev pub marked_of : Result Counts Refusal → Marked
+marked_of (Ok c) = record { outcome = done; action_marks = c.action_marks; fact_marks = c.fact_marks; rounds = c.rounds }
+marked_of (Err r) = no_marks (refused r)
 
 -- marking of a task, after what is given: what it answers, and what the buffers hold now
 abbrev pub MarksTask : Outcome → Task → ℕ → MarkBuffers → Marked → MarkBuffers → Type 0

@@ -5,10 +5,12 @@ ghost use Rattle.bits.specs.Sets.{in_words};
 ghost use Rattle.files.specs.Clauses.{WithinLimits};
 ghost use Rattle.marking.specs.Clauses.{WholeRow, TwoRows, CountsOf, TwoCounted, EmptyColumn, ColumnFilled, EmptyTable};
 ghost use Rattle.marking.specs.Dense.{other_than, missing, conditions_in, could_cover_at};
+ghost use Rattle.marking.specs.Levels.{level_number};
 
 use crate::cells;
-use crate::rounds::Scope;
+use crate::levels::Level;
 use bits::sets;
+use files::arrays::Arrays;
 use files::limits;
 
 // How many conditions of the row at `base` do not stand in the row at `other`.
@@ -16,53 +18,38 @@ fn missing(conditions: &[u8; 32768], base: usize, other: usize, variables: usize
     requires { TwoRows base other variables }
     ensures { result ≡ missing conditions.now base other variables }
 {
-    let mut count: u8 = 0;
-    let mut v: usize = 0;
-    while v < variables {
-        let lacks = cells::other_than(conditions[base + v], conditions[other + v]);
-        count += cells::bit_of(lacks);
-        v += 1;
-    }
-    count
+    cells::count_where(variables, |v| {
+        cells::other_than(conditions[base + v], conditions[other + v])
+    })
 }
 
 // How many conditions the row at `base` has.
-fn conditions_in(conditions: &[u8; 32768], base: usize, variables: usize) -> u8
-    requires { WholeRow 32768 base variables }
-    ensures { result ≡ conditions_in conditions.now base variables }
+fn conditions_in(task: &Arrays, base: usize) -> u8
+    requires { WholeRow 32768 base task.now.variables }
+    ensures { result ≡ conditions_in task.now.conditions base task.now.variables }
 {
-    let mut count: u8 = 0;
-    let mut v: usize = 0;
-    while v < variables {
-        let there = cells::is_there(conditions[base + v]);
-        count += cells::bit_of(there);
-        v += 1;
-    }
-    count
+    let conditions = &task.conditions;
+    cells::count_where(task.variables, |v| cells::is_there(conditions[base + v]))
 }
 
 // How many conditions each action has.
-fn condition_counts(scope: Scope, conditions: &[u8; 32768]) -> [u8; 512]
-    requires { WithinLimits scope.variables scope.actions }
-    ensures { CountsOf conditions.now scope.variables scope.actions result }
+fn condition_counts(task: &Arrays) -> [u8; 512]
+    requires { WithinLimits task.now.variables task.now.actions }
+    ensures { CountsOf task.now.conditions task.now.variables task.now.actions result }
 {
-    let mut counts = [0u8; 512];
-    let mut a: usize = 0;
-    while a < scope.actions {
-        counts[a] = conditions_in(conditions, limits::ROW * a, scope.variables);
-        a += 1;
+    let mut counts = [0; 512];
+    for a in 0..task.actions {
+        counts[a] = conditions_in(task, limits::ROW * a);
     }
     counts
 }
 
 // Where a row is compared first: at its last condition, or at 0. Any variable would do.
-fn first_compared(conditions: &[u8; 32768], base: usize, variables: usize) -> usize
-    requires { WholeRow 32768 base variables }
+fn first_compared(task: &Arrays, base: usize) -> usize
+    requires { WholeRow 32768 base task.now.variables }
 {
-    let mut v = variables;
-    while 0 < v {
-        v -= 1;
-        if cells::is_there(conditions[base + v]) {
+    for v in (0..task.variables).rev() {
+        if cells::is_there(task.conditions[base + v]) {
             return v;
         }
     }
@@ -88,7 +75,9 @@ fn is_missing(
 
 // Whether b costs the same as a or less and has a proper subset of its conditions: all of its conditions
 // are among them, and there are more of them. Three quick tests tell most pairs apart, the first on one
-// variable alone.
+// variable alone, and are taken together without a branch.
+// Kept: arrays apart in place of `&Arrays`, of which each pair would read the number of variables anew:
+// this is done for each two actions (see `any_of` for the times).
 fn pair_could_cover(
     costs: &[u32; 512],
     conditions: &[u8; 32768],
@@ -113,50 +102,31 @@ fn pair_could_cover(
 }
 
 // The column of one action in the table, where it is empty: what it could cover.
-fn fill_column(
-    could_cover: &mut [u64],
-    costs: &[u32; 512],
-    conditions: &[u8; 32768],
-    counts: &[u8; 512],
-    variables: usize,
-    actions: usize,
-    b: usize,
-)
-    requires { EmptyColumn conditions.now counts.now variables actions b could_cover.old }
-    ensures { ColumnFilled costs.now conditions.now variables actions b could_cover.old could_cover.new }
+fn fill_column(could_cover: &mut [u64; 4096], task: &Arrays, counts: &[u8; 512], b: usize)
+    requires { EmptyColumn task.now.conditions counts.now task.now.variables task.now.actions b could_cover.old }
+    ensures { ColumnFilled task.now.costs task.now.conditions task.now.variables task.now.actions b could_cover.old could_cover.new }
 {
-    let first = first_compared(conditions, limits::ROW * b, variables);
-    let mut a: usize = 0;
-    while a < actions {
+    let variables = task.variables;
+    let costs = &task.costs;
+    let conditions = &task.conditions;
+    let first = first_compared(task, limits::ROW * b);
+    for a in 0..task.actions {
         if pair_could_cover(costs, conditions, counts, variables, first, b, a) {
             sets::add(could_cover, 8 * a, b);
         }
-        a += 1;
     }
 }
 
 // The table of what could cover what, for level 4 alone.
-pub fn fill(could_cover: &mut [u64], scope: Scope, costs: &[u32; 512], conditions: &[u8; 32768])
-    requires { EmptyTable scope.variables scope.actions could_cover.old }
-    ensures { scope.level ≡ 4 → (a b : ℕ) → a < scope.actions → b < scope.actions → in_words could_cover.new (8 * a) b ≡ could_cover_at costs.now conditions.now scope.variables b a }
+pub fn fill(could_cover: &mut [u64; 4096], task: &Arrays, level: Level)
+    requires { EmptyTable task.now.variables task.now.actions could_cover.old }
+    ensures { level_number level ≡ 4 → (a b : ℕ) → a < task.now.actions → b < task.now.actions → in_words could_cover.new (8 * a) b ≡ could_cover_at task.now.costs task.now.conditions task.now.variables b a }
 {
-    let variables = scope.variables;
-    let actions = scope.actions;
-    if scope.level != 4 {
+    if !level.has_covering() {
         return;
     }
-    let counts = condition_counts(scope, conditions);
-    let mut b: usize = 0;
-    while b < actions {
-        fill_column(
-            could_cover,
-            costs,
-            conditions,
-            &counts,
-            variables,
-            actions,
-            b,
-        );
-        b += 1;
+    let counts = condition_counts(task);
+    for b in 0..task.actions {
+        fill_column(could_cover, task, &counts, b);
     }
 }

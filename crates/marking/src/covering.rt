@@ -5,173 +5,111 @@ ghost use Rattle.files.specs.Below.{bit};
 ghost use Rattle.files.specs.Clauses.{WithinLimits};
 ghost use Rattle.marking.specs.Clauses.{ActionAmong, ActionFrom, TwoActions, TwoRows, CovererIs};
 ghost use Rattle.marking.specs.Dense.{unlike, kept_alike, covers_at, covered_at, counted_at};
+ghost use Rattle.marking.specs.Levels.{level_number};
 
 use crate::cells;
-use crate::rounds::Scope;
+use crate::levels::Level;
 use bits::sets;
+use files::arrays::Arrays;
 use files::limits;
 
 // Whether a variable is tracked and the two effects on it are unlike.
 fn is_unlike(tracked: u8, effect: u8, other: u8) -> bool
     ensures { result ≡ (eqb tracked 1 && not (eqb effect other)) }
 {
-    if tracked != 1 {
-        return false;
-    }
-    effect != other
+    tracked == 1 && effect != other
 }
 
-// On how many tracked variables the effects at `base` and at `other` are unlike.
-fn unlike(
-    effects: &[u8; 32768],
-    tracked: &[u8; 64],
-    base: usize,
-    other: usize,
-    variables: usize,
-) -> u8
-    requires { TwoRows base other variables }
-    ensures { result ≡ unlike effects.now tracked.now base other variables }
-{
-    let mut count: u8 = 0;
-    let mut v: usize = 0;
-    while v < variables {
-        let differs = is_unlike(tracked[v], effects[base + v], effects[other + v]);
-        count += cells::bit_of(differs);
-        v += 1;
-    }
-    count
+// A round, as covering looks at it: the actions that are kept, those whose conditions were among F before,
+// the table of what could cover what, and the tracked variables.
+#[derive(Clone, Copy)]
+pub struct Round<'a> {
+    pub task: &'a Arrays,
+    pub level: Level,
+    pub kept: &'a [u8; 512],
+    pub counted_before: &'a [u8; 512],
+    pub could_cover: &'a [u64; 4096],
+    pub tracked: &'a [u8; 64],
 }
 
-// Whether b is kept and its effects on tracked variables are those of a.
-fn is_kept_alike(
-    kept: &[u8; 512],
-    effects: &[u8; 32768],
-    tracked: &[u8; 64],
-    variables: usize,
-    b: usize,
-    a: usize,
-) -> bool
-    requires { TwoActions variables b a }
-    ensures { result ≡ kept_alike kept.now effects.now tracked.now variables b a }
-{
-    if kept[b] != 1 {
-        return false;
+impl Round<'_> {
+    // On how many tracked variables the effects at `base` and at `other` are unlike.
+    fn unlike(&self, base: usize, other: usize) -> u8
+        requires { TwoRows base other self.now.task.now.variables }
+        ensures { result ≡ unlike self.now.task.now.effects self.now.tracked.now base other self.now.task.now.variables }
+    {
+        let effects = &self.task.effects;
+        let tracked = self.tracked;
+        cells::count_where(self.task.variables, |v| {
+            is_unlike(tracked[v], effects[base + v], effects[other + v])
+        })
     }
-    unlike(
-        effects,
-        tracked,
-        limits::ROW * b,
-        limits::ROW * a,
-        variables,
-    ) == 0
-}
 
-// The first action from `from` on that covers a, or `actions`: only those that could are tried.
-fn find_coverer(
-    scope: Scope,
-    kept: &[u8; 512],
-    could_cover: &[u64; 4096],
-    effects: &[u8; 32768],
-    tracked: &[u8; 64],
-    a: usize,
-    from: usize,
-) -> usize
-    requires { ActionFrom scope.variables scope.actions a from }
-    ensures { FirstFrom (λ b. covers_at kept.now could_cover.now effects.now tracked.now scope.variables b a) scope.actions from result }
-{
-    let variables = scope.variables;
-    let actions = scope.actions;
-    let mut b = sets::next_in(could_cover, 8 * a, from, actions);
-    while b < actions {
-        if is_kept_alike(kept, effects, tracked, variables, b, a) {
-            return b;
+    // Whether b is kept and its effects on tracked variables are those of a.
+    fn is_kept_alike(&self, b: usize, a: usize) -> bool
+        requires { TwoActions self.now.task.now.variables b a }
+        ensures { result ≡ kept_alike self.now.kept.now self.now.task.now.effects self.now.tracked.now self.now.task.now.variables b a }
+    {
+        self.kept[b] == 1 && self.unlike(limits::ROW * b, limits::ROW * a) == 0
+    }
+
+    // The first action from `from` on that covers a, or the number of actions: only those that could are tried.
+    fn find_coverer(&self, a: usize, from: usize) -> usize
+        requires { ActionFrom self.now.task.now.variables self.now.task.now.actions a from }
+        ensures { FirstFrom (λ b. covers_at self.now.kept.now self.now.could_cover.now self.now.task.now.effects self.now.tracked.now self.now.task.now.variables b a) self.now.task.now.actions from result }
+    {
+        let could_cover = self.could_cover;
+        for b in sets::numbers_in(could_cover, 8 * a, from, self.task.actions) {
+            if self.is_kept_alike(b, a) {
+                return b;
+            }
         }
-        b = sets::next_in(could_cover, 8 * a, b + 1, actions);
+        self.task.actions
     }
-    actions
-}
 
-// An action that covers a, or `actions`: sought from the one that did so before on, then from the first.
-fn coverer(
-    scope: Scope,
-    kept: &[u8; 512],
-    could_cover: &[u64; 4096],
-    effects: &[u8; 32768],
-    tracked: &[u8; 64],
-    a: usize,
-    before: u16,
-) -> usize
-    requires { ActionAmong scope.variables scope.actions a }
-    ensures { CovererIs result scope.actions (covered_at kept.now could_cover.now effects.now tracked.now scope.variables scope.actions a) }
-{
-    let first = before as usize;
-    if 0 < first {
-        if first < scope.actions {
-            let found = find_coverer(scope, kept, could_cover, effects, tracked, a, first);
-            if found < scope.actions {
+    // An action that covers a, or the number of actions: sought from the one that did so before on, then from the first.
+    fn coverer(&self, a: usize, before: u16) -> usize
+        requires { ActionAmong self.now.task.now.variables self.now.task.now.actions a }
+        ensures { CovererIs result self.now.task.now.actions (covered_at self.now.kept.now self.now.could_cover.now self.now.task.now.effects self.now.tracked.now self.now.task.now.variables self.now.task.now.actions a) }
+    {
+        let first = before as usize;
+        if 0 < first && first < self.task.actions {
+            let found = self.find_coverer(a, first);
+            if found < self.task.actions {
                 return found;
             }
         }
+        self.find_coverer(a, 0)
     }
-    find_coverer(scope, kept, could_cover, effects, tracked, a, 0)
-}
 
-// Whether F has or gains the conditions of an action. What covers it is kept in `coverers`.
-fn is_counted(
-    scope: Scope,
-    kept: &[u8; 512],
-    counted_before: &[u8; 512],
-    could_cover: &[u64; 4096],
-    effects: &[u8; 32768],
-    tracked: &[u8; 64],
-    coverers: &mut [u16; 512],
-    a: usize,
-) -> bool
-    requires { ActionAmong scope.variables scope.actions a }
-    ensures { result ≡ counted_at scope.level kept.now counted_before.now (covered_at kept.now could_cover.now effects.now tracked.now scope.variables scope.actions a) a }
-{
-    if counted_before[a] == 1 {
-        return true;
+    // Whether F has or gains the conditions of an action. What covers it is kept in `coverers`.
+    fn is_counted(&self, coverers: &mut [u16; 512], a: usize) -> bool
+        requires { ActionAmong self.now.task.now.variables self.now.task.now.actions a }
+        ensures { result ≡ counted_at (level_number self.now.level) self.now.kept.now self.now.counted_before.now (covered_at self.now.kept.now self.now.could_cover.now self.now.task.now.effects self.now.tracked.now self.now.task.now.variables self.now.task.now.actions a) a }
+    {
+        if self.counted_before[a] == 1 {
+            return true;
+        }
+        if self.kept[a] != 1 {
+            return false;
+        }
+        if !self.level.has_covering() {
+            return true;
+        }
+        let by = self.coverer(a, coverers[a]);
+        coverers[a] = by as u16;
+        self.task.actions <= by
     }
-    if kept[a] != 1 {
-        return false;
-    }
-    if scope.level != 4 {
-        return true;
-    }
-    let by = coverer(scope, kept, could_cover, effects, tracked, a, coverers[a]);
-    coverers[a] = by as u16;
-    scope.actions <= by
-}
 
-// The actions whose conditions F has or gains: at level 4 those that are not covered, else all.
-pub fn counted(
-    scope: Scope,
-    kept: &[u8; 512],
-    counted_before: &[u8; 512],
-    could_cover: &[u64; 4096],
-    effects: &[u8; 32768],
-    tracked: &[u8; 64],
-    coverers: &mut [u16; 512],
-) -> [u8; 512]
-    requires { WithinLimits scope.variables scope.actions }
-    ensures { (a : ℕ) → a < scope.actions → get_or result a 0 ≡ bit (counted_at scope.level kept.now counted_before.now (covered_at kept.now could_cover.now effects.now tracked.now scope.variables scope.actions a) a) }
-{
-    let mut marks = [0u8; 512];
-    let mut a: usize = 0;
-    while a < scope.actions {
-        let test = is_counted(
-            scope,
-            kept,
-            counted_before,
-            could_cover,
-            effects,
-            tracked,
-            coverers,
-            a,
-        );
-        marks[a] = cells::bit_of(test);
-        a += 1;
+    // The actions whose conditions F has or gains: at level 4 those that are not covered, else all.
+    pub fn counted(&self, coverers: &mut [u16; 512]) -> [u8; 512]
+        requires { WithinLimits self.now.task.now.variables self.now.task.now.actions }
+        ensures { (a : ℕ) → a < self.now.task.now.actions → get_or result a 0 ≡ bit (counted_at (level_number self.now.level) self.now.kept.now self.now.counted_before.now (covered_at self.now.kept.now self.now.could_cover.now self.now.task.now.effects self.now.tracked.now self.now.task.now.variables self.now.task.now.actions a) a) }
+    {
+        let mut marks = [0; 512];
+        for a in 0..self.task.actions {
+            marks[a] = u8::from(self.is_counted(coverers, a));
+        }
+        marks
     }
-    marks
 }

@@ -6,63 +6,37 @@ mod cells;
 mod cover_table;
 mod covering;
 pub mod gains;
+pub mod levels;
 pub mod links;
 pub mod marks;
 mod results;
 pub mod rounds;
 
-ghost use Rattle.marking.specs.Mark.{MarksFile, mark_buffers};
+ghost use Rattle.marking.specs.Mark.{MarksFile, mark_buffers, marked_of};
 
-use files::outcomes;
+use files::arrays::Arrays;
+use files::refusals::Refusal;
+use levels::Level;
 
-// What marking answers: both lengths written and the round count, 0 beside a refusal.
-#[derive(Clone, Copy)]
-pub struct Marked {
-    pub outcome: files::Outcome,
+// How many marks of actions and of facts were written, and how many rounds there were.
+#[derive(Clone, Copy, Debug, Default, PartialEq, Eq)]
+pub struct Counts {
     pub action_marks: usize,
     pub fact_marks: usize,
     pub rounds: usize,
 }
 
 // Marks the kept actions and the relevant facts of a task file's task at a level, a byte each.
-pub fn mark(task: &[u8], level: u32, actions: &mut [u8], facts: &mut [u8]) -> Marked
-    ensures { MarksFile task.now level (mark_buffers actions.old facts.old) result (mark_buffers actions.new facts.new) }
+pub fn mark(
+    task: &[u8],
+    level: u32,
+    actions: &mut [u8],
+    facts: &mut [u8],
+) -> Result<Counts, Refusal>
+    ensures { MarksFile task.now level (mark_buffers actions.old facts.old) (marked_of result) (mark_buffers actions.new facts.new) }
 {
-    let mut sizes = [0u8; 64];
-    let mut starts = [0u8; 64];
-    let mut goal = [0u8; 64];
-    let mut costs = [0u32; 512];
-    let mut conditions = [0u8; 32768];
-    let mut effects = [0u8; 32768];
-    let read = files::decode::read_task(
-        task,
-        &mut sizes,
-        &mut starts,
-        &mut goal,
-        &mut costs,
-        &mut conditions,
-        &mut effects,
-    );
-    if read.number != 0 {
-        return rounds::refused(read);
-    }
-    if !rounds::valid_level(level) {
-        return rounds::refused(outcomes::refuse(outcomes::UNKNOWN_LEVEL, 0));
-    }
-    let scope = rounds::Scope {
-        level: level,
-        variables: files::task::variables_in(task),
-        actions: files::task::actions_in(task),
-    };
-    rounds::mark_task(
-        scope,
-        &sizes,
-        &starts,
-        &goal,
-        &costs,
-        &conditions,
-        &effects,
-        actions,
-        facts,
-    )
+    let mut arrays = Arrays::empty();
+    arrays.read(task)?;
+    let level = Level::try_from(level)?;
+    rounds::mark_task(&arrays, level.number(), actions, facts)
 }

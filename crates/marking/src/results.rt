@@ -7,6 +7,7 @@ ghost use Rattle.marking.specs.Clauses.{Summable, ValuesWithin, SizesWithin};
 ghost use Rattle.marking.specs.Dense.{fact_byte, fact_bytes};
 
 use crate::marks;
+use files::arrays::Arrays;
 use files::limits;
 
 // The sum of the first `count` bytes.
@@ -14,11 +15,9 @@ pub fn sum(bytes: &[u8], count: usize) -> usize
     requires { Summable bytes.now count }
     ensures { IsAtMost result (sum_of bytes.now count) (255 * count) }
 {
-    let mut total: usize = 0;
-    let mut i: usize = 0;
-    while i < count {
+    let mut total = 0;
+    for i in 0..count {
         total += bytes[i] as usize;
-        i += 1;
     }
     total
 }
@@ -28,12 +27,8 @@ pub fn write_actions(marks: &mut [u8], kept: &[u8; 512], actions: usize)
     requires { Writable (actions ≤ 512) actions marks.old }
     ensures { marks.new ≡ placed marks.old 0 (tabulate actions (λ a. get_or kept.now a 0)) }
 {
-    let mut a: usize = 0;
-    let mut left = actions;
-    while 0 < left {
+    for a in 0..actions {
         marks[a] = kept[a];
-        a += 1;
-        left -= 1;
     }
 }
 
@@ -41,13 +36,10 @@ pub fn write_actions(marks: &mut [u8], kept: &[u8; 512], actions: usize)
 fn fact_mark(fact: u8, unlinked: u8) -> u8
     ensures { result ≡ fact_byte fact unlinked }
 {
-    if fact != 1 {
-        return 0;
-    }
-    if unlinked == 1 {
-        marks::RELEVANT
-    } else {
-        marks::LINKED
+    match (fact, unlinked) {
+        (1, 1) => marks::RELEVANT,
+        (1, _) => marks::LINKED,
+        _ => 0,
     }
 }
 
@@ -63,37 +55,23 @@ fn write_values(
     requires { Writable (ValuesWithin v size) (at + size) marks.old }
     ensures { marks.new ≡ placed marks.old at (fact_bytes facts.now unlinked.now v size) }
 {
-    let mut d: usize = 0;
-    let mut place = at;
-    let mut left = size;
-    while 0 < left {
-        marks[place] = fact_mark(
+    for d in 0..size {
+        marks[at + d] = fact_mark(
             facts[limits::MOST_VALUES * v + d],
             unlinked[limits::MOST_VALUES * v + d],
         );
-        d += 1;
-        place += 1;
-        left -= 1;
     }
 }
 
 // A byte per fact, by variable, then value.
-pub fn write_facts(
-    marks: &mut [u8],
-    facts: &[u8; 2048],
-    unlinked: &[u8; 2048],
-    sizes: &[u8; 64],
-    variables: usize,
-)
-    requires { Writable (SizesWithin sizes.now variables) (sum_of sizes.now variables) marks.old }
-    ensures { marks.new ≡ placed marks.old 0 (join_below variables (λ v. fact_bytes facts.now unlinked.now v (get_or sizes.now v 0))) }
+pub fn write_facts(marks: &mut [u8], facts: &[u8; 2048], unlinked: &[u8; 2048], task: &Arrays)
+    requires { Writable (SizesWithin task.now.sizes task.now.variables) (sum_of task.now.sizes task.now.variables) marks.old }
+    ensures { marks.new ≡ placed marks.old 0 (join_below task.now.variables (λ v. fact_bytes facts.now unlinked.now v (get_or task.now.sizes v 0))) }
 {
-    let mut v: usize = 0;
-    let mut at: usize = 0;
-    while v < variables {
-        let size = sizes[v] as usize;
+    let mut at = 0;
+    for v in 0..task.variables {
+        let size = task.sizes[v] as usize;
         write_values(marks, at, facts, unlinked, v, size);
         at += size;
-        v += 1;
     }
 }

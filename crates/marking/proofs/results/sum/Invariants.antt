@@ -1,11 +1,7 @@
 -- The loop's invariant: the total is that of the bytes before `i`.
-use Prim.Native.Nat.{◌*◌, ◌-◌, ◌≤◌}
-use mathlib.Core.Path.{◌≡◌}
+use Rattle.std.proofs.Common.{◌≡◌, ◌≤◌, ◌*◌}
 use Rattle.files.specs.Below.{sum_of}
 use Rattle.marking.proofs.results.sum.Given as goal
 
 abbrev pub invariant-loop-i : goal.invariant-loop-i
-invariant-loop-i l = (l.total ≡ sum_of l.bytes l.i) × (l.total ≤ 255 * l.i) × (l.i ≤ l.count)
-
-abbrev pub decreases-loop-i : goal.decreases-loop-i
-decreases-loop-i l = l.count - l.i
+invariant-loop-i l = (l.total ≡ sum_of l.bytes l.i) × (l.total ≤ 255 * l.i)

@@ -1,7 +1,5 @@
 -- The loop's invariant: the bytes of the variables before `v` stand, and `at` is their number.
-use Prim.Native.Nat.{◌-◌, ◌≤◌}
-use mathlib.Core.Path.{◌≡◌}
-use lib.ListN.{length, get_or}
+use Rattle.std.proofs.Common.{◌≡◌, get_or}
 use Rattle.files.specs.Below.{join_below, sum_of}
 use Rattle.files.specs.Bytes.{placed}
 use Rattle.marking.specs.Dense.{fact_bytes}
@@ -9,10 +7,5 @@ use Rattle.marking.proofs.results.write_facts.Given as goal
 
 abbrev pub invariant-loop-v : goal.invariant-loop-v
 invariant-loop-v l =
-    (l.marks ≡ placed l.initial.marks 0 (join_below l.v (λ w. fact_bytes l.facts l.unlinked w (get_or l.sizes w 0))))
-    × (l.at ≡ sum_of l.sizes l.v)
-    × (l.v ≤ l.variables)
-    × (length l.marks ≡ length l.initial.marks)
-
-abbrev pub decreases-loop-v : goal.decreases-loop-v
-decreases-loop-v l = l.variables - l.v
+    (l.marks ≡ placed l.initial.marks 0 (join_below l.v (λ w. fact_bytes l.facts l.unlinked w (get_or l.task.sizes w 0))))
+    × (l.at ≡ sum_of l.task.sizes l.v)

@@ -1,30 +1,20 @@
-use mathlib.Core.Path.{refl, ◌∙◌}
-use native.Mathlib.Omega.{arith}
-use lib.ListN.{length-set}
-use Rattle.marking.specs.Dense.{fact_bytes}
-use Rattle.marking.proofs.ResultLaws.{bytes_none, bytes_next}
-use Rattle.marking.proofs.results.write_values.Invariants.{mark}
+use Rattle.std.proofs.Common.{◌≡◌, refl, ℕ, ◌+◌, ◌*◌, arith, get_or}
+use Rattle.files.specs.Bytes.{placed}
+use Rattle.marking.specs.Dense.{fact_byte, fact_bytes}
+use Rattle.marking.proofs.ResultLaws.{byte_next}
 use Rattle.marking.proofs.results.write_values.Goals as goal
 
-pub loop-left-init : goal.loop-left-init
+pub loop-d-init : goal.loop-d-init
+unfolding placed fact_bytes
+loop-d-init c = refl
+
+pub loop-d-preserved : goal.loop-d-preserved
 unfolding fact_bytes
-loop-left-init c = (refl, refl, omega arith, refl)
-
-pub loop-left-preserved : goal.loop-left-preserved
-loop-left-preserved c =
-    let l = c.loop-left in
-    let a = c.args in (
-      bytes_next (mark a.facts.now a.unlinked.now a.v) l.marks l.place l.d l.left _ c.loop-left-test.true c.fact_mark.ensures ∙ l.invariant.0,
-      omega arith,
-      omega arith,
-      length-set l.marks _ _ ∙ l.invariant.3,
-    )
-
-pub shape_of-marks : goal.shape_of-marks
-shape_of-marks c = c.loop-left.invariant.3
+loop-d-preserved c =
+    let l = c.loop-d in
+    let a = c.args in
+    let mark : ℕ → ℕ = λ d. fact_byte (get_or a.facts.now (32 * a.v + d) 0) (get_or a.unlinked.now (32 * a.v + d) 0) in
+    byte_next mark _ _ a.at l.d _ _ l.invariant refl c.fact_mark.ensures
 
 pub returns : goal.returns
-returns c =
-    let l = c.loop-left in
-    let a = c.args in
-    bytes_none (mark a.facts.now a.unlinked.now a.v) l.marks l.place l.d l.left c.loop-left-test.false ∙ l.invariant.0
+returns c = let end : c.loop-d.d ≡ c.args.size = omega arith in rw (← end) c.loop-d.invariant
