@@ -7,10 +7,11 @@ use mathlib.Core.List.{List, []}
 use native.Mathlib.Nat.{zero-add}
 use native.Mathlib.Omega.{arith}
 use lib.Dec.{eqb, leb, ltb}
-use lib.ListN.{get_or}
+use lib.ListN.{length, get_or, replicate, length-replicate, get_or-replicate}
+use Rattle.std.proofs.lemmas.List.{get_or_past}
 use borrow.Author.Tests.{eqb-true, eqb-false, eq-eqb, lt-ltb, le-ltb, le-leb}
 use Rattle.files.specs.Dense.{row_pairs}
-use Rattle.files.proofs.Logic.{split}
+use Rattle.files.proofs.Logic.{split, split_le}
 use Rattle.files.proofs.Truth.{same_truth}
 use Rattle.plans.specs.Plan.{no_steps, at_most}
 use Rattle.plans.specs.State.{State, all_hold}
@@ -18,16 +19,38 @@ use Rattle.plans.specs.Tally.{meets_cell}
 use Rattle.plans.proofs.RowStates.{meets_none, meets_some, meets_at, hold_below}
 use Rattle.distances.specs.States.{state_at}
 use Rattle.distances.specs.Table.{entry_of}
-use Rattle.distances.specs.Entries.{no_entry, first_entry, is_none, less_entry, lowered, entry_in}
+use Rattle.distances.specs.Entries.{no_entry, first_entry, is_none, less_entry, lowered, table_entry}
 use Rattle.distances.specs.Rows.{row_variables, row_state}
-use Rattle.distances.specs.Settling.{Offers}
+use Rattle.distances.specs.Selecting.{Selecting, Fresh, Offers}
+use Rattle.distances.proofs.Blocks.{known_cleared}
+use Rattle.distances.specs.declared.selection.Selection.{Selection}
 use Rattle.bits.specs.Sets.{in_word}
 use Rattle.lookup.specs.Moves.{weighted}
 use Rattle.distances.specs.declared.Entry.{Entry}
-use Rattle.distances.specs.Offers.{differs_in, differs_from, Numbered, goal_values, GoalFree, Cleared}
+use Rattle.distances.specs.Tables.{Numbered}
+use Rattle.distances.specs.Offers.{differs_in, differs_from, goal_values, GoalFree}
 use Rattle.distances.proofs.RowNumbers.{RowInside, weight_most, state_alike}
 use Rattle.distances.proofs.OneChange.{weighted_alike, weights_state, weights_below}
 use Rattle.distances.proofs.FactRowLaws.{all_same}
+
+-- no entry is one
+abbrev pub Cleared : List Entry → Type 0
+Cleared entries = (s : ℕ) → table_entry entries s ≡ no_entry
+
+pub cleared : (n : ℕ) → Cleared (replicate n no_entry)
+unfolding table_entry
+cleared n s = split_le n s (λ h. get_or_past (replicate n no_entry) s no_entry (omega (arith, length-replicate n no_entry))) (λ h. get_or-replicate n s no_entry no_entry h)
+
+-- before the first offer
+pub fresh_selecting : (entries : List Entry) (x : Selection) → Fresh (length entries) x → length entries ≤ 4096 → Cleared entries → Selecting entries x
+fresh_selecting entries x fresh few none =
+    record {
+      few = few;
+      known =
+          known_cleared entries x.settled (length entries) x.least
+          (λ s l. none s)
+          (λ b h. ap (λ (l : List ℕ). get_or l b 0) fresh.least_is ∙ get_or-replicate 64 b (length entries) 0 (omega (arith, h, few)));
+    }
 
 first_lower : (b : Bool) → cond b (lowered (first_entry true) no_entry) no_entry ≡ first_entry b
 unfolding lowered less_entry at_most entry_of no_steps
@@ -92,13 +115,13 @@ module _ (variables count : ℕ) (sizes weights goal : List ℕ) (w : Numbered v
         ∙ sym (hold_below goal 0 r variables)
         ∙ ap (all_hold (row_pairs goal 0 0 variables)) (state_alike sizes [] starts variables s)
 
-    pub goal_entries : (first : Entry) (entries₀ entries settled least : List ℕ) → first ≡ first_entry true → Cleared count entries₀ → Offers (differs_from sizes variables free 0 number) count first settled entries₀ entries least
-        → (starts : List ℕ) (s : ℕ) → s < count → entry_in entries s ≡ first_entry (all_hold (row_pairs goal 0 0 variables) (state_at (row_variables variables sizes starts) s))
-    goal_entries first entries₀ entries settled least is none o starts s l =
+    pub goal_entries : (first : Entry) (entries₀ entries : List Entry) (x₀ x : Selection) → first ≡ first_entry true → Cleared entries₀ → Offers (differs_from sizes variables free 0 number) first entries₀ x₀ entries x
+        → (starts : List ℕ) (s : ℕ) → s < length entries₀ → table_entry entries s ≡ first_entry (all_hold (row_pairs goal 0 0 variables) (state_at (row_variables variables sizes starts) s))
+    goal_entries first entries₀ entries x₀ x is none o starts s l =
         let b : Bool = all_hold (row_pairs goal 0 0 variables) (state_at (row_variables variables sizes starts) s) in
         o.offered s l
-        ∙ ap (λ (t : Bool). cond t (lowered first (entry_in entries₀ s)) (entry_in entries₀ s)) (goal_test starts s)
-        ∙ ap₂ (λ (x y : Entry). cond b (lowered x y) y) is (none s l)
+        ∙ ap (λ (t : Bool). cond t (lowered first (table_entry entries₀ s)) (table_entry entries₀ s)) (goal_test starts s)
+        ∙ ap₂ (λ (x y : Entry). cond b (lowered x y) y) is (none s)
         ∙ first_lower b
 
 -- the entry of no steps is one

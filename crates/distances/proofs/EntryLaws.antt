@@ -1,20 +1,22 @@
 -- Laws of entries: none, the order, one step more; entries as distances; and entries in a list of numbers.
-use Prim.Native.Nat.{ℕ, suc, ◌+◌, ◌*◌, ◌%◌, ◌≤◌, ◌<◌}
+use Prim.Native.Nat.{ℕ, suc, ◌+◌, ◌*◌, ◌≤◌, ◌<◌}
 use mathlib.Core.Path.{◌≡◌, refl, sym, ap, ap₂, ◌∙◌}
-use mathlib.Core.Bool.{Bool, true, false, not, cond}
+use mathlib.Core.Bool.{Bool, true, false, cond, ◌&&◌}
 use mathlib.Core.List.{List}
 use mathlib.Core.Logic.{◌⊎◌, inl, inr}
 use mathlib.Core.Option.{none, some}
 use native.Mathlib.Omega.{arith}
 use lib.Dec.{eqb, ltb}
-use lib.ListN.{length, get_or, set, length-set}
+use lib.ListN.{length, get_or, set}
 use lib.Seq.{get_or-set_same, get_or-set_other}
 use borrow.Author.Tests.{lt-ltb, le-ltb, le-leb, lt-leb, eq-eqb, ne_eqb, eqb-true, eqb-false}
+use Rattle.std.proofs.lemmas.List.{get_or_default}
 use Rattle.files.specs.Task.{Action}
-use Rattle.files.proofs.Logic.{clash, split, split_le, split_option}
+use Rattle.files.proofs.Logic.{clash, split, split_le, split_option, and_split, and_join}
+use Rattle.files.proofs.Truth.{same_truth}
 use Rattle.plans.specs.Plan.{Total, no_steps, add_step, at_most}
 use Rattle.distances.specs.Table.{Distance, less, least, same, step_to, entry, minutes_of, steps_of, entry_of}
-use Rattle.distances.specs.Entries.{no_entry, is_none, first_entry, entry_total, less_entry, same_entry, lowered, after_step, Low, Holds, entry_in, Put}
+use Rattle.distances.specs.Entries.{no_entry, is_none, first_entry, entry_total, less_entry, same_entry, lowered, after_step, Low, table_entry}
 use Rattle.distances.specs.Settling.{Offered}
 use Rattle.distances.specs.declared.Entry.{Entry}
 use Rattle.distances.proofs.DistanceLaws.{le_refl, le_trans, less_le, some_none, same_is, step_to_none, step_to_some, add_step_steps, add_step_minutes}
@@ -98,16 +100,6 @@ module _ (x y : Entry) where
   unfolding same_entry less_entry same less
   same_some = refl
 
-  -- alike by way of the order
-  module _ (b : Bool) (is : b ≡ less_entry x y) where
-    pub less_not_same : b ≡ true → false ≡ same_entry x y
-    unfolding same_entry
-    less_not_same e = rw (← is, e)
-
-    pub not_less_same : (c : Bool) → b ≡ false → c ≡ less_entry y x → not c ≡ same_entry x y
-    unfolding same_entry
-    not_less_same c e f = rw (← is, e, ← f)
-
 pub less_entry_self : (x : Entry) → less_entry x x ≡ false
 less_entry_self x = less_some x x ∙ le_refl (some (entry_total x))
 
@@ -118,6 +110,27 @@ pub less_entry_below : (x y z : Entry) → less_entry x y ≡ true → less_entr
 less_entry_below x y z e h =
     less_some z x
     ∙ le_trans (some (entry_total x)) (some (entry_total y)) (some (entry_total z)) (less_le (some (entry_total x)) (some (entry_total y)) (sym (less_some x y) ∙ e)) (sym (less_some z y) ∙ h)
+
+-- alike by their numbers
+same_self : (x : Entry) → same_entry x x ≡ true
+unfolding same_entry
+same_self x = rw (less_entry_self x)
+
+same_totals : (x y : Entry) → same_entry x y ≡ true → entry_total x ≡ entry_total y
+same_totals x y e =
+    let both : some (entry_total x) ≡ some (entry_total y) = same_is (some (entry_total x)) (some (entry_total y)) (sym (same_some x y) ∙ e) in
+    cc
+
+pub same_numbers : (x y : Entry) → eqb (minutes_of x) (minutes_of y) && eqb (steps_of x) (steps_of y) ≡ same_entry x y
+same_numbers x y =
+    same_truth (eqb (minutes_of x) (minutes_of y) && eqb (steps_of x) (steps_of y)) (same_entry x y)
+    (λ e.
+    let both = and_split (eqb (minutes_of x) (minutes_of y)) (eqb (steps_of x) (steps_of y)) e in
+    let is : y ≡ x = sym (ap₂ entry (eqb-true (minutes_of x) (minutes_of y) both.0) (eqb-true (steps_of x) (steps_of y) both.1)) in
+    ap (same_entry x) is ∙ same_self x)
+    (λ e.
+    let is = same_totals x y e in
+    and_join (eq-eqb (minutes_of x) (minutes_of y) (ap (λ (t : Total). t.minutes) is)) (eq-eqb (steps_of x) (steps_of y) (ap (λ (t : Total). t.steps) is)))
 
 -- the distance of an entry
 abbrev pub distance_of : Entry → Distance
@@ -247,51 +260,48 @@ far_not_same a x y d e p far q near =
     (λ total w m.
     omega (arith, near, m, eqb-true (minutes_of x) (minutes_of no_entry) far, add_step_minutes a total, ap (λ (t : Total). t.minutes) (total_is x d total p w)))
 
--- an entry in a list of numbers
-pub entry_read : (entries : List ℕ) (s : ℕ) → entry (get_or entries (2 * s) 0) (get_or entries (2 * s + 1) 0 % 65536) ≡ entry_in entries s
-unfolding entry_in
-entry_read entries s = refl
+-- an entry in a table
+pub entry_read : (entries : List Entry) (s : ℕ) (e : Entry) → s < length entries → get_or entries s e ≡ table_entry entries s
+unfolding table_entry
+entry_read entries s e h = get_or_default entries s e no_entry h
 
-pub entry_put : (entries : List ℕ) (x : ℕ) (e : Entry) → steps_of e < 65536 → Holds entries (x + 1)
-    → Put entries x e (set (set entries (2 * x) (minutes_of e)) (2 * x + 1) (steps_of e))
-unfolding entry_in
-entry_put entries x e few room s =
-    let l = set entries (2 * x) (minutes_of e) in
-    let same_length : length l ≡ length entries = length-set entries (2 * x) (minutes_of e) in
+pub less_read : (entries : List Entry) (s r : ℕ) (x y : Entry) (b : Bool) → s < length entries → r < length entries → b ≡ less_entry (get_or entries s x) (get_or entries r y)
+    → less_entry (table_entry entries s) (table_entry entries r) ≡ b
+less_read entries s r x y b h k is = sym (is ∙ ap₂ less_entry (entry_read entries s x h) (entry_read entries r y k))
+
+pub entry_same : (entries : List Entry) (x : ℕ) (e : Entry) → x < length entries → table_entry (set entries x e) x ≡ e
+unfolding table_entry
+entry_same entries x e h = get_or-set_same entries x e no_entry h
+
+pub entry_other : (entries : List Entry) (x s : ℕ) (e : Entry) → (s ≡ x → ⊥) → table_entry (set entries x e) s ≡ table_entry entries s
+unfolding table_entry
+entry_other entries x s e d = get_or-set_other entries x s e no_entry d
+
+-- entries where that of one state is put
+abbrev pub Put : (entries₀ : List Entry) (state : ℕ) (e : Entry) (entries : List Entry) → Type 0
+Put entries₀ state e entries = (s : ℕ) → table_entry entries s ≡ cond (eqb s state) e (table_entry entries₀ s)
+
+pub entry_put : (entries : List Entry) (x : ℕ) (e : Entry) → x < length entries → Put entries x e (set entries x e)
+entry_put entries x e h s =
     split (eqb s x)
-    (λ q.
-    let is : s ≡ x = eqb-true s x q in
-    let last : get_or (set l (2 * x + 1) (steps_of e)) (2 * x + 1) 0 ≡ steps_of e = get_or-set_same l (2 * x + 1) (steps_of e) 0 (omega (arith, same_length, room)) in
-    rw (q, is)
-    (ap₂ entry
-    (get_or-set_other l (2 * x + 1) (2 * x) (steps_of e) 0 (λ z. omega (arith, z)) ∙ get_or-set_same entries (2 * x) (minutes_of e) 0 (omega (arith, room)))
-    (ap (λ (n : ℕ). n % 65536) last ∙ fits)))
-    (λ q.
-    let other : s ≡ x → ⊥ = eqb-false s x q in
-    rw q
-    (ap₂ entry
-    (get_or-set_other l (2 * x + 1) (2 * s) (steps_of e) 0 (λ z. omega (arith, z)) ∙ get_or-set_other entries (2 * x) (2 * s) (minutes_of e) 0 (λ z. other (omega (arith, z))))
-    (ap (λ (n : ℕ). n % 65536)
-    (get_or-set_other l (2 * x + 1) (2 * s + 1) (steps_of e) 0 (λ z. other (omega (arith, z))) ∙ get_or-set_other entries (2 * x) (2 * s + 1) (minutes_of e) 0 (λ z. omega (arith, z))))))
-  where
-    fits : steps_of e % 65536 ≡ steps_of e
-    fits = omega (arith, few)
+    (λ q. rw (q, eqb-true s x q) (entry_same entries x e h))
+    (λ q. rw q (entry_other entries x s e (eqb-false s x q)))
 
 -- a state that is offered an entry, and the others
-module _ (entries : List ℕ) (x : ℕ) (e : Entry) (b : Bool) (is : b ≡ less_entry e (entry_in entries x)) where
-  offer_lower : (s : ℕ) → s ≡ x → lowered e (entry_in entries s) ≡ cond b e (entry_in entries s)
+module _ (entries : List Entry) (x : ℕ) (e : Entry) (b : Bool) (is : b ≡ less_entry e (table_entry entries x)) where
+  offer_lower : (s : ℕ) → s ≡ x → lowered e (table_entry entries s) ≡ cond b e (table_entry entries s)
   unfolding lowered
-  offer_lower s h = ap (λ (t : Bool). cond t e (entry_in entries s)) (ap (λ (n : ℕ). less_entry e (entry_in entries n)) h ∙ sym is)
+  offer_lower s h = ap (λ (t : Bool). cond t e (table_entry entries s)) (ap (λ (n : ℕ). less_entry e (table_entry entries n)) h ∙ sym is)
 
-  pub lower_yes : (entries' : List ℕ) → b ≡ true → Put entries x e entries' → (count : ℕ) → Offered (λ s. eqb s x) count e entries entries'
+  pub lower_yes : (entries' : List Entry) → b ≡ true → Put entries x e entries' → (count : ℕ) → Offered (λ s. eqb s x) count e entries entries'
   lower_yes entries' t p count s l =
       p s
       ∙ split (eqb s x)
-      (λ h. rw h (sym (offer_lower s (eqb-true s x h) ∙ ap (λ (q : Bool). cond q e (entry_in entries s)) t)))
+      (λ h. rw h (sym (offer_lower s (eqb-true s x h) ∙ ap (λ (q : Bool). cond q e (table_entry entries s)) t)))
       (λ h. rw h refl)
 
   pub lower_no : b ≡ false → (count : ℕ) → Offered (λ s. eqb s x) count e entries entries
   lower_no t count s l =
       split (eqb s x)
-      (λ h. rw h (sym (offer_lower s (eqb-true s x h) ∙ ap (λ (q : Bool). cond q e (entry_in entries s)) t)))
+      (λ h. rw h (sym (offer_lower s (eqb-true s x h) ∙ ap (λ (q : Bool). cond q e (table_entry entries s)) t)))
       (λ h. rw h refl)

@@ -1,17 +1,13 @@
--- The states at which a goal holds, and the entries before any step: from one turn of a loop to the next, and at the end.
+-- The state with the values that a goal asks: from one turn of a loop to the next, and at the end.
 use Prim.Native.Nat.{ℕ, ◌+◌, ◌*◌, ◌≤◌, ◌<◌}
 use mathlib.Core.Path.{◌≡◌, refl, ap, subst, ◌∙◌}
 use mathlib.Core.Bool.{cond}
 use mathlib.Core.List.{List}
 use native.Mathlib.Omega.{arith}
 use lib.Dec.{eqb}
-use lib.ListN.{length, get_or}
-use borrow.Author.Tests.{eq-eqb, ne_eqb}
-use Rattle.files.proofs.Logic.{split_le}
+use lib.ListN.{get_or}
 use Rattle.lookup.specs.Moves.{weighted, WeightsOf}
-use Rattle.distances.specs.Offers.{Cleared, goal_values}
-use Rattle.distances.specs.Entries.{no_entry, Put}
-use Rattle.distances.specs.declared.Entry.{Entry}
+use Rattle.distances.specs.Offers.{goal_values}
 use Rattle.lookup.proofs.MoveLoops.{cell_product, weighted_next}
 
 module _ (variables : ℕ) (goal weights : List ℕ) where
@@ -48,30 +44,3 @@ module _ (variables : ℕ) (goal weights : List ℕ) where
   numbering_end v number c l sizes weight =
       let last : v ≡ variables = omega (arith, c.within) in
       subst (λ (n : ℕ). number ≡ weighted sizes (goal_values goal) n) last (c.is sizes weight)
-
-module _ (count : ℕ) (entries₀ : List ℕ) where
-  -- the entries of the states before s are none
-  pub record Clearing (s : ℕ) (entries : List ℕ) : Type 0 where
-    pub within : s ≤ count
-    pub full : length entries ≡ length entries₀
-    pub none : Cleared s entries
-
-  pub clearing_begin : Clearing 0 entries₀
-  clearing_begin = record { within = omega arith; full = refl; none = λ s h. absurd (omega arith) }
-
-  pub clearing_next : (s : ℕ) (entries entries' : List ℕ) (far : Entry) → Clearing s entries → s < count → length entries' ≡ length entries → far ≡ no_entry → Put entries s far entries'
-      → Clearing (s + 1) entries'
-  clearing_next s entries entries' far c h same_length is put =
-      record {
-        within = omega arith;
-        full = same_length ∙ c.full;
-        none = λ r l.
-            split_le s r
-            (λ q. let here : r ≡ s = omega arith in put r ∙ rw (eq-eqb r s here) is)
-            (λ q. put r ∙ rw (ne_eqb r s (λ e. omega arith)) (c.none r q));
-      }
-
-  pub clearing_end : (s : ℕ) (entries : List ℕ) → Clearing s entries → count ≤ s → Cleared count entries
-  clearing_end s entries c l =
-      let last : s ≡ count = omega (arith, c.within) in
-      subst (λ (n : ℕ). Cleared n entries) last c.none

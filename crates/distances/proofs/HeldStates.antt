@@ -9,15 +9,19 @@ use lib.ListN.{length, get_or}
 use borrow.Author.Tests.{ne_eqb}
 use Rattle.files.specs.Task.{Variable, action_count, action_of}
 use Rattle.files.specs.Accepted.{accepted_task}
-use Rattle.files.specs.Dense.{Arrays, row_action, held}
+use Rattle.files.specs.Dense.{row_action, held}
+use Rattle.files.specs.declared.arrays.Arrays.{Arrays}
 use Rattle.files.proofs.Valid.{Valid, task_valid}
 use Rattle.plans.specs.State.{State, start_state}
 use Rattle.plans.specs.Tally.{list_state}
 use Rattle.files.proofs.HeldTask.{held_action, variables_held, actions_held, size_held, start_held, cost_held, condition_valid, effect_valid, goal_valid}
 use Rattle.distances.specs.States.{state_count, state_number}
 use Rattle.distances.specs.Table.{start_number}
-use Rattle.distances.specs.Rows.{row_variables, row_states, Searchable}
-use Rattle.lookup.specs.FactRows.{most_facts, FewFacts}
+use Rattle.distances.specs.Rows.{row_variables, row_states, ValuesInside, Searchable}
+use Rattle.lookup.specs.FactRows.{most_facts, FewFacts, RowsByFact}
+use Rattle.lookup.specs.Moves.{WeightsOf, MovesIn}
+use Rattle.lookup.specs.declared.moves.Move.{Move}
+use Rattle.distances.specs.Tables.{TablesOf}
 use Rattle.distances.proofs.RowNumbers.{states_count}
 use Rattle.distances.proofs.FactBound.{facts_few}
 
@@ -53,7 +57,7 @@ module _ (d : Arrays) where
     pub held_sizes : (v : ℕ) → v < d.variables → 1 ≤ get_or d.sizes v 0
     held_sizes v h = omega (arith, held_valid.size_least v (omega (arith, variables_held d)), size_held d v h)
 
-    pub held_starts : (v : ℕ) → v < d.variables → get_or d.starts v 0 < get_or d.sizes v 0
+    held_starts : (v : ℕ) → v < d.variables → get_or d.starts v 0 < get_or d.sizes v 0
     held_starts v h = omega (arith, held_valid.start v (omega (arith, variables_held d)), size_held d v h, start_held d v h)
 
     pub held_goal : (v : ℕ) → v < d.variables → (get_or d.goal v 0 ≡ 255 → ⊥) → get_or d.goal v 0 < get_or d.sizes v 0
@@ -84,3 +88,16 @@ module _ (d : Arrays) where
     held_facts few rows room =
         let size_most : (v : ℕ) → v < d.variables → get_or d.sizes v 0 ≤ 32 = λ v h. omega (arith, held_valid.size_most v, size_held d v h) in
         record { variables_few = held_few; facts_few = facts_few d.sizes d.variables held_few held_sizes size_most (omega (arith, held_states)); room = room }
+
+    -- the tables of its search
+    pub tables_of : state_count (held d).variables ≤ 4096 → (weights rows : List ℕ) (moves : List Move) → WeightsOf d.variables d.sizes weights → RowsByFact d.variables d.actions d.sizes d.conditions d.effects rows → 8 * most_facts ≤ length rows
+        → MovesIn d.variables d.actions d.sizes d.conditions d.effects moves → TablesOf d weights rows moves
+    tables_of few weights rows moves weights_are rows_are rows_long moves_are =
+        record {
+          numbered = record { variables_few = held_few; size_least = held_sizes; states = refl; few = omega (arith, few, held_states); weights_are = weights_are };
+          tables = record { asked = searchable few; rows_are = rows_are; moves_are = moves_are };
+          facts = held_facts few rows rows_long;
+        }
+
+    pub start_inside : state_count (held d).variables ≤ 4096 → ValuesInside d.variables d.sizes d.starts
+    start_inside few = record { few = held_few; states = omega (arith, few, held_states); inside = held_starts }

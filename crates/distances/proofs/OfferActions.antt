@@ -16,9 +16,11 @@ use Rattle.plans.specs.State.{State}
 use Rattle.plans.specs.Tally.{meets_cell}
 use Rattle.plans.proofs.RowStates.{meets_none, meets_some}
 use Rattle.distances.specs.Rows.{leads_to, row_variables, row_states, row_state, can_reach, differs_only}
-use Rattle.lookup.specs.Moves.{row_weight, weighted, set_by, asked_of, set_freely}
+use Rattle.lookup.specs.Moves.{no_move, row_weight, weighted, set_by, asked_of, set_freely}
+use Rattle.lookup.specs.declared.moves.Move.{Move}
 use Rattle.bits.specs.Sets.{in_word}
-use Rattle.distances.specs.Offers.{differs_in, differs_from, Numbered, SearchTables}
+use Rattle.distances.specs.Tables.{Numbered, SearchTables}
+use Rattle.distances.specs.Offers.{differs_in, differs_from}
 use Rattle.distances.proofs.RowNumbers.{RowInside}
 use Rattle.distances.proofs.OneChange.{state_inside, number_weights, weights_state, weights_below}
 use Rattle.distances.proofs.Predecessors.{reached_set, leads_is}
@@ -39,7 +41,7 @@ weighted_most sizes p q zero h = omega arith
 weighted_most sizes p q (suc n) h = omega (arith, mul-le-mul_left (row_weight sizes n) (h n (omega arith)), weighted_most sizes p q n (λ v l. h v (omega arith)))
 
 -- action a can lead to state x
-module _ (variables actions count : ℕ) (sizes weights costs conditions effects rows moves : List ℕ) (w : Numbered variables count sizes weights)
+module _ (variables actions count : ℕ) (sizes weights costs conditions effects rows : List ℕ) (moves : List Move) (w : Numbered variables count sizes weights)
     (t : SearchTables variables actions sizes costs conditions effects rows moves) (x : ℕ) (below : x < count) (a : ℕ) (inside : a < actions)
     (reaches : can_reach conditions effects (64 * a) variables (row_state variables sizes x) ≡ true) where
   effect_at : ℕ → ℕ
@@ -82,11 +84,11 @@ module _ (variables actions count : ℕ) (sizes weights costs conditions effects
   unfolding own
   x_is = number_weights sizes variables w.size_least x x_below
 
-  pub taken_most : get_or moves (3 * a) 0 ≤ x
-  taken_most = omega (arith, t.moves_are.set a inside, weighted_most sizes (set_by effects (64 * a)) own variables set_most, x_is)
+  pub taken_most : (get_or moves a no_move).set ≤ x
+  taken_most = omega (arith, (t.moves_are a inside).set, weighted_most sizes (set_by effects (64 * a)) own variables set_most, x_is)
 
   number : ℕ
-  number = x - get_or moves (3 * a) 0 + get_or moves (3 * a + 1) 0
+  number = x - (get_or moves a no_move).set + (get_or moves a no_move).asked
 
   number_is : number ≡ weighted sizes earlier variables
   unfolding number
@@ -94,8 +96,8 @@ module _ (variables actions count : ℕ) (sizes weights costs conditions effects
       omega (
         arith,
         taken_most,
-        t.moves_are.set a inside,
-        t.moves_are.asked a inside,
+        (t.moves_are a inside).set,
+        (t.moves_are a inside).asked,
         x_is,
         weighted_balance sizes earlier own (set_by effects (64 * a)) (asked_of conditions effects (64 * a)) variables balance,
       )
@@ -114,7 +116,7 @@ module _ (variables actions count : ℕ) (sizes weights costs conditions effects
   unfolding earlier
   earlier_behind v h = rw (le-ltb v variables h) refl
 
-  pub number_below : x - get_or moves (3 * a) 0 + get_or moves (3 * a + 1) 0 < count
+  pub number_below : x - (get_or moves a no_move).set + (get_or moves a no_move).asked < count
   unfolding number
   number_below = omega (arith, number_is, w.states, weights_below sizes variables w.size_least earlier earlier_inside)
 
@@ -122,13 +124,13 @@ module _ (variables actions count : ℕ) (sizes weights costs conditions effects
   number_state = ap (row_state variables sizes) number_is ∙ weights_state sizes variables w.size_least earlier earlier_inside earlier_behind
 
   free : ℕ
-  free = get_or moves (3 * a + 2) 0
+  free = (get_or moves a no_move).free
 
   free_is : (v : ℕ) → v < variables → in_word free v ≡ set_freely conditions effects (64 * a) v
   unfolding free
-  free_is v h = t.moves_are.free a v inside (omega (arith, h, w.variables_few)) ∙ ap (λ (b : Bool). b && set_freely conditions effects (64 * a) v) (lt-ltb v variables h)
+  free_is v h = (t.moves_are a inside).free v (omega (arith, h, w.variables_few)) ∙ ap (λ (b : Bool). b && set_freely conditions effects (64 * a) v) (lt-ltb v variables h)
 
-  pub free_zero : (v : ℕ) → v < variables → in_word (get_or moves (3 * a + 2) 0) v ≡ true → row_state variables sizes (x - get_or moves (3 * a) 0 + get_or moves (3 * a + 1) 0) v ≡ 0
+  pub free_zero : (v : ℕ) → v < variables → in_word ((get_or moves a no_move).free) v ≡ true → row_state variables sizes (x - (get_or moves a no_move).set + (get_or moves a no_move).asked) v ≡ 0
   unfolding number free earlier effect_at condition_at set_freely
   free_zero v h e =
       let freely : not (eqb (effect_at v) 255) && eqb (condition_at v) 255 ≡ true = sym (free_is v h) ∙ e in
@@ -157,7 +159,7 @@ module _ (variables actions count : ℕ) (sizes weights costs conditions effects
       (λ k. eq-eqb (condition_at v) (r v) (sym (eqb-true (r v) (condition_at v) k))))))
 
   pub leads_free : (starts : List ℕ) (s : ℕ)
-      → differs_from sizes variables (get_or moves (3 * a + 2) 0) 0 (x - get_or moves (3 * a) 0 + get_or moves (3 * a + 1) 0) s ≡ leads_to (row_variables variables sizes starts) (row_action variables costs conditions effects a) s x
+      → differs_from sizes variables ((get_or moves a no_move).free) 0 (x - (get_or moves a no_move).set + (get_or moves a no_move).asked) s ≡ leads_to (row_variables variables sizes starts) (row_action variables costs conditions effects a) s x
   unfolding number free differs_in differs_only own row_action effect_at condition_at
   leads_free starts s =
       let r : State = row_state variables sizes s in

@@ -3,7 +3,7 @@ use Prim.Native.Nat.{ℕ, suc, ◌+◌, ◌-◌, ◌*◌, ◌/◌, ◌%◌, ◌�
 use mathlib.Core.Path.{◌≡◌, refl, sym, ap, ap₂, subst, fun_ext, ◌∙◌}
 use mathlib.Core.List.{List, []}
 use native.Mathlib.Omega.{arith}
-use native.Mathlib.Nat.{add-zero, zero-add, mod-lt}
+use native.Mathlib.Nat.{add-zero, zero-add}
 use native.Mathlib.Numerals.{add-one}
 use lib.ListN.{length, get_or, set, length-set}
 use Rattle.files.specs.Below.{tabulate_from}
@@ -154,6 +154,3 @@ module _ (sizes : List ℕ) (n state : ℕ) where
       (λ a. c.behind w a ∙ sym (state_past (row_variables n sizes []) state w (omega (arith, row_length sizes [] n))))
       (λ a. c.before w a))
       ∙ state_alike sizes [] starts n state
-
-pub digit_below : (sizes : List ℕ) (n rest v d : ℕ) → RowSizes n sizes → v < n → d ≡ get_or sizes v 0 → d < 256 → rest % d < 256
-digit_below sizes n rest v d h l is small = omega (arith, mod-lt rest (let p : 0 < d = omega (arith, h v l) in p))

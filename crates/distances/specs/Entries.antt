@@ -1,5 +1,5 @@
--- Entries of the work table: their order, one step more, none; and the table as a list of numbers, two a state.
-use Rattle.std.specs.Prelude.{ℕ, ◌+◌, ◌*◌, ◌%◌, ◌≤◌, ◌<◌, ◌≡◌, Bool, true, false, not, cond, ◌&&◌, List, eqb, length, get_or}
+-- Entries of the work table: their order, one step more, none; and the table as a list of entries.
+use Rattle.std.specs.Prelude.{ℕ, ◌≤◌, ◌<◌, Bool, true, false, not, cond, ◌&&◌, List, eqb, length, get_or}
 use Rattle.std.proofs.Math.Option.{none, some}
 use Rattle.files.specs.Below.{tabulate}
 use Rattle.files.specs.Task.{Action}
@@ -49,30 +49,14 @@ pub record StepOn (e : Entry) (cost : ℕ) : Type 0 where
   pub low : Low e
   pub cost_most : cost ≤ 1000000
 
--- a list of numbers with the entries of `count` states
-abbrev pub Holds : List ℕ → ℕ → Type 0
-Holds entries count = 2 * count ≤ length entries
-
--- so many numbers hold the entries of every table
-abbrev pub most_numbers : ℕ
-most_numbers = 8192
-
--- the entry of a state, and the entries of the first `count` states
-unfoldable pub entry_in : List ℕ → ℕ → Entry
-entry_in entries s = entry (get_or entries (2 * s) 0) (get_or entries (2 * s + 1) 0 % 65536)
-
-unfoldable pub entries_in : List ℕ → ℕ → List Entry
-entries_in entries count = tabulate count (entry_in entries)
-
--- the entry of a state in a lent table, that of none past its end
+-- the entry of a state in a table, that of none past its end, and the entries of the first `count` states
 unfoldable pub table_entry : List Entry → ℕ → Entry
 table_entry table s = get_or table s no_entry
 
--- entries where that of one state is put
-abbrev pub Put : (entries₀ : List ℕ) (state : ℕ) (e : Entry) (entries : List ℕ) → Type 0
-Put entries₀ state e entries = (s : ℕ) → entry_in entries s ≡ cond (eqb s state) e (entry_in entries₀ s)
+unfoldable pub entries_in : List Entry → ℕ → List Entry
+entries_in table count = tabulate count (table_entry table)
 
 -- a table with room for the entries of `count` states
-pub record CanFill (table : List Entry) (entries : List ℕ) (count : ℕ) : Type 0 where
+pub record CanFill (table entries : List Entry) (count : ℕ) : Type 0 where
   pub long : count ≤ length table
-  pub room : Holds entries count
+  pub room : count ≤ length entries

@@ -3,6 +3,8 @@ pub mod States
 pub mod Table
 pub mod Entries
 pub mod Settling
+pub mod Selecting
 pub mod Bounds
 pub mod Rows
+pub mod Tables
 pub mod Offers

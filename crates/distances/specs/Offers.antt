@@ -1,20 +1,23 @@
 -- The steps to a settled state: which states are offered its entry with a step more, and what each part of the search asks and gives.
-use Rattle.std.specs.Prelude.{ℕ, ◌+◌, ◌-◌, ◌*◌, ◌≤◌, ◌<◌, ◌≡◌, Bool, true, false, cond, ◌&&◌, List, eqb, leb, length, get_or, set}
+use Rattle.std.specs.Prelude.{ℕ, ◌+◌, ◌-◌, ◌*◌, ◌≤◌, ◌<◌, ◌≡◌, Bool, true, cond, ◌&&◌, List, eqb, leb, length, get_or, set}
 use Rattle.files.specs.Below.{any_below, all_below}
 use Rattle.files.specs.Accepted.{accepted_task}
-use Rattle.files.specs.Dense.{Arrays, row_pairs, row_action, held}
+use Rattle.files.specs.declared.arrays.Arrays.{Arrays}
+use Rattle.files.specs.Dense.{row_pairs, row_action, held}
 use Rattle.files.specs.Task.{Task}
 use Rattle.plans.specs.State.{State, all_hold}
 use Rattle.distances.specs.States.{state_count, state_at}
 use Rattle.distances.specs.Table.{table_of, start_number}
-use Rattle.distances.specs.Entries.{no_entry, is_none, first_entry, Low, Holds, entry_in, entries_in}
-use Rattle.distances.specs.Rows.{offered, row_variables, row_states, row_state, Searchable}
-use Rattle.distances.specs.Settling.{Picked, Known, Blocks}
+use Rattle.distances.specs.Entries.{first_entry, table_entry}
+use Rattle.distances.specs.Rows.{offered, row_variables, row_states, row_state}
+use Rattle.distances.specs.Settling.{Picked}
+use Rattle.distances.specs.Selecting.{Selecting}
 use Rattle.distances.specs.Bounds.{NoneAbove}
 use Rattle.bits.specs.Sets.{in_word}
-use Rattle.lookup.specs.FactRows.{most_facts, FewFacts, RowsByFact}
-use Rattle.lookup.specs.Moves.{most_moves, WeightsOf, MovesOf}
+use Rattle.lookup.specs.Moves.{no_move, WeightsOf, MovesIn}
+use Rattle.lookup.specs.declared.moves.Move.{Move}
 use Rattle.distances.specs.declared.Entry.{Entry}
+use Rattle.distances.specs.declared.selection.Selection.{Selection}
 
 -- state r is state s except in the variables of a set from `from` on
 unfoldable pub differs_in : (ℕ → Bool) → ℕ → ℕ → State → State → Bool
@@ -24,29 +27,14 @@ differs_in free variables from s r = all_below variables (λ v. cond (leb from v
 abbrev pub differs_from : (sizes : List ℕ) (variables free from number : ℕ) → ℕ → Bool
 differs_from sizes variables free from number s = differs_in (in_word free) variables from (row_state variables sizes number) (row_state variables sizes s)
 
--- the states of variables, and their numbers
-pub record Numbered (variables count : ℕ) (sizes weights : List ℕ) : Type 0 where
-  pub variables_few : variables ≤ 64
-  pub size_least : (v : ℕ) → v < variables → 1 ≤ get_or sizes v 0
-  pub states : count ≡ row_states variables sizes
-  pub few : count ≤ 4096
-  pub weights_are : WeightsOf variables sizes weights
+-- a state, in which the variables of a set from `from` on are 0
+pub record OfferFrom (d : Arrays) (free from number : ℕ) : Type 0 where
+  pub start : from ≤ d.variables
+  pub below : number < row_states d.variables d.sizes
+  pub zero : (v : ℕ) → from ≤ v → v < d.variables → in_word free v ≡ true → row_state d.variables d.sizes number v ≡ 0
 
--- an offer to the states that differ from `number`, in which they are 0, only in variables of a set from `from` on
-pub record OfferFrom (variables count : ℕ) (sizes weights : List ℕ) (free from number : ℕ) (e : Entry) (entries settled least : List ℕ) : Type 0 where
-  pub numbered : Numbered variables count sizes weights
-  pub blocks : Blocks entries settled count least
-  pub known : Known entries settled count least
-  pub near : is_none e ≡ false
-  pub start : from ≤ variables
-  pub below : number < count
-  pub zero : (v : ℕ) → from ≤ v → v < variables → in_word free v ≡ true → row_state variables sizes number v ≡ 0
-
--- an offer to the states from `number` on, each so much further
-pub record OfferValues (count number weight size : ℕ) (e : Entry) (entries settled least : List ℕ) : Type 0 where
-  pub blocks : Blocks entries settled count least
-  pub known : Known entries settled count least
-  pub near : is_none e ≡ false
+-- states from `number` on, each so much further
+pub record OfferValues (count number weight size : ℕ) : Type 0 where
   pub weight_few : weight ≤ 4096
   pub size_few : size < 256
   pub inside : (z : ℕ) → z < size → number + weight * z < count
@@ -54,57 +42,35 @@ pub record OfferValues (count number weight size : ℕ) (e : Entry) (entries set
 abbrev pub is_one_of : (number weight size : ℕ) → ℕ → Bool
 is_one_of number weight size s = any_below size (λ z. eqb s (number + weight * z))
 
--- the tables of the search are those of arrays: the actions that can lead to each fact, and their moves
-pub record SearchTables (variables actions : ℕ) (sizes costs conditions effects rows moves : List ℕ) : Type 0 where
-  pub asked : Searchable variables actions sizes costs conditions effects
-  pub rows_are : RowsByFact variables actions sizes conditions effects rows
-  pub moves_are : MovesOf variables actions sizes conditions effects moves
-
 -- by the moves: the variables that action a sets without a condition, and the number of the state before x in which they are 0
-abbrev pub free_of : List ℕ → ℕ → ℕ
-free_of moves a = get_or moves (3 * a + 2) 0
+abbrev pub free_of : List Move → ℕ → ℕ
+free_of moves a = (get_or moves a no_move).free
 
-abbrev pub number_before : List ℕ → ℕ → ℕ → ℕ
-number_before moves a x = x - get_or moves (3 * a) 0 + get_or moves (3 * a + 1) 0
+abbrev pub number_before : List Move → ℕ → ℕ → ℕ
+number_before moves a x = x - (get_or moves a no_move).set + (get_or moves a no_move).asked
 
--- an offer to the states from which action a leads to state x, and an entry that none is above
-pub record ActionOffer (variables count : ℕ) (sizes weights moves : List ℕ) (x a : ℕ) (e bound : Entry) (entries settled least : List ℕ) : Type 0 where
+-- action a can lead to state x
+pub record CanLead (d : Arrays) (moves : List Move) (x a : ℕ) : Type 0 where
   pub few : a < 512
-  pub moves_long : most_moves ≤ length moves
-  pub taken : get_or moves (3 * a) 0 ≤ x
-  pub offer : OfferFrom variables count sizes weights (free_of moves a) 0 (number_before moves a x) e entries settled least
-  pub above : NoneAbove count entries bound
+  pub taken : (get_or moves a no_move).set ≤ x
+  pub before : OfferFrom d (free_of moves a) 0 (number_before moves a x)
 
--- a state that can be settled, with tables of some arrays, and an entry that none is above
-pub record CanSettle (variables actions count x : ℕ) (bound : Entry) (sizes weights costs rows moves entries settled least : List ℕ) : Type 0 where
-  pub conditions : List ℕ
-  pub effects : List ℕ
-  pub tables : SearchTables variables actions sizes costs conditions effects rows moves
-  pub facts : FewFacts variables sizes rows
-  pub moves_long : most_moves ≤ length moves
-  pub numbered : Numbered variables count sizes weights
-  pub blocks : Blocks entries settled count least
-  pub known : Known entries settled count least
-  pub below : x < count
-  pub low : Low (entry_in entries x)
-  pub above : NoneAbove count entries bound
-
--- the entries after all steps to state x were offered, whichever arrays the tables are of
-pub record StepsOffered (variables actions count x : ℕ) (bound : Entry) (sizes costs rows moves settled entries₀ entries least : List ℕ) : Type 0 where
-  pub offers : (starts conditions effects : List ℕ) → SearchTables variables actions sizes costs conditions effects rows moves → (s : ℕ) → s < count
-      → entry_in entries s ≡ offered (row_variables variables sizes starts) (row_action variables costs conditions effects) x (entry_in entries₀ x) s (entry_in entries₀ s) actions
-  pub known : Known entries settled count least
-  pub above : NoneAbove count entries bound
+-- the entries after all steps to state x were offered, and a bound that is still above none
+pub record StepsOffered (d : Arrays) (x : ℕ) (bound : Entry) (entries₀ : List Entry) (x₀ : Selection) (entries : List Entry) (x' : Selection) : Type 0 where
+  pub offers : (s : ℕ) → s < length entries₀
+      → table_entry entries s ≡ offered (row_variables d.variables d.sizes d.starts) (row_action d.variables d.costs d.conditions d.effects) x (table_entry entries₀ x) s (table_entry entries₀ s) d.actions
+  pub settled_is : x'.settled ≡ x₀.settled
+  pub selecting : Selecting entries x'
+  pub above : NoneAbove (length entries) entries bound
 
 -- state x is settled and all steps to it were offered, and the state that is settled next
-pub record Rounded (variables actions count x : ℕ) (bound : Entry) (sizes costs rows moves settled₀ entries₀ settled entries least : List ℕ) (next : ℕ) : Type 0 where
-  pub settled_is : settled ≡ set settled₀ x 1
-  pub steps : StepsOffered variables actions count x bound sizes costs rows moves settled entries₀ entries least
-  pub picked : Picked entries settled count 0 count next
-
--- entries of which none is known yet
-abbrev pub Cleared : (count : ℕ) (entries : List ℕ) → Type 0
-Cleared count entries = (s : ℕ) → s < count → entry_in entries s ≡ no_entry
+pub record Rounded (d : Arrays) (x : ℕ) (bound : Entry) (entries₀ : List Entry) (x₀ : Selection) (entries : List Entry) (x' : Selection) (next : ℕ) : Type 0 where
+  pub offers : (s : ℕ) → s < length entries₀
+      → table_entry entries s ≡ offered (row_variables d.variables d.sizes d.starts) (row_action d.variables d.costs d.conditions d.effects) x (table_entry entries₀ x) s (table_entry entries₀ s) d.actions
+  pub settled_is : x'.settled ≡ set x₀.settled x true
+  pub selecting : Selecting entries x'
+  pub above : NoneAbove (length entries) entries bound
+  pub picked : Picked entries x'.settled (length entries) 0 (length entries) next
 
 -- the values that a goal asks, 0 where it asks none, and the variables of which it asks none
 unfoldable pub goal_values : List ℕ → State
@@ -118,28 +84,24 @@ pub record SmallWeights (variables : ℕ) (weights : List ℕ) : Type 0 where
   pub variables_few : variables ≤ 64
   pub weights_few : (v : ℕ) → v < variables → get_or weights v 0 ≤ 4096
 
--- the first entries, and blocks without a state
-pub record CanBegin (variables count : ℕ) (sizes weights goal entries settled least : List ℕ) : Type 0 where
-  pub numbered : Numbered variables count sizes weights
-  pub blocks : Blocks entries settled count least
-  pub goal_inside : (v : ℕ) → v < variables → (get_or goal v 0 ≡ 255 → ⊥) → get_or goal v 0 < get_or sizes v 0
-  pub no_state : (b : ℕ) → 64 * b < count → get_or least b 0 ≡ count
+-- the values that a goal asks are values of its variables
+abbrev pub GoalInside : Arrays → Type 0
+GoalInside d = (v : ℕ) → v < d.variables → (get_or d.goal v 0 ≡ 255 → ⊥) → get_or d.goal v 0 < get_or d.sizes v 0
 
-pub record Begun (variables count : ℕ) (sizes goal settled entries least : List ℕ) : Type 0 where
-  pub first : (starts : List ℕ) (s : ℕ) → s < count → entry_in entries s ≡ first_entry (all_hold (row_pairs goal 0 0 variables) (state_at (row_variables variables sizes starts) s))
-  pub known : Known entries settled count least
+-- the first entries
+pub record Begun (d : Arrays) (x₀ : Selection) (entries : List Entry) (x : Selection) : Type 0 where
+  pub first : (s : ℕ) → s < length entries → table_entry entries s ≡ first_entry (all_hold (row_pairs d.goal 0 0 d.variables) (state_at (row_variables d.variables d.sizes d.starts) s))
+  pub settled_is : x.settled ≡ x₀.settled
+  pub selecting : Selecting entries x
 
 -- what the search of arrays asks and gives
-pub record CanSearch (d : Arrays) (count : ℕ) (entries rows moves weights : List ℕ) : Type 0 where
+pub record CanSearch (d : Arrays) (count : ℕ) (moves : List Move) (weights : List ℕ) : Type 0 where
   pub accepted : accepted_task (held d) ≡ true
   pub states : count ≡ state_count (held d).variables
   pub few : count ≤ 4096
-  pub room : Holds entries count
-  pub rows_long : 8 * most_facts ≤ length rows
-  pub moves_long : most_moves ≤ length moves
   pub weights_are : WeightsOf d.variables d.sizes weights
-  pub moves_are : MovesOf d.variables d.actions d.sizes d.conditions d.effects moves
+  pub moves_are : MovesIn d.variables d.actions d.sizes d.conditions d.effects moves
 
-pub record TableIn (t : Task) (count : ℕ) (entries : List ℕ) (r : ℕ) : Type 0 where
+pub record TableIn (t : Task) (entries : List Entry) (r : ℕ) : Type 0 where
   pub start : r ≡ start_number t
-  pub table : entries_in entries count ≡ table_of t
+  pub table : entries ≡ table_of t

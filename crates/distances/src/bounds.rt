@@ -1,8 +1,8 @@
 // An entry that no state's is above: what is not less than it lowers no entry.
-ghost use Rattle.distances.specs.Entries.{Holds};
-ghost use Rattle.distances.specs.Bounds.{NoneAbove, CanBound, Greater};
+ghost use Rattle.std.specs.Prelude.{length};
+ghost use Rattle.distances.specs.Bounds.{NoneAbove, Greater};
 
-use crate::{Entry, entries};
+use crate::Entry;
 
 // The bound is found anew before one in so many states, by their numbers, is settled.
 const STATES: usize = 512;
@@ -11,33 +11,27 @@ const STATES: usize = 512;
 fn greater(first: Entry, second: Entry) -> Entry
     ensures { Greater first second result }
 {
-    if entries::less(first, second) {
-        return second;
-    }
-    first
+    if first.is_less(second) { second } else { first }
 }
 
 // The greatest entry.
-pub fn greatest(entries: &[u64], count: usize) -> Entry
-    requires { Holds entries.now count }
-    ensures { NoneAbove count entries.now result }
+pub fn greatest(entries: &[Entry]) -> Entry
+    ensures { NoneAbove (length entries.now) entries.now result }
 {
-    let mut most = entries::first(true);
-    let mut s: usize = 0;
-    while s < count {
-        most = greater(most, entries::entry_at(entries, s));
-        s += 1;
+    let mut most = Entry::at_goal();
+    for entry in entries {
+        most = greater(most, *entry);
     }
     most
 }
 
 // The bound before a state is settled: found anew where it is due.
-pub fn before(entries: &[u64], count: usize, bound: Entry, state: usize) -> Entry
-    requires { CanBound count entries.now bound }
-    ensures { NoneAbove count entries.now result }
+pub fn before(entries: &[Entry], bound: Entry, state: usize) -> Entry
+    requires { NoneAbove (length entries.now) entries.now bound }
+    ensures { NoneAbove (length entries.now) entries.now result }
 {
     if state % STATES == 0 {
-        return greatest(entries, count);
+        return greatest(entries);
     }
     bound
 }

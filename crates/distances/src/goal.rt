@@ -4,7 +4,7 @@ ghost use Rattle.files.specs.Below.{bit};
 ghost use Rattle.lookup.specs.Moves.{weighted, WeightsOf};
 ghost use Rattle.distances.specs.Offers.{goal_values, GoalFree, SmallWeights};
 
-use files::{bytes, limits};
+use files::limits;
 use lookup::moves;
 
 const NO_PAIR: usize = limits::NO_PAIR as usize;
@@ -25,10 +25,8 @@ pub fn free(goal: &[u8; 64], variables: usize) -> u64
     ensures { GoalFree variables goal.now result }
 {
     let mut word: u64 = 0;
-    let mut v = variables;
-    while 0 < v {
-        v -= 1;
-        word = 2 * word + asks_nothing(bytes::byte_at(goal, v));
+    for v in (0..variables).rev() {
+        word = 2 * word + asks_nothing(goal[v] as usize);
     }
     word
 }
@@ -39,10 +37,8 @@ pub fn number(goal: &[u8; 64], weights: &[usize; 64], variables: usize) -> usize
     ensures { (sizes : List ℕ) → WeightsOf variables sizes weights.now → result ≡ weighted sizes (goal_values goal.now) variables }
 {
     let mut number: usize = 0;
-    let mut v: usize = 0;
-    while v < variables {
-        number = weights[v] * moves::set_by(bytes::byte_at(goal, v)) + number;
-        v += 1;
+    for v in 0..variables {
+        number = weights[v] * moves::set_by(goal[v] as usize) + number;
     }
     number
 }

@@ -1,117 +1,111 @@
 // The state to settle next. The least state of each block of 64 states is known: it is found anew where
 // a state of the block is settled, and compared with each state of it that takes a lower entry.
-ghost use Rattle.std.specs.Prelude.{◌≡◌, eqb};
-ghost use Rattle.distances.specs.Settling.{Picked, TwoStates, lesser_of, BestSoFar, Better, Stretch, Block, BlockEnd, BlockOf, Refreshed, KnownBlocks, CanLower, CanNote, Noted, Offers};
+ghost use Rattle.std.specs.Prelude.{◌≡◌, ◌<◌, false, eqb, length};
+ghost use Rattle.distances.specs.Entries.{is_none};
+ghost use Rattle.distances.specs.Settling.{Picked, lesser_of, Better, Stretch, TwoStates, BestSoFar};
+ghost use Rattle.distances.specs.Selecting.{Selecting, Fresh, Closed, Offers};
 
-use crate::{Entry, entries};
+use crate::Entry;
+use crate::states::MOST_STATES;
 
-// Of two states, or `count` for none, the one with the lesser entry; the first where they are alike.
-fn lesser(entries: &[u64], count: usize, first: usize, second: usize) -> usize
-    requires { TwoStates entries.now count first second }
-    ensures { result ≡ lesser_of entries.now count first second }
+// So many states are a block.
+const BLOCK: usize = 64;
+
+// The states that are settled, and for each block the open state with the least entry, or the count of
+// states where none has an entry.
+// Kept: the count stands for no state, since the definition `Picked` says so.
+#[derive(Drop)]
+pub struct Selection {
+    pub settled: [bool; 4096],
+    pub least: [usize; 64],
+}
+
+// Of two states, or the count for none, the one with the lesser entry; the first where they are alike.
+// Kept: no plainer by `min`, since states are compared by their entries, and the count has none.
+fn lesser(entries: &[Entry], first: usize, second: usize) -> usize
+    requires { TwoStates (length entries.now) first second }
+    ensures { result ≡ lesser_of entries.now (length entries.now) first second }
 {
-    if second == count {
+    if second == entries.len() {
         return first;
     }
-    if first == count {
-        return second;
-    }
-    if entries::less(
-        entries::entry_at(entries, second),
-        entries::entry_at(entries, first),
-    ) {
+    if first == entries.len() || entries[second].is_less(entries[first]) {
         return second;
     }
     first
 }
 
-// Of the best state so far, or `count`, and state s the better: one that is open and has an entry.
-fn better(entries: &[u64], settled: &[u8], count: usize, best: usize, s: usize) -> usize
-    requires { BestSoFar entries.now settled.now count best s }
-    ensures { Better entries.now settled.now count best s result }
-{
-    if settled[s] != 0 {
-        return best;
+impl Selection {
+    // No state is settled, and none of so many has an entry.
+    pub fn new(count: usize) -> Selection
+        ensures { Fresh count result }
+    {
+        Selection {
+            settled: [false; MOST_STATES],
+            least: [count; 64],
+        }
     }
-    if entries::is_none(entries::entry_at(entries, s)) {
-        return best;
+
+    // Of the best state so far, or the count, and state s the better: one that is open and has an entry.
+    fn better(&self, entries: &[Entry], best: usize, s: usize) -> usize
+        requires { BestSoFar (length entries.now) best s }
+        ensures { Better entries.now self.now.settled (length entries.now) best s result }
+    {
+        if self.settled[s] || entries[s].is_none() {
+            return best;
+        }
+        lesser(entries, best, s)
     }
-    lesser(entries, count, best, s)
-}
 
-// The best of the open states from `from` on below `limit`, or `count` where none has an entry.
-fn pick(entries: &[u64], settled: &[u8], count: usize, from: usize, limit: usize) -> usize
-    requires { Stretch entries.now settled.now count from limit }
-    ensures { Picked entries.now settled.now count from limit result }
-{
-    let mut best = count;
-    let mut s = from;
-    while s < limit {
-        best = better(entries, settled, count, best, s);
-        s += 1;
+    // The best of the open states from `from` on below `limit`, or the count where none has an entry.
+    fn pick(&self, entries: &[Entry], from: usize, limit: usize) -> usize
+        requires { Stretch (length entries.now) from limit }
+        ensures { Picked entries.now self.now.settled (length entries.now) from limit result }
+    {
+        let mut best = entries.len();
+        for s in from..limit {
+            best = self.better(entries, best, s);
+        }
+        best
     }
-    best
-}
 
-// Where block `b` ends.
-fn block_end(count: usize, b: usize) -> usize
-    requires { Block count b }
-    ensures { BlockEnd count b result }
-{
-    let end = 64 * b + 64;
-    if end < count {
-        return end;
+    // Settles a state, and finds the least state of its block anew.
+    pub fn settle(&mut self, entries: &[Entry], state: usize)
+        requires selecting { Selecting entries.now self.old }
+        requires below { state < length entries.now }
+        ensures { Closed entries.now self.old state self.new }
+    {
+        self.settled[state] = true;
+        let b = state / BLOCK;
+        let end = entries.len().min(BLOCK * b + BLOCK);
+        self.least[b] = self.pick(entries, BLOCK * b, end);
     }
-    count
-}
 
-// Finds the least state of block `b` anew.
-pub fn refresh(entries: &[u64], settled: &[u8], least: &mut [usize], count: usize, b: usize)
-    requires { BlockOf entries.now settled.now count least.old b }
-    ensures { Refreshed entries.now settled.now count least.old least.new b }
-{
-    least[b] = pick(entries, settled, count, 64 * b, block_end(count, b));
-}
-
-// The open state with the least entry, or `count` where no open state has one.
-pub fn select(entries: &[u64], settled: &[u8], least: &[usize], count: usize) -> usize
-    requires { KnownBlocks entries.now settled.now count least.now }
-    ensures { Picked entries.now settled.now count 0 count result }
-{
-    let mut best = count;
-    let mut b: usize = 0;
-    while 64 * b < count {
-        best = lesser(entries, count, best, least[b]);
-        b += 1;
+    // The open state with the least entry, or the count where no open state has one.
+    pub fn next(&self, entries: &[Entry]) -> usize
+        requires { Selecting entries.now self.now }
+        ensures { Picked entries.now self.now.settled (length entries.now) 0 (length entries.now) result }
+    {
+        let mut best = entries.len();
+        for b in 0..(entries.len() + 63) / BLOCK {
+            best = lesser(entries, best, self.least[b]);
+        }
+        best
     }
-    best
-}
 
-// Compares the least state of the block of a state, where this is open, with the state.
-fn note(entries: &[u64], settled: &[u8], least: &mut [usize], count: usize, state: usize)
-    requires { CanNote entries.now settled.now count least.old state }
-    ensures { Noted entries.now settled.now count least.old state least.new }
-{
-    if settled[state] == 0 {
-        let b = state / 64;
-        least[b] = lesser(entries, count, least[b], state);
-    }
-}
-
-// Offers a state an entry.
-pub fn lower(
-    entries: &mut [u64],
-    settled: &[u8],
-    least: &mut [usize],
-    count: usize,
-    state: usize,
-    entry: Entry,
-)
-    requires { CanLower entries.old settled.now count least.old state entry }
-    ensures { Offers (λ s. eqb s state) count entry settled.now entries.old entries.new least.new }
-{
-    if entries::less(entry, entries::entry_at(entries, state)) {
-        entries::put_entry(entries, state, entry);
-        note(entries, settled, least, count, state);
+    // Offers a state an entry.
+    pub fn lower(&mut self, entries: &mut [Entry], state: usize, entry: Entry)
+        requires selecting { Selecting entries.old self.old }
+        requires below { state < length entries.old }
+        requires near { is_none entry ≡ false }
+        ensures { Offers (λ s. eqb s state) entry entries.old self.old entries.new self.new }
+    {
+        if entry.is_less(entries[state]) {
+            entries[state] = entry;
+            if !self.settled[state] {
+                let b = state / BLOCK;
+                self.least[b] = lesser(entries, self.least[b], state);
+            }
+        }
     }
 }

@@ -5,8 +5,6 @@ ghost use Rattle.distances.specs.States.{state_number, state_at};
 ghost use Rattle.distances.specs.Rows.{row_variables, Sized, FewStates, Counted, ValuesInside};
 ghost use Rattle.lookup.specs.Moves.{row_weight};
 
-use files::bytes;
-
 // The most states that are searched.
 pub const MOST_STATES: usize = 4096;
 
@@ -16,13 +14,11 @@ pub fn count(sizes: &[u8; 64], variables: usize) -> usize
     ensures { Counted variables sizes.now result }
 {
     let mut states: usize = 1;
-    let mut v: usize = 0;
-    while v < variables {
-        states = states * bytes::byte_at(sizes, v);
+    for v in 0..variables {
+        states = states * sizes[v] as usize;
         if MOST_STATES < states {
             return states;
         }
-        v += 1;
     }
     states
 }
@@ -33,35 +29,24 @@ pub fn start_number(sizes: &[u8; 64], starts: &[u8; 64], variables: usize) -> us
     ensures { result ≡ state_number (row_variables variables sizes.now starts.now) (list_state starts.now) }
 {
     let mut number: usize = 0;
-    let mut v = variables;
-    while 0 < v {
-        v -= 1;
-        number = bytes::byte_at(starts, v) + bytes::byte_at(sizes, v) * number;
+    for v in (0..variables).rev() {
+        number = starts[v] as usize + sizes[v] as usize * number;
     }
     number
 }
 
-// The value of a variable of so many values in a state of which the variables before are divided out.
-// Most have two values, for which no division is made.
-fn value_in(rest: usize, size: usize) -> usize
+// The value of a variable of so many values in a state of which the variables before are divided out, and
+// the state without that variable. Most have two values, for which no division is made.
+fn divided(rest: usize, size: usize) -> (usize, usize)
     requires { 1 ≤ size }
-    ensures { result ≡ rest % size }
+    ensures value { result.0 ≡ rest % size }
+    ensures others { result.1 ≡ rest / size }
 {
     if size == 2 {
-        return rest % 2;
+        (rest % 2, rest / 2)
+    } else {
+        (rest % size, rest / size)
     }
-    rest % size
-}
-
-// The state without that variable.
-fn without(rest: usize, size: usize) -> usize
-    requires { 1 ≤ size }
-    ensures { result ≡ rest / size }
-{
-    if size == 2 {
-        return rest / 2;
-    }
-    rest / size
 }
 
 // The values of the variables in a state; 0 past the last variable.
@@ -71,12 +56,10 @@ pub fn values_of(sizes: &[u8; 64], variables: usize, state: usize) -> [u8; 64]
 {
     let mut values = [0u8; 64];
     let mut rest = state;
-    let mut v: usize = 0;
-    while v < variables {
-        let size = bytes::byte_at(sizes, v);
-        values[v] = value_in(rest, size) as u8;
-        rest = without(rest, size);
-        v += 1;
+    for v in 0..variables {
+        let (value, others) = divided(rest, sizes[v] as usize);
+        values[v] = value as u8;
+        rest = others;
     }
     values
 }
@@ -88,11 +71,9 @@ pub fn weights(sizes: &[u8; 64], variables: usize) -> [usize; 64]
 {
     let mut weights = [0usize; 64];
     let mut weight: usize = 1;
-    let mut v: usize = 0;
-    while v < variables {
+    for v in 0..variables {
         weights[v] = weight;
-        weight = weight * bytes::byte_at(sizes, v);
-        v += 1;
+        weight = weight * sizes[v] as usize;
     }
     weights
 }

@@ -6,6 +6,3 @@ use Rattle.distances.proofs.goal.free.Given as goal
 
 abbrev pub invariant-loop-v : goal.invariant-loop-v
 invariant-loop-v l = Marking l.variables (λ u. eqb (get_or l.goal u 0) 255) l.v l.word
-
-abbrev pub decreases-loop-v : goal.decreases-loop-v
-decreases-loop-v l = l.v

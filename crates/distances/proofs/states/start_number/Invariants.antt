@@ -8,6 +8,3 @@ use Rattle.distances.proofs.states.start_number.Given as goal
 abbrev pub invariant-loop-v : goal.invariant-loop-v
 invariant-loop-v l =
     (l.number ≡ number_from l.sizes (list_state l.starts) l.v (l.variables - l.v)) × (l.v ≤ l.variables)
-
-abbrev pub decreases-loop-v : goal.decreases-loop-v
-decreases-loop-v l = l.v
