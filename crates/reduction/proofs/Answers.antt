@@ -5,10 +5,9 @@ use mathlib.Core.Bool.{true}
 use mathlib.Core.List.{List, [], ◌∷◌}
 use lib.Dec.{leb, ltb}
 use lib.ListN.{length}
-use Rattle.files.specs.declared.Outcome.{Outcome}
+use Rattle.files.specs.Outcome.{Outcome, done, is_done, and_then, fits}
 use Rattle.files.specs.Listed.{Refusal, refused_at, short, listed, file_refusals}
 use Rattle.files.specs.Accepted.{valid_signer}
-use Rattle.files.specs.Outcome.{done, is_done, and_then, fits}
 use Rattle.files.specs.Stages.{outcome_of}
 use Rattle.files.specs.Task.{Task, action_count, fact_count}
 use Rattle.files.specs.TaskFile.{check_task, task_of}

@@ -7,10 +7,10 @@ use native.Mathlib.Omega.{arith}
 use lib.Dec.{eqb}
 use lib.ListN.{get_or}
 use Rattle.files.specs.Below.{tabulate, chosen_below}
-use Rattle.files.specs.Dense.{Arrays, row_pairs, row_action, held, row_numbers, arrays}
+use Rattle.files.specs.Dense.{row_pairs, row_action, held, row_numbers, arrays}
+use Rattle.files.specs.declared.arrays.Arrays.{Arrays}
 use Rattle.files.specs.Task.{Pair, pair, action, action_of}
 use Rattle.files.proofs.HeldTask.{actions_held, held_action}
-use Rattle.reduction.specs.Filled.{ArraysChosen}
 use Rattle.reduction.specs.ReducedBy.{kept_actions}
 use Rattle.reduction.specs.Turns.{struck_to}
 use Rattle.reduction.proofs.ReducedHeld.{number_known, each_number}
@@ -27,14 +27,14 @@ row_alike row old to from v (suc count) h =
 
 module _ (d : Arrays) (chosen : List ℕ) (count : ℕ) (R : ℕ → Bool) (are : row_numbers chosen 0 count ≡ chosen_below d.actions R)
     (costs conditions effects : List ℕ) (few : d.variables ≤ 64)
-    (cost : (j : ℕ) → j < count → get_or costs j 0 ≡ get_or d.costs (get_or chosen j 0) 0)
+    (cost : (j default : ℕ) → j < count → get_or costs j default ≡ get_or d.costs (get_or chosen j 0) default)
     (asked : (j i : ℕ) → j < count → i < 64 → get_or conditions (64 * j + i) 0 ≡ get_or d.conditions (64 * get_or chosen j 0 + i) 0)
     (set : (j i : ℕ) → j < count → i < 64 → get_or effects (64 * j + i) 0 ≡ get_or d.effects (64 * get_or chosen j 0 + i) 0) where
   action_chosen : (j : ℕ) → j < count → row_action d.variables costs conditions effects j ≡ action_of (held d) (get_or chosen j 0)
   unfolding row_action
   action_chosen j l =
       let a = get_or chosen j 0 in
-      let minutes = cost j l in
+      let minutes = cost j 0 l in
       let asks = row_alike conditions d.conditions (64 * j) (64 * a) 0 d.variables (λ i h. asked j i l (omega arith)) in
       let sets = row_alike effects d.effects (64 * j) (64 * a) 0 d.variables (λ i h. set j i l (omega arith)) in
       (λ k. action (minutes k) (asks k) (sets k)) ∙ sym (held_action d a (number_known R d.actions chosen count are j l).0)
@@ -48,12 +48,3 @@ module _ (d : Arrays) (chosen : List ℕ) (count : ℕ) (R : ℕ → Bool) (are 
   pub struck_held : held (arrays d.variables count d.sizes d.starts d.goal costs conditions effects) ≡ struck_to (held d) R
   unfolding held struck_to
   struck_held = let acts = actions_chosen in λ k. record { variables = (held d).variables; goal = (held d).goal; actions = acts k }
-
--- the same for every task with these actions
-pub chosen_held : (chosen : List ℕ) (count : ℕ) (costs conditions effects costs' conditions' effects' : List ℕ)
-    → ((j : ℕ) → j < count → get_or costs' j 0 ≡ get_or costs (get_or chosen j 0) 0)
-    → ((j i : ℕ) → j < count → i < 64 → get_or conditions' (64 * j + i) 0 ≡ get_or conditions (64 * get_or chosen j 0 + i) 0)
-    → ((j i : ℕ) → j < count → i < 64 → get_or effects' (64 * j + i) 0 ≡ get_or effects (64 * get_or chosen j 0 + i) 0)
-    → ArraysChosen chosen count costs conditions effects costs' conditions' effects'
-chosen_held chosen count costs conditions effects costs' conditions' effects' cost asked set variables actions sizes starts goal R few are =
-    struck_held (arrays variables actions sizes starts goal costs conditions effects) chosen count R are costs' conditions' effects' few cost asked set

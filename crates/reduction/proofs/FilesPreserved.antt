@@ -5,10 +5,9 @@ use mathlib.Core.Bool.{true}
 use mathlib.Core.List.{List, map}
 use native.Mathlib.Omega.{arith}
 use lib.ListN.{length, get_or}
-use Rattle.files.specs.declared.Outcome.{Outcome}
+use Rattle.files.specs.Outcome.{Outcome, done}
 use Rattle.files.specs.Bytes.{Octets}
 use Rattle.files.specs.OriginFile.{Origin, origin_of}
-use Rattle.files.specs.Outcome.{done}
 use Rattle.files.specs.Records.{signer_of}
 use Rattle.files.specs.Task.{Task, action_count}
 use Rattle.files.specs.TaskFile.{check_task, task_of, task_file}

@@ -7,7 +7,8 @@ use native.Mathlib.Omega.{arith}
 use lib.Dec.{eqb}
 use lib.ListN.{get_or}
 use Rattle.files.specs.Below.{bit, chosen_below}
-use Rattle.files.specs.Dense.{Arrays, row_numbers, held, held_origin, arrays, origin_arrays}
+use Rattle.files.specs.Dense.{row_numbers, held, held_origin, arrays, origin_arrays}
+use Rattle.files.specs.declared.arrays.Arrays.{Arrays}
 use Rattle.files.specs.Task.{size_of}
 use Rattle.files.proofs.Valid.{Valid}
 use Rattle.marking.specs.Links.{threatened}
@@ -63,9 +64,9 @@ module _ (d : Arrays) (ok : Valid (held d)) (kept marks changed values numbers o
 
     pub task_filled : (sizes starts goal costs conditions effects : List ℕ)
         → ((i : ℕ) → i < count → get_or sizes i 0 ≡ new_size_at marks (get_or numbers i 0) (get_or d.sizes (get_or numbers i 0) 0))
-        → ((i : ℕ) → i < count → get_or starts (0 + i) 0 ≡ mapped_cell values (get_or numbers i 0) (get_or d.starts (0 + get_or numbers i 0) 0))
-        → ((i : ℕ) → i < count → get_or goal (0 + i) 0 ≡ mapped_cell values (get_or numbers i 0) (get_or d.goal (0 + get_or numbers i 0) 0))
-        → ((j : ℕ) → j < actions → get_or costs j 0 ≡ get_or d.costs (get_or originals j 0) 0)
+        → ((i : ℕ) → i < count → get_or starts i 0 ≡ mapped_cell values (get_or numbers i 0) (get_or d.starts (get_or numbers i 0) 0))
+        → ((i : ℕ) → i < count → get_or goal i 0 ≡ mapped_cell values (get_or numbers i 0) (get_or d.goal (get_or numbers i 0) 0))
+        → ((j default : ℕ) → j < actions → get_or costs j default ≡ get_or d.costs (get_or originals j 0) default)
         → ((j i : ℕ) → j < actions → i < count → get_or conditions (64 * j + i) 0 ≡ mapped_cell values (get_or numbers i 0) (get_or d.conditions (64 * get_or originals j 0 + get_or numbers i 0) 0))
         → ((j i : ℕ) → j < actions → i < count → get_or effects (64 * j + i) 0 ≡ mapped_cell values (get_or numbers i 0) (get_or d.effects (64 * get_or originals j 0 + get_or numbers i 0) 0))
         → held (arrays count actions sizes starts goal costs conditions effects) ≡ reduced_by (held d) A
@@ -74,11 +75,12 @@ module _ (d : Arrays) (ok : Valid (held d)) (kept marks changed values numbers o
         (λ i l.
         let known = (number_known (kept_variable (held d) A) d.variables numbers count are i l).0 in
         si i l ∙ new_size_held d ok kept A bits marks changed fact change (get_or numbers i 0) known)
+        st
         (λ i l.
-        let first : i ≡ 0 + i = omega arith in
+        let first : 0 + i ≡ i = omega arith in
         let from : 0 + get_or numbers i 0 ≡ get_or numbers i 0 = omega arith in
-        ap (λ (n : ℕ). get_or starts n 0) first ∙ st i l ∙ ap (λ (n : ℕ). mapped_cell values (get_or numbers i 0) (get_or d.starts n 0)) from)
-        go co cd ef
+        rw (first, from) (go i l))
+        (λ j l. co j 0 l) cd ef
 
     pub origin_filled : (ranges rows : List ℕ)
         → ((i : ℕ) → i < count → get_or ranges i 0 ≡ get_or d.sizes (get_or numbers i 0) 0)

@@ -20,6 +20,7 @@ pub mod SameTask
 pub mod OriginFits
 pub mod TurnOrigins
 pub mod Weights
+pub mod Within
 pub mod TurnsFall
 pub mod TurnsRight
 pub mod Levels

@@ -9,7 +9,8 @@ use lib.Dec.{eqb, ltb}
 use lib.ListN.{get_or}
 use borrow.Author.Tests.{eqb-true, lt-ltb, ltb-true}
 use Rattle.files.specs.Below.{any_below, all_below, bit, count_below}
-use Rattle.files.specs.Dense.{Arrays, held}
+use Rattle.files.specs.Dense.{held}
+use Rattle.files.specs.declared.arrays.Arrays.{Arrays}
 use Rattle.files.specs.Task.{Pair, action_of, size_of, start_of}
 use Rattle.files.proofs.BelowLaws.{any_below_elim, bit_false, bit_most}
 use Rattle.files.proofs.Filling.{zeros_entry}

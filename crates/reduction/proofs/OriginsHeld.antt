@@ -1,17 +1,20 @@
 -- Arrays of origins: filled with own numbers they hold the own origins of a task, and filled through the numbers of a second
 -- one the two composed.
 use Prim.Native.Nat.{ℕ, ◌+◌, ◌*◌, ◌≤◌, ◌<◌}
-use mathlib.Core.Path.{◌≡◌, sym, ap, ◌∙◌}
+use mathlib.Core.Path.{◌≡◌, refl, sym, ap, ◌∙◌}
 use mathlib.Core.Bool.{Bool, false}
 use mathlib.Core.List.{List, [], map}
 use native.Mathlib.Omega.{arith}
 use lib.ListN.{get_or, length-map}
 use Rattle.files.specs.Below.{tabulate, all_below}
 use Rattle.files.specs.Clauses.{OriginWithin}
-use Rattle.files.specs.Dense.{OriginArrays, row_numbers, row_origin, held_origin, origin_arrays}
+use Rattle.files.specs.Dense.{row_numbers, row_origin, held, held_origin, origin_arrays}
+use Rattle.files.specs.declared.arrays.Arrays.{Arrays}
+use Rattle.files.specs.declared.arrays.OriginArrays.{OriginArrays}
 use Rattle.files.specs.OriginFile.{VariableOrigin}
-use Rattle.files.specs.Task.{Task, variable_count, action_count, size_of}
+use Rattle.files.specs.Task.{variable_count, action_count, size_of}
 use Rattle.files.proofs.BelowLaws.{all_below_elim, map_entry}
+use Rattle.files.proofs.HeldTask.{variables_held, actions_held, size_held}
 use Rattle.files.proofs.Logic.{split, clash}
 use Rattle.files.proofs.Tabulate.{tabulate_from_length, tabulate_entry, tabulate_is}
 use Rattle.marking.proofs.MarkTables.{tabulate_same}
@@ -28,49 +31,46 @@ abbrev none : VariableOrigin
 none = record { variable = 0; values = [] }
 
 -- own numbers
-module _ (variables actions : ℕ) (sizes numbers ranges values acts : List ℕ) (within : OriginWithin variables actions sizes)
-    (number : (i : ℕ) → i < variables → get_or numbers (0 + i) 0 ≡ i)
-    (range : (i : ℕ) → i < variables → get_or ranges (0 + i) 0 ≡ get_or sizes (0 + i) 0)
-    (value : (v d : ℕ) → v < variables → d < 32 → get_or values (32 * v + d) 0 ≡ d)
-    (act : (j : ℕ) → j < actions → get_or acts j 0 ≡ j) where
-  number_is : (i : ℕ) → i < variables → get_or numbers i 0 ≡ i
-  number_is i l = let first : i ≡ 0 + i = omega arith in ap (λ (n : ℕ). get_or numbers n 0) first ∙ number i l
+module _ (d : Arrays) (within : OriginWithin d.variables d.actions d.sizes) (numbers values acts : List ℕ)
+    (number : (i default : ℕ) → i < d.variables → i ≡ get_or numbers (0 + i) default)
+    (value : (v e : ℕ) → v < d.variables → e < 32 → e ≡ get_or values (32 * v + e) 0)
+    (act : (j default : ℕ) → j < d.actions → j ≡ get_or acts (0 + j) default) where
+  long : (v : ℕ) → v < d.variables → get_or d.sizes v 0 ≡ size_of (held d) v
+  long v l = sym (size_held d v l)
 
-  range_is : (i : ℕ) → i < variables → get_or ranges i 0 ≡ get_or sizes i 0
-  range_is i l =
-      let first : i ≡ 0 + i = omega arith in
-      ap (λ (n : ℕ). get_or ranges n 0) first ∙ range i l ∙ ap (λ (n : ℕ). get_or sizes n 0) (sym first)
+  own_values_lem : (v : ℕ) → v < d.variables → row_numbers values (32 * v) (get_or d.sizes v 0) ≡ tabulate (size_of (held d) v) (λ (x : ℕ). x)
+  unfolding row_numbers
+  own_values_lem v l =
+      ap (λ (n : ℕ). tabulate n (λ e. get_or values (32 * v + e) 0)) (long v l)
+      ∙ tabulate_same (λ e. get_or values (32 * v + e) 0) (λ (x : ℕ). x) (size_of (held d) v) 0 (λ e k. sym (value v e l (omega (arith, long v l, within.few_values v l))))
 
-  module _ (t : Task) (count : variable_count t ≡ variables) (chosen : action_count t ≡ actions) (size : (v : ℕ) → v < variables → size_of t v ≡ get_or sizes v 0) where
-    own_values_lem : (v : ℕ) → v < variables → row_numbers values (32 * v) (get_or ranges v 0) ≡ tabulate (size_of t v) (λ (x : ℕ). x)
-    unfolding row_numbers
-    own_values_lem v l =
-        let long : get_or ranges v 0 ≡ size_of t v = range_is v l ∙ sym (size v l) in
-        ap (λ (n : ℕ). tabulate n (λ d. get_or values (32 * v + d) 0)) long
-        ∙ tabulate_same (λ d. get_or values (32 * v + d) 0) (λ (x : ℕ). x) (size_of t v) 0 (λ d k. value v d l (omega (arith, size v l, within.few_values v l)))
+  own_variables : tabulate d.variables (row_origin numbers d.sizes values)
+      ≡ tabulate (variable_count (held d)) (λ v. record { variable = v; values = tabulate (size_of (held d) v) (λ (x : ℕ). x) })
+  unfolding row_origin
+  own_variables =
+      tabulate_same (row_origin numbers d.sizes values) (λ v. record { variable = v; values = tabulate (size_of (held d) v) (λ (x : ℕ). x) }) d.variables none
+      (λ v l.
+      let first : 0 + v ≡ v = omega arith in
+      let own : get_or numbers v 0 ≡ v = sym (rw first at (number v 0 l)) in
+      let row = own_values_lem v l in
+      λ k. record { variable = own k; values = row k })
+      ∙ ap (λ (n : ℕ). tabulate n (λ v. record { variable = v; values = tabulate (size_of (held d) v) (λ (x : ℕ). x) })) (sym (variables_held d))
 
-    own_variables : tabulate variables (row_origin numbers ranges values) ≡ tabulate (variable_count t) (λ v. record { variable = v; values = tabulate (size_of t v) (λ (x : ℕ). x) })
-    unfolding row_origin
-    own_variables =
-        tabulate_same (row_origin numbers ranges values) (λ v. record { variable = v; values = tabulate (size_of t v) (λ (x : ℕ). x) }) variables none
-        (λ v l. let own = number_is v l in let row = own_values_lem v l in λ k. record { variable = own k; values = row k })
-        ∙ ap (λ (n : ℕ). tabulate n (λ v. record { variable = v; values = tabulate (size_of t v) (λ (x : ℕ). x) })) (sym count)
+  own_actions_lem : row_numbers acts 0 d.actions ≡ tabulate (action_count (held d)) (λ (a : ℕ). a)
+  unfolding row_numbers
+  own_actions_lem =
+      tabulate_same (λ i. get_or acts (0 + i) 0) (λ (a : ℕ). a) d.actions 0 (λ j l. sym (act j 0 l))
+      ∙ ap (λ (n : ℕ). tabulate n (λ (a : ℕ). a)) (sym (actions_held d))
 
-    own_actions_lem : row_numbers acts 0 actions ≡ tabulate (action_count t) (λ (a : ℕ). a)
-    unfolding row_numbers
-    own_actions_lem =
-        tabulate_same (λ i. get_or acts (0 + i) 0) (λ (a : ℕ). a) actions 0 (λ j l. let first : 0 + j ≡ j = omega arith in ap (λ (n : ℕ). get_or acts n 0) first ∙ act j l)
-        ∙ ap (λ (n : ℕ). tabulate n (λ (a : ℕ). a)) (sym chosen)
+  own_held : held_origin (origin_arrays d.variables d.actions numbers d.sizes values acts) ≡ own_origin (held d)
+  unfolding held_origin own_origin
+  own_held = let vs = own_variables in let ns = own_actions_lem in λ k. record { variables = vs k; actions = ns k }
 
-    own_held : held_origin (origin_arrays variables actions numbers ranges values acts) ≡ own_origin t
-    unfolding held_origin own_origin
-    own_held = let vs = own_variables in let ns = own_actions_lem in λ k. record { variables = vs k; actions = ns k }
-
-  pub owns : Owns sizes (origin_arrays variables actions numbers ranges values acts)
+  pub owns : Owns d (origin_arrays d.variables d.actions numbers d.sizes values acts)
   owns =
       record {
-        writable = record { limits = within.limits; few_values = λ i l. omega (arith, range_is i l, within.few_values i l) };
-        values = λ i d l k. omega (arith, range_is i l, within.few_values i l, value i d l (omega (arith, range_is i l, within.few_values i l)));
+        within = record { variables = refl; actions = refl; writable = within };
+        values = λ i e l k. omega (arith, within.few_values i l, value i e l (omega (arith, within.few_values i l)));
         origins = own_held;
       }
 
@@ -96,7 +96,7 @@ module _ (first second : OriginArrays) (numbers ranges values acts : List ℕ)
     (number : (i : ℕ) → i < second.variables → get_or numbers i 0 ≡ get_or first.numbers (get_or second.numbers i 0) 0)
     (range : (i : ℕ) → i < second.variables → get_or ranges i 0 ≡ get_or first.sizes (get_or second.numbers i 0) 0)
     (value : (i d : ℕ) → i < second.variables → d < 32 → get_or values (32 * i + d) 0 ≡ mapped_cell second.values i (get_or first.values (32 * get_or second.numbers i 0 + d) 0))
-    (act : (j : ℕ) → j < second.actions → get_or acts j 0 ≡ get_or first.originals (get_or second.originals j 0) 0)
+    (act : (j default : ℕ) → j < second.actions → get_or acts j default ≡ get_or first.originals (get_or second.originals j 0) default)
     (ok : Composable first second) where
   few : (i : ℕ) → i < second.variables → get_or first.sizes (get_or second.numbers i 0) 0 ≤ 32
   few i l = ok.writable.few_values (get_or second.numbers i 0) (ok.variables.known i l)
@@ -141,7 +141,7 @@ module _ (first second : OriginArrays) (numbers ranges values acts : List ℕ)
   composed_actions =
       row_through acts first.originals second.originals 0 0 0 second.actions first.actions
       (λ j l. let at : j ≡ 0 + j = omega arith in rw (← at) (ok.actions.known j l))
-      (λ j l. let at : j ≡ 0 + j = omega arith in rw (← at) (act j l ∙ ap (λ (n : ℕ). get_or first.originals n 0) (omega arith)))
+      (λ j l. let at : j ≡ 0 + j = omega arith in rw (← at) (act j 0 l ∙ ap (λ (n : ℕ). get_or first.originals n 0) (omega arith)))
 
   pub composes : Composes first second (origin_arrays second.variables second.actions numbers ranges values acts)
   unfolding held_origin composed
@@ -149,6 +149,8 @@ module _ (first second : OriginArrays) (numbers ranges values acts : List ℕ)
       let vs = composed_variables in
       let ns = composed_actions in
       record {
+        variables = refl;
+        actions = refl;
         writable =
             record {
               limits =

@@ -1,12 +1,12 @@
 -- The effects of the listed actions, followed one after another: nothing but what follows is reached.
 use Prim.Native.Nat.{ℕ, ◌+◌, ◌*◌, ◌≤◌, ◌<◌}
-use mathlib.Core.Path.{◌≡◌, refl, sym, ap, ◌∙◌}
+use mathlib.Core.Path.{◌≡◌, sym, ap, ◌∙◌}
 use mathlib.Core.Bool.{Bool, true, ◌||◌}
 use mathlib.Core.List.{List}
 use mathlib.Core.Logic.{⊎_elim}
 use native.Mathlib.Omega.{arith}
 use lib.Dec.{eqb}
-use lib.ListN.{length, get_or}
+use lib.ListN.{get_or}
 use Rattle.files.proofs.CountOrder.{count_most}
 use Rattle.files.proofs.Logic.{split_le, or_split, or_left, or_right}
 use Rattle.marking.specs.Dense.{is_marked}
@@ -18,20 +18,17 @@ listing_few : (counts order : List ℕ) (actions found : ℕ) → Listing counts
 listing_few counts order actions found was = omega (arith, was.count, count_most actions (λ a. eqb (get_or counts a 0) 0))
 
 -- the effects of the listed actions before `next` are reached
-pub record FollowedTo (rows effects : List ℕ) (variables actions : ℕ) (facts₀ counts₀ order₀ facts counts order : List ℕ) (count next : ℕ) : Type 0 where
+pub record FollowedTo (rows effects : List ℕ) (variables actions : ℕ) (facts₀ facts counts order : List ℕ) (count next : ℕ) : Type 0 where
   pub state : Reaching rows actions facts counts order count
   pub fewer : count ≤ actions
   pub at_most : next ≤ count
   pub done : (k : ℕ) → k < next → (i : ℕ) → i < 2048 → row_facts effects (64 * get_or order k 0) variables i ≡ true → is_marked facts i ≡ true
   pub kept : FactsIn facts₀ (is_marked facts)
   pub least : (F : ℕ → Bool) → FactsClosed rows effects variables actions F → FactsIn facts₀ F → FactsIn facts F
-  pub facts_same : length facts ≡ length facts₀
-  pub counts_same : length counts ≡ length counts₀
-  pub order_same : length order ≡ length order₀
 
-module _ (rows effects : List ℕ) (variables actions : ℕ) (facts₀ counts₀ order₀ : List ℕ) where
-  pub following_begins : (found : ℕ) → Reaching rows actions facts₀ counts₀ order₀ found → FollowedTo rows effects variables actions facts₀ counts₀ order₀ facts₀ counts₀ order₀ found 0
-  following_begins found was =
+module _ (rows effects : List ℕ) (variables actions : ℕ) (facts₀ : List ℕ) where
+  pub following_begins : (counts₀ order₀ : List ℕ) (found : ℕ) → Reaching rows actions facts₀ counts₀ order₀ found → FollowedTo rows effects variables actions facts₀ facts₀ counts₀ order₀ found 0
+  following_begins counts₀ order₀ found was =
       record {
         state = was;
         fewer = listing_few counts₀ order₀ actions found was.listing;
@@ -39,19 +36,15 @@ module _ (rows effects : List ℕ) (variables actions : ℕ) (facts₀ counts₀
         done = λ k l. absurd (omega arith);
         kept = λ i l m. m;
         least = λ F closed given. given;
-        facts_same = refl;
-        counts_same = refl;
-        order_same = refl;
       }
 
-  module _ (facts counts order : List ℕ) (count next : ℕ) (to : FollowedTo rows effects variables actions facts₀ counts₀ order₀ facts counts order count next) where
+  module _ (facts counts order : List ℕ) (count next : ℕ) (to : FollowedTo rows effects variables actions facts₀ facts counts order count next) where
     -- the next action
     pub next_known : next < count → get_or order next 0 < actions
     next_known l = to.state.listing.known next l
 
     module _ (facts₁ counts₁ order₁ : List ℕ) (r : ℕ) (l : next < count)
-        (new : Reaches (row_facts effects (64 * get_or order next 0) variables) rows actions facts order count facts₁ counts₁ order₁ r)
-        (facts_same : length facts₁ ≡ length facts) (counts_same : length counts₁ ≡ length counts) (order_same : length order₁ ≡ length order) where
+        (new : Reaches (row_facts effects (64 * get_or order next 0) variables) rows actions facts order count facts₁ counts₁ order₁ r) where
       abbrev a : ℕ
       a = get_or order next 0
 
@@ -61,7 +54,7 @@ module _ (rows effects : List ℕ) (variables actions : ℕ) (facts₀ counts₀
       stays : (i : ℕ) → i < 2048 → is_marked facts i ≡ true → is_marked facts₁ i ≡ true
       stays i k m = marked_now i k ∙ or_right (row_facts effects (64 * a) variables i) m
 
-      pub following_next : FollowedTo rows effects variables actions facts₀ counts₀ order₀ facts₁ counts₁ order₁ r (next + 1)
+      pub following_next : FollowedTo rows effects variables actions facts₀ facts₁ counts₁ order₁ r (next + 1)
       following_next =
           record {
             state = new.state;
@@ -87,9 +80,6 @@ module _ (rows effects : List ℕ) (variables actions : ℕ) (facts₀ counts₀
                 i e)
                 (λ e. before i h e)
                 (or_split (row_facts effects (64 * a) variables i) (is_marked facts i) (sym (marked_now i h) ∙ m));
-            facts_same = facts_same ∙ to.facts_same;
-            counts_same = counts_same ∙ to.counts_same;
-            order_same = order_same ∙ to.order_same;
           }
 
     pub following_ends : count ≤ next → Followed rows effects variables actions facts₀ facts counts

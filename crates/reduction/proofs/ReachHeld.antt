@@ -10,7 +10,8 @@ use lib.Dec.{eqb}
 use lib.ListN.{get_or, replicate}
 use borrow.Author.Tests.{eqb-true, eq-eqb, ne_eqb}
 use Rattle.files.specs.Below.{any_below}
-use Rattle.files.specs.Dense.{Arrays, row_pairs, held}
+use Rattle.files.specs.Dense.{row_pairs, held}
+use Rattle.files.specs.declared.arrays.Arrays.{Arrays}
 use Rattle.files.specs.Task.{Pair, pair, action_count, action_of, size_of, start_of}
 use Rattle.files.proofs.BelowLaws.{any_below_intro, any_below_elim}
 use Rattle.files.proofs.HeldTask.{variables_held, actions_held, start_held, conditions_held, effects_held, condition_valid, effect_valid}

@@ -7,12 +7,13 @@ use mathlib.Core.List.{List}
 use native.Mathlib.Omega.{arith}
 use native.Mathlib.Numerals.{add-one}
 use lib.Dec.{eqb}
-use lib.ListN.{length, get_or, set}
+use lib.ListN.{length, length-set, get_or, set}
 use lib.Seq.{get_or-set_same, get_or-set_other}
 use borrow.Author.Tests.{eqb-true, eqb-false, eq-eqb, ne_eqb}
 use Rattle.bits.specs.Sets.{FirstFrom}
 use Rattle.files.specs.Below.{bit, count_below}
 use Rattle.files.proofs.BelowLaws.{bit_true, bit_false}
+use Rattle.files.proofs.Choosing.{pushed_length}
 use Rattle.files.proofs.CountOrder.{count_most}
 use Rattle.files.proofs.Logic.{split, split_le}
 use Rattle.reduction.specs.Clauses.{Pushed}
@@ -167,48 +168,45 @@ module _ (counts order counts₁ order₁ : List ℕ) (actions found a r : ℕ) 
       (λ b k z. λ q. omega (arith, low.less, ap (λ (n : ℕ). get_or counts n 0) q))
       counted_now
 
--- the counts of a set of actions lowered: those before a are, and a is the next
-pub record LoweredTo (counts₀ order₀ : List ℕ) (test : ℕ → Bool) (actions found : ℕ) (counts order : List ℕ) (count a : ℕ) : Type 0 where
-  pub at_most : a ≤ actions
-  pub there : a < actions → test a ≡ true
-  pub before : (b : ℕ) → b < a → get_or counts b 0 + bit (test b) ≡ get_or counts₀ b 0
-  pub after : (b : ℕ) → a ≤ b → get_or counts b 0 ≡ get_or counts₀ b 0
+-- the counts of a set of actions lowered, of those before `from`
+pub record LoweredTo (counts₀ order₀ : List ℕ) (test : ℕ → Bool) (actions found : ℕ) (counts order : List ℕ) (count from : ℕ) : Type 0 where
+  pub before : (b : ℕ) → b < from → get_or counts b 0 + bit (test b) ≡ get_or counts₀ b 0
+  pub after : (b : ℕ) → from ≤ b → get_or counts b 0 ≡ get_or counts₀ b 0
   pub listing : Listing counts order actions count
   pub earlier : (i : ℕ) → i < found → get_or order i 0 ≡ get_or order₀ i 0
   pub more : found ≤ count
-  pub counts_same : length counts ≡ length counts₀
-  pub order_same : length order ≡ length order₀
+  pub counts_room : 512 ≤ length counts
+  pub order_room : 512 ≤ length order
 
 module _ (counts₀ order₀ : List ℕ) (test : ℕ → Bool) (actions found : ℕ) where
-  pub lowering_begins : (a : ℕ) → Listing counts₀ order₀ actions found → FirstFrom test actions 0 a → LoweredTo counts₀ order₀ test actions found counts₀ order₀ found a
-  lowering_begins a was f =
+  pub lowering_begins : 512 ≤ length counts₀ → 512 ≤ length order₀ → Listing counts₀ order₀ actions found → LoweredTo counts₀ order₀ test actions found counts₀ order₀ found 0
+  lowering_begins counts_room order_room was =
       record {
-        at_most = f.last;
-        there = f.there;
-        before = λ b l. omega (arith, bit_false (test b) (f.skipped b (omega arith) l));
+        before = λ b l. absurd (omega arith);
         after = λ b l. refl;
         listing = was;
         earlier = λ i l. refl;
         more = omega arith;
-        counts_same = refl;
-        order_same = refl;
+        counts_room = counts_room;
+        order_room = order_room;
       }
 
-  module _ (counts order counts₁ order₁ : List ℕ) (count a r next : ℕ) (to : LoweredTo counts₀ order₀ test actions found counts order count a)
-      (l : a < actions) (inside : a < length counts) (room : count < length order) (low : Lowered counts order counts₁ order₁ count a r)
-      (counts_same : length counts₁ ≡ length counts) (order_same : length order₁ ≡ length order) (f : FirstFrom test actions (a + 1) next) where
+  module _ (counts order counts₁ order₁ : List ℕ) (count from a r : ℕ) (to : LoweredTo counts₀ order₀ test actions found counts order count from)
+      (f : FirstFrom test actions from a) (l : a < actions) (few : actions ≤ 512) (some : 0 < get_or counts a 0) (low : Lowered counts order counts₁ order₁ count a r) where
+    inside : a < length counts
+    inside = omega (arith, to.counts_room)
+
+    room : count < length order
+    room = omega (arith, listing_room counts order actions count a to.listing l some, to.order_room)
+
     others : (b : ℕ) → (b ≡ a → ⊥) → get_or counts₁ b 0 ≡ get_or counts b 0
     others = lowered_others counts order counts₁ order₁ actions count a r to.listing l inside room low
 
-    pub lowering_next : LoweredTo counts₀ order₀ test actions found counts₁ order₁ r next
+    pub lowering_next : LoweredTo counts₀ order₀ test actions found counts₁ order₁ r (a + 1)
     lowering_next =
         record {
-          at_most = f.last;
-          there = f.there;
           before =
               λ b k.
-              split_le b a
-              (λ low_enough.
               split_le a b
               (λ here.
               let is : b ≡ a = omega arith in
@@ -216,24 +214,33 @@ module _ (counts₀ order₀ : List ℕ) (test : ℕ → Bool) (actions found : 
               (omega (
                 arith,
                 lowered_less counts order counts₁ order₁ actions count a r to.listing l inside room low,
-                bit_true (test a) (to.there l),
-                to.after a (omega arith),
+                bit_true (test a) (f.there l),
+                to.after a f.first,
               )))
-              (λ below. omega (arith, others b (λ q. omega arith), to.before b below)))
-              (λ above. omega (arith, others b (λ q. omega arith), to.after b (omega arith), bit_false (test b) (f.skipped b (omega arith) k)));
-          after = λ b k. others b (λ q. omega (arith, f.first)) ∙ to.after b (omega (arith, f.first));
+              (λ below.
+              split_le from b
+              (λ past. omega (arith, others b (λ q. omega arith), to.after b past, bit_false (test b) (f.skipped b past below)))
+              (λ early. omega (arith, others b (λ q. omega arith), to.before b early)));
+          after = λ b k. others b (λ q. omega arith) ∙ to.after b (omega (arith, f.first));
           listing = listing_lowered counts order counts₁ order₁ actions count a r to.listing l inside room low;
           earlier = λ i k. pushed_earlier order order₁ count a (eqb low.left 0) r low.pushed i (omega (arith, to.more)) ∙ to.earlier i k;
           more = omega (arith, to.more, low.pushed.counted);
-          counts_same = counts_same ∙ to.counts_same;
-          order_same = order_same ∙ to.order_same;
+          counts_room = omega (arith, to.counts_room, ap length low.lowered, length-set counts a low.left);
+          order_room = omega (arith, to.order_room, pushed_length (eqb low.left 0) order order₁ count a low.pushed.numbers);
         }
 
-  pub lowering_ends : (counts order : List ℕ) (count a : ℕ) → LoweredTo counts₀ order₀ test actions found counts order count a → actions ≤ a → RowLowered counts₀ order₀ counts order test actions found count
-  lowering_ends counts order count a to h =
+  pub lowering_ends : (counts order : List ℕ) (count from : ℕ) → LoweredTo counts₀ order₀ test actions found counts order count from → FirstFrom test actions from actions
+      → RowLowered counts₀ order₀ counts order test actions found count
+  lowering_ends counts order count from to f =
       record {
-        less = λ b l. to.before b (omega arith);
+        less =
+            λ b l.
+            split_le from b
+            (λ past. omega (arith, to.after b past, bit_false (test b) (f.skipped b past l)))
+            (λ early. to.before b early);
         listing = to.listing;
         earlier = to.earlier;
         more = to.more;
+        counts_room = to.counts_room;
+        order_room = to.order_room;
       }

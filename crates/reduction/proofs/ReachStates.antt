@@ -101,13 +101,13 @@ all_lacking rows facts a zeros =
     (λ i l. sym (ap (λ (n : ℕ). asks_for rows a i && not (eqb n 1)) (zeros i) ∙ and-true (asks_for rows a i)))
 
 pub begun_reaching : (conditions : List ℕ) (variables actions : ℕ) (rows facts counts order : List ℕ) (found : ℕ) → Begun conditions variables actions rows counts order found
-    → actions ≤ 512 → ((i : ℕ) → get_or facts i 0 ≡ 0) → 2048 ≤ length facts → 512 ≤ length counts → 512 ≤ length order → Reaching rows actions facts counts order found
-begun_reaching conditions variables actions rows facts counts order found b few zeros facts_room counts_room order_room =
+    → actions ≤ 512 → ((i : ℕ) → get_or facts i 0 ≡ 0) → 2048 ≤ length facts → Reaching rows actions facts counts order found
+begun_reaching conditions variables actions rows facts counts order found b few zeros facts_room =
     record {
       few = few;
       facts_room = facts_room;
-      counts_room = counts_room;
-      order_room = order_room;
+      counts_room = b.counts_room;
+      order_room = b.order_room;
       counted = λ a l. b.count a l ∙ all_lacking rows facts a zeros;
       listing = b.listing;
     }
@@ -148,16 +148,16 @@ module _ (rows : List ℕ) (actions : ℕ) where
     some_lacking a l e = omega (arith, was.counted a l, less a, bit_true (asks_for rows a place) e)
 
     pub reaches_cell : (counts₁ order₁ : List ℕ) (r : ℕ) → RowLowered counts order counts₁ order₁ (λ a. asks_for rows a place) actions found r
-        → length counts₁ ≡ length counts → length order₁ ≡ length order → length after ≡ length facts
+        → length after ≡ length facts
         → Reaches (cell_fact v cell) rows actions facts order found after counts₁ order₁ r
-    reaches_cell counts₁ order₁ r low counts_same order_same facts_same =
+    reaches_cell counts₁ order₁ r low facts_same =
         record {
           state =
               record {
                 few = was.few;
                 facts_room = omega (arith, was.facts_room, facts_same);
-                counts_room = omega (arith, was.counts_room, counts_same);
-                order_room = omega (arith, was.order_room, order_same);
+                counts_room = low.counts_room;
+                order_room = low.order_room;
                 counted = λ a l. omega (arith, low.less a l, was.counted a l, less a);
                 listing = low.listing;
               };

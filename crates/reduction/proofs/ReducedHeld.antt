@@ -9,7 +9,8 @@ use lib.Dec.{eqb}
 use lib.ListN.{length, get_or, length-map}
 use borrow.Author.Tests.{eqb-true, eqb-false, ne_eqb}
 use Rattle.files.specs.Below.{tabulate, bit, count_below, chosen_below}
-use Rattle.files.specs.Dense.{Arrays, row_pairs, row_variable, row_action, held, row_numbers, row_origin, held_origin, arrays, origin_arrays}
+use Rattle.files.specs.Dense.{row_pairs, row_variable, row_action, held, row_numbers, row_origin, held_origin, arrays, origin_arrays}
+use Rattle.files.specs.declared.arrays.Arrays.{Arrays}
 use Rattle.files.specs.Task.{Pair, pair, variable, action, action_of, size_of, start_of}
 use Rattle.files.proofs.BelowLaws.{bit_true, bit_false, count_strict, chosen_length, chosen_at, chosen, map_entry}
 use Rattle.files.proofs.Logic.{split, cond_case}

@@ -6,8 +6,7 @@ use native.Mathlib.Omega.{arith}
 use lib.ListN.{length, take, drop}
 use lib.Dec.{eqb}
 use borrow.Author.Tests.{eq-eqb, ne_eqb}
-use Rattle.files.specs.declared.Outcome.{Outcome}
-use Rattle.files.specs.Outcome.{in_second}
+use Rattle.files.specs.Outcome.{Outcome, in_second}
 use Rattle.files.specs.Records.{record_end, records_end, body_rule, body_fits, head_at, size_fits}
 use Rattle.files.specs.Task.{action_count}
 use Rattle.files.specs.TaskFile.{header_at, actions_in, conditions_in, action_length, action_form_at, action_at, actions_at, actions_place, action_place, check_task, task_of}

@@ -7,10 +7,9 @@ use native.Mathlib.Omega.{arith}
 use lib.Dec.{eqb, ltb}
 use lib.ListN.{length, take, drop, get_or, length-take, length-drop}
 use lib.Seq.{ext_get_or, get_or-take, get_or-drop}
-use Rattle.files.specs.declared.Outcome.{Outcome}
+use Rattle.files.specs.Outcome.{Outcome, done, is_done, guard, and_then, in_second}
 use Rattle.files.specs.Bytes.{Octets}
 use Rattle.files.specs.Listed.{listed, refused_at, file_refusals}
-use Rattle.files.specs.Outcome.{done, is_done, guard, and_then, in_second}
 use Rattle.files.specs.Records.{record_end, records_end}
 use Rattle.files.specs.Task.{Action, action, action_count, action_of}
 use Rattle.files.specs.TaskFile.{check_task, task_of, conditions_in, pairs_from, action_from, actions_from, actions_in, actions_place, action_place, pair_bytes}

@@ -9,7 +9,9 @@ use lib.ListN.{length, get_or}
 use borrow.Author.Tests.{eqb-true, eq-eqb}
 use Rattle.files.specs.Below.{all_below, chosen_below, count_below}
 use Rattle.files.specs.Clauses.{OriginWithin}
-use Rattle.files.specs.Dense.{Arrays, OriginArrays, row_numbers, row_origin, arrays, origin_arrays, held, held_origin}
+use Rattle.files.specs.Dense.{row_numbers, row_origin, origin_arrays, held, held_origin}
+use Rattle.files.specs.declared.arrays.Arrays.{Arrays}
+use Rattle.files.specs.declared.arrays.OriginArrays.{OriginArrays}
 use Rattle.files.specs.OriginFile.{Origin, VariableOrigin}
 use Rattle.files.specs.Task.{Task, variable_count, action_count, size_of}
 use Rattle.files.proofs.BelowLaws.{all_below_intro, all_below_elim, chosen_length, Chosen}
@@ -22,7 +24,7 @@ use Rattle.files.proofs.Valid.{Valid, task_valid}
 use Rattle.marking.specs.Dense.{is_marked}
 use Rattle.reduction.specs.Composed.{OriginValues, Composable, Composes, row_unmoved, unmoved_at}
 use Rattle.reduction.specs.Clauses.{Numbered, KeptNumbered, ChosenAre}
-use Rattle.reduction.specs.Filled.{Marks, Fills}
+use Rattle.reduction.specs.Filled.{Marks, Fills, TaskChosen}
 use Rattle.reduction.specs.Named.{kept_variable}
 use Rattle.reduction.specs.Reach.{reached}
 use Rattle.reduction.specs.ReducedBy.{kept_actions, origin_by, kept_at}
@@ -60,15 +62,8 @@ module _ (o : OriginArrays) where
       ap (λ (v : VariableOrigin). get_or v.values e 0) (entry_is i l) ∙ tabulate_entry (λ j. get_or o.values (32 * i + j) 0) (get_or o.sizes i 0) e 0 k
 
 -- what a turn reduces the task to, with its origins
-module _ (d : Arrays) (numbers ranges values acts kept : List ℕ) (ready : TurnReady d (origin_arrays d.variables d.actions numbers ranges values acts) kept)
-    (dr : Arrays) (later_numbers later_ranges later_values later_acts : List ℕ)
-    (fills : Fills (held d) kept d.actions dr (origin_arrays dr.variables dr.actions later_numbers later_ranges later_values later_acts)) where
-  abbrev o : OriginArrays
-  o = origin_arrays d.variables d.actions numbers ranges values acts
-
-  abbrev later : OriginArrays
-  later = origin_arrays dr.variables dr.actions later_numbers later_ranges later_values later_acts
-
+module _ (d : Arrays) (o : OriginArrays) (kept : List ℕ) (ready : TurnReady d o kept) (dr : Arrays) (later : OriginArrays)
+    (fills : Fills (held d) kept d.actions dr later) where
   abbrev t : Task
   t = held d
 
@@ -90,7 +85,7 @@ module _ (d : Arrays) (numbers ranges values acts kept : List ℕ) (ready : Turn
   fits = rw (reduced_is, later_is) (reduced_fits t A)
 
   below : (i : ℕ) → i < later.variables → i < variable_count (held dr)
-  below i l = omega (arith, variables_held dr)
+  below i l = omega (arith, variables_held dr, fills.within.variables)
 
   number_below : (i : ℕ) → i < later.variables → get_or later.numbers i 0 < d.variables
   number_below i l = omega (arith, variable_known t (held dr) (held_origin later) fits i (below i l), entry_number later i l, variables_held d)
@@ -105,7 +100,7 @@ module _ (d : Arrays) (numbers ranges values acts kept : List ℕ) (ready : Turn
   later_inside : OriginValues later dr.sizes
   later_inside i e l k =
       let inside = (fits.variable i (below i l)).inside e (omega (arith, entry_long later i l)) in
-      omega (arith, inside, entry_value later i e l k, size_held dr i (omega arith))
+      omega (arith, inside, entry_value later i e l k, size_held dr i (omega (arith, fills.within.variables)))
 
   -- as many variables and actions at most
   variables_count : variable_count (held dr) ≡ count_below (variable_count t) (kept_variable t A)
@@ -117,10 +112,10 @@ module _ (d : Arrays) (numbers ranges values acts kept : List ℕ) (ready : Turn
   actions_count = ap action_count reduced_is ∙ chosen_count (reduced_chooses t A)
 
   variables_few : later.variables ≤ d.variables
-  variables_few = omega (arith, variables_held dr, variables_count, count_most (variable_count t) (kept_variable t A), variables_held d)
+  variables_few = omega (arith, fills.within.variables, variables_held dr, variables_count, count_most (variable_count t) (kept_variable t A), variables_held d)
 
   pub reduced_few : dr.variables ≤ 64
-  reduced_few = omega (arith, variables_few, valid.variables_few, variables_held d)
+  reduced_few = omega (arith, fills.within.variables, variables_few, valid.variables_few, variables_held d)
 
   actions_few : action_count (held dr) ≤ d.actions
   actions_few = omega (arith, actions_count, count_most (action_count t) A, actions_held d)
@@ -128,7 +123,7 @@ module _ (d : Arrays) (numbers ranges values acts kept : List ℕ) (ready : Turn
   original_below : (n : ℕ) → n < later.actions → get_or later.originals n 0 < d.actions
   unfolding held_origin row_numbers
   original_below n l =
-      let known = fits.actions_rise.below n (omega (arith, fits.actions_long, actions_held dr)) in
+      let known = fits.actions_rise.below n (omega (arith, fits.actions_long, fills.within.actions, actions_held dr)) in
       let entry = tabulate_entry (λ i. get_or later.originals (0 + i) 0) later.actions n 0 l in
       let at : 0 + n ≡ n = omega arith in
       omega (arith, known, entry, ap (λ (k : ℕ). get_or later.originals k 0) at, actions_held d)
@@ -140,7 +135,7 @@ module _ (d : Arrays) (numbers ranges values acts kept : List ℕ) (ready : Turn
         let c : Chosen (kept_variable t A) (variable_count t) v =
         record { number = v; below = l; passes = all v l; rank = rank_own (kept_variable t A) v (λ i h. all i (omega arith)) } in
         let is = ap (λ (x : Origin). origin_at x v) later_is ∙ reduced_entry t A v c in
-        let place : v < later.variables = omega (arith, variables_held dr, variables_count, rank_own (kept_variable t A) (variable_count t) all) in
+        let place : v < later.variables = omega (arith, fills.within.variables, variables_held dr, variables_count, rank_own (kept_variable t A) (variable_count t) all) in
         let long : length (origin_at (held_origin later) v).values ≡ size_of t v =
         ap (λ (x : VariableOrigin). length x.values) is ∙ tabulate_from_length (new_value t A v) 0 (size_of t v) in
         sym (entry_value later v e place (omega (arith, long, entry_long later v place)))
@@ -167,19 +162,19 @@ module _ (d : Arrays) (numbers ranges values acts kept : List ℕ) (ready : Turn
     task_left task e = e ∙ ap (λ (r : Task). struck_to r (reached r)) reduced_is
 
     -- with their numbers in the task that the turn found
-    module _ (left_acts : List ℕ) (act : (j : ℕ) → j < left → get_or left_acts j 0 ≡ get_or later.originals (get_or chosen j 0) 0) where
+    module _ (left_acts : List ℕ) (act : (j default : ℕ) → j < left → get_or left_acts j default ≡ get_or later.originals (get_or chosen j 0) default) where
       abbrev second : OriginArrays
       second = origin_arrays later.variables left later.numbers later.sizes later.values left_acts
 
       chosen_below_lem : (j : ℕ) → j < left → get_or chosen j 0 < later.actions
-      chosen_below_lem j l = omega (arith, (number_known (is_marked marks) dr.actions chosen left are.are j l).0)
+      chosen_below_lem j l = omega (arith, fills.within.actions, (number_known (is_marked marks) dr.actions chosen left are.are j l).0)
 
       numbers_are : row_numbers left_acts 0 left ≡ originals (held_origin later) (row_numbers chosen 0 left)
       unfolding originals held_origin
       numbers_are =
           row_through left_acts later.originals chosen 0 0 0 left later.actions
           (λ j l. let at : j ≡ 0 + j = omega arith in rw (← at) (chosen_below_lem j l))
-          (λ j l. let at : j ≡ 0 + j = omega arith in rw (← at) (act j l ∙ ap (λ (n : ℕ). get_or later.originals n 0) (omega arith)))
+          (λ j l. let at : j ≡ 0 + j = omega arith in rw (← at) (act j 0 l ∙ ap (λ (n : ℕ). get_or later.originals n 0) (omega arith)))
 
       pub second_is : held_origin second ≡ turn_origin t
       unfolding held_origin turn_origin kept_actions
@@ -196,38 +191,43 @@ module _ (d : Arrays) (numbers ranges values acts kept : List ℕ) (ready : Turn
       pub composable : Composable o second
       composable =
           record {
-            writable = ready.origin.writable;
-            variables = record { few = omega (arith, variables_few); known = number_below };
-            actions = record { few = omega (arith, left_is, actions_few, count_most (action_count (held dr)) (reached (held dr))); known = act_below };
+            writable = ready.origin.within.writable;
+            variables = record { few = omega (arith, variables_few, ready.origin.within.variables); known = number_inside };
+            actions = record { few = omega (arith, left_is, actions_few, ready.origin.within.actions, count_most (action_count (held dr)) (reached (held dr))); known = act_below };
             few_values = λ i l. omega (arith, size_is i l, valid.size_most (get_or later.numbers i 0), size_held d (get_or later.numbers i 0) (number_below i l));
-            values = λ i value l k. omega (arith, size_is i l, ready.origin.values (get_or later.numbers i 0) value (number_below i l) k);
+            values = λ i value l k. omega (arith, size_is i l, ready.origin.values (get_or later.numbers i 0) value (number_inside i l) k);
           }
         where
-          act_below : (j : ℕ) → j < left → get_or left_acts j 0 < d.actions
-          act_below j l = omega (arith, act j l, original_below (get_or chosen j 0) (chosen_below_lem j l))
+          number_inside : (i : ℕ) → i < later.variables → get_or later.numbers i 0 < o.variables
+          number_inside i l = omega (arith, number_below i l, ready.origin.within.variables)
+
+          act_below : (j : ℕ) → j < left → get_or left_acts j 0 < o.actions
+          act_below j l = omega (arith, act j 0 l, original_below (get_or chosen j 0) (chosen_below_lem j l), ready.origin.within.actions)
 
     -- what the parts of the turn ask
     pub left_numbered : Numbered chosen left 512
     left_numbered = chosen_numbered (omega (arith, actions_held dr, actions_few, valid.actions_few, actions_held d)) are
 
-    pub left_within : OriginWithin dr.variables left d.sizes
+    pub left_within : OriginWithin later.variables left d.sizes
     left_within =
         record {
-          limits = record { few_variables = reduced_few; few_actions = left_numbered.few };
+          limits = record { few_variables = omega (arith, reduced_few, fills.within.variables); few_actions = left_numbered.few };
           few_values = λ i l. let known : i < d.variables = omega (arith, variables_few) in omega (arith, size_held d i known, valid.size_most i);
         }
 
-    pub later_numbered : (left_acts : List ℕ) → ((j : ℕ) → j < left → get_or left_acts j 0 ≡ get_or later.originals (get_or chosen j 0) 0) → KeptNumbered later_numbers dr.variables left_acts left
+    pub later_numbered : (left_acts : List ℕ) → ((j default : ℕ) → j < left → get_or left_acts j default ≡ get_or later.originals (get_or chosen j 0) default)
+        → KeptNumbered later.numbers later.variables left_acts left
     later_numbered left_acts act =
         let k = composable left_acts act in
+        let same = ready.origin.within in
         record {
-          variables = record { few = reduced_few; known = λ i l. omega (arith, k.variables.known i l, valid.variables_few, variables_held d) };
-          actions = record { few = left_numbered.few; known = λ j l. omega (arith, k.actions.known j l, valid.actions_few, actions_held d) };
+          variables = record { few = left_within.limits.few_variables; known = λ i l. omega (arith, k.variables.known i l, same.variables, valid.variables_few, variables_held d) };
+          actions = record { few = left_numbered.few; known = λ j l. omega (arith, k.actions.known j l, same.actions, valid.actions_few, actions_held d) };
         }
 
     -- the test whether it moves nothing
     abbrev test : Bool
-    test = unmoved_at d.variables d.actions dr.variables left d.sizes later.values
+    test = unmoved_at d.variables d.actions later.variables left d.sizes later.values
 
     abbrev R : ℕ → Bool
     R = reached (held dr)
@@ -235,11 +235,11 @@ module _ (d : Arrays) (numbers ranges values acts kept : List ℕ) (ready : Turn
     tested : test ≡ true → Unmoved t A (reached (turn_reduced t))
     unfolding unmoved_at row_unmoved turn_reduced
     tested e =
-        let counts = and_split (eqb dr.variables d.variables) _ e in
+        let counts = and_split (eqb later.variables d.variables) _ e in
         let rest = and_split (eqb left d.actions) _ counts.1 in
-        let variables = eqb-true dr.variables d.variables counts.0 in
+        let variables = eqb-true later.variables d.variables counts.0 in
         let actions = eqb-true left d.actions rest.0 in
-        let all = full_passes (kept_variable t A) (variable_count t) (omega (arith, variables_held d, variables_held dr, variables_count)) in
+        let all = full_passes (kept_variable t A) (variable_count t) (omega (arith, fills.within.variables, variables_held d, variables_held dr, variables_count)) in
         record {
           kept = full_passes A (action_count t) (omega (arith, actions_held d, left_is, count_most (action_count (held dr)) R, actions_count));
           left =
@@ -258,7 +258,7 @@ module _ (d : Arrays) (numbers ranges values acts kept : List ℕ) (ready : Turn
     unfolding unmoved_at row_unmoved turn_reduced
     testing u =
         let every : (a : ℕ) → a < action_count (held dr) → R a ≡ true = subst (λ (r : Task). (a : ℕ) → a < action_count r → reached r a ≡ true) (sym reduced_is) u.left in
-        and_join (eq-eqb dr.variables d.variables (omega (arith, variables_held d, variables_held dr, variables_count, rank_own (kept_variable t A) (variable_count t) u.variables)))
+        and_join (eq-eqb later.variables d.variables (omega (arith, fills.within.variables, variables_held d, variables_held dr, variables_count, rank_own (kept_variable t A) (variable_count t) u.variables)))
         (and_join (eq-eqb left d.actions (omega (arith, left_is, rank_own R (action_count (held dr)) every, actions_count, rank_own A (action_count t) u.kept, actions_held d)))
         (all_below_intro d.variables (λ v. all_below (get_or d.sizes v 0) (λ z. eqb (get_or later.values (32 * v + z) 0) z))
         (λ v l.
@@ -288,16 +288,18 @@ module _ (d : Arrays) (numbers ranges values acts kept : List ℕ) (ready : Turn
         record { task = same_task_says t (turn_task t) same; unchanged = sym same; origin = refl; inside = ready.origin }
 
     -- the turn leaves another task
-    module _ (left_acts : List ℕ) (act : (j : ℕ) → j < left → get_or left_acts j 0 ≡ get_or later.originals (get_or chosen j 0) 0)
-        (starts goal costs conditions effects : List ℕ) (struck : held (arrays dr.variables left dr.sizes starts goal costs conditions effects) ≡ struck_to (held dr) R)
-        (numbers' ranges' values' acts' : List ℕ) (both : Composable o (second left_acts act) → Composes o (second left_acts act) (origin_arrays dr.variables left numbers' ranges' values' acts')) where
-      pub leaves_other : (result : Bool) → result ≡ test → result ≡ false
-          → TurnLeaves t (held_origin o) (arrays dr.variables left dr.sizes starts goal costs conditions effects) (origin_arrays dr.variables left numbers' ranges' values' acts') false
+    module _ (left_acts : List ℕ) (act : (j default : ℕ) → j < left → get_or left_acts j default ≡ get_or later.originals (get_or chosen j 0) default)
+        (d' : Arrays) (chose : TaskChosen chosen left dr d') (o' : OriginArrays) (both : Composable o (second left_acts act) → Composes o (second left_acts act) o') where
+      pub leaves_other : (result : Bool) → result ≡ test → result ≡ false → TurnLeaves t (held_origin o) d' o' false
       leaves_other result is e =
           let k = both (composable left_acts act) in
           record {
-            task = task_left _ struck;
+            task = task_left _ (chose.task R reduced_few chosen_reached);
             unchanged = sym (sym unmoved_is ∙ sym is ∙ e);
             origin = k.origins ∙ ap (composed (held_origin o)) (second_is left_acts act);
-            inside = record { writable = k.writable; values = k.values dr.sizes later_inside };
+            inside =
+                record {
+                  within = record { variables = k.variables ∙ fills.within.variables ∙ sym chose.variables; actions = k.actions ∙ sym chose.actions; writable = k.writable };
+                  values = subst (OriginValues o') (sym chose.sizes) (k.values dr.sizes later_inside);
+                };
           }

@@ -5,11 +5,12 @@ use mathlib.Core.Bool.{Bool, true, false, cond}
 use mathlib.Core.List.{List}
 use native.Mathlib.Omega.{arith}
 use Rattle.files.specs.Accepted.{accepted_task}
-use Rattle.files.specs.Clauses.{OriginWithin}
-use Rattle.files.specs.Dense.{Arrays, OriginArrays, origin_arrays, held, held_origin}
+use Rattle.files.specs.Dense.{held, held_origin}
+use Rattle.files.specs.declared.arrays.Arrays.{Arrays}
+use Rattle.files.specs.declared.arrays.OriginArrays.{OriginArrays}
 use Rattle.files.specs.OriginFile.{Origin}
 use Rattle.files.specs.Task.{Task, action_count, fact_count}
-use Rattle.files.proofs.HeldTask.{variables_held, actions_held, size_held}
+use Rattle.files.proofs.HeldTask.{actions_held}
 use Rattle.files.proofs.Logic.{clash, split_le}
 use Rattle.files.proofs.Valid.{task_valid}
 use Rattle.marking.specs.Dense.{Final}
@@ -36,35 +37,25 @@ pub record GoesOn (t : Task) (d : Arrays) (o : OriginArrays) (kept : List ℕ) (
   pub falls : measure (held d) < limit t - turns
   pub rest : turns_from (limit t - turns) (held d) (held_origin o) turns ≡ turning t
 
--- an accepted task is within the limits of origins
-pub task_within : (d : Arrays) → accepted_task (held d) ≡ true → OriginWithin d.variables d.actions d.sizes
-task_within d e =
-    let ok = task_valid (held d) e in
-    record {
-      limits = record { few_variables = omega (arith, ok.variables_few, variables_held d); few_actions = omega (arith, ok.actions_few, actions_held d) };
-      few_values = λ v l. omega (arith, ok.size_most v, size_held d v l);
-    }
-
 -- the marks of level 4
 pub final_marks : (d : Arrays) (actions facts unlinked : List ℕ) (rounds : ℕ) → Final (held d) 4 actions facts unlinked rounds → Marks actions d.actions (kept_at (held d) 4)
 unfolding kept_at
 final_marks d actions facts unlinked rounds k a l = k.action a (omega (arith, actions_held d))
 
 -- before the first turn
-pub begins : (d : Arrays) (numbers ranges values acts kept : List ℕ) → TurnsReady d kept → Owns d.sizes (origin_arrays d.variables d.actions numbers ranges values acts)
-    → GoesOn (held d) d (origin_arrays d.variables d.actions numbers ranges values acts) kept 0
+pub begins : (d : Arrays) (o : OriginArrays) (kept : List ℕ) → TurnsReady d kept → Owns d o → GoesOn (held d) d o kept 0
 unfolding turning
-begins d numbers ranges values acts kept ready own =
+begins d o kept ready own =
     let t = held d in
     record {
       accepted = ready.accepted;
       marks = ready.marks;
-      inside = record { writable = own.writable; values = own.values };
+      inside = record { within = own.within; values = own.values };
       within = omega arith;
       falls = omega (arith, measure_most t);
       rest =
-          ap (λ (n : ℕ). turns_from n t (held_origin (origin_arrays d.variables d.actions numbers ranges values acts)) 0) (let e : limit t - 0 ≡ limit t = omega arith in e)
-          ∙ ap (λ (x : Origin). turns_from (limit t) t x 0) (own.origins t (variables_held d) (actions_held d) (λ v l. size_held d v l));
+          ap (λ (n : ℕ). turns_from n t (held_origin o) 0) (let e : limit t - 0 ≡ limit t = omega arith in e)
+          ∙ ap (λ (x : Origin). turns_from (limit t) t x 0) own.origins;
     }
 
 -- a turn from there on
@@ -88,7 +79,7 @@ module _ (t : Task) (d : Arrays) (o : OriginArrays) (kept : List ℕ) (turns : �
           task = k.task ∙ sym (same_task_says (held d) (turn_task (held d)) last) ∙ ap (λ (x : Turning). x.task) is;
           origin = k.origin ∙ ap (λ (b : Bool). cond b (held_origin o) (composed (held_origin o) (turn_origin (held d)))) e ∙ ap (λ (x : Turning). x.origin) is;
           count = ap (λ (x : Turning). x.turns) is;
-          writable = k.inside.writable;
+          within = k.inside.within;
         }
 
     -- it leaves an accepted task

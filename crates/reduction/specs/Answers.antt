@@ -1,9 +1,8 @@
 -- What reduction called alone promises, and what the call for the condition stretch promises: what each answers, and what
 -- the lent buffers then hold.
 use Rattle.std.specs.Prelude.{ℕ, ◌*◌, ◌≤◌, ◌≡◌, List, [], ◌∷◌, ◌++◌, ltb, length}
-use Rattle.files.specs.declared.Outcome.{Outcome}
+use Rattle.files.specs.Outcome.{Outcome, done, guard, in_second}
 use Rattle.files.specs.Listed.{Refusal, refused_at, short, file_refusals}
-use Rattle.files.specs.Outcome.{done, guard, in_second}
 use Rattle.files.specs.Stages.{Stage, stage, Answers}
 use Rattle.files.specs.Task.{Pair, action_count, fact_count, action_of}
 use Rattle.files.specs.TaskFile.{check_task, task_of, pair_bytes}

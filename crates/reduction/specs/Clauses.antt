@@ -2,7 +2,10 @@
 use Rattle.std.specs.Prelude.{ℕ, ◌+◌, ◌≤◌, ◌<◌, ◌≡◌, Bool, true, false, cond, List, eqb, length, get_or, set}
 use Rattle.files.specs.Accepted.{accepted_task}
 use Rattle.files.specs.Below.{bit, chosen_below}
+use Rattle.files.specs.Clauses.{OriginWithin}
 use Rattle.files.specs.Dense.{row_numbers}
+use Rattle.files.specs.declared.arrays.Arrays.{Arrays}
+use Rattle.files.specs.declared.arrays.OriginArrays.{OriginArrays}
 use Rattle.files.specs.Task.{Task}
 use Rattle.files.specs.TaskFile.{check_task, actions_in}
 
@@ -11,14 +14,12 @@ pub record MarksWithin (marks : List ℕ) (actions : ℕ) : Type 0 where
   pub few : actions ≤ 512
   pub within : actions ≤ length marks
 
--- a number below a limit that comes after `count` others, fewer than the limit, and room for as many as that
-pub record Pushable (numbers : List ℕ) (count n limit : ℕ) : Type 0 where
-  pub known : n < limit
-  pub few : count < limit
-  pub room : limit ≤ length numbers
+-- room for a number after `count` others
+abbrev pub Pushable : {A : Type 0} → List A → ℕ → Type 0
+Pushable numbers count = count < length numbers
 
 -- a number comes after `count` ones where a test passes
-pub record Pushed (before after : List ℕ) (count n : ℕ) (test : Bool) (r : ℕ) : Type 0 where
+pub record Pushed {A : Type 0} (before after : List A) (count : ℕ) (n : A) (test : Bool) (r : ℕ) : Type 0 where
   pub numbers : after ≡ cond test (set before count n) before
   pub counted : r ≡ count + bit test
 
@@ -32,20 +33,16 @@ pub record Numbered (numbers : List ℕ) (count limit : ℕ) : Type 0 where
   pub few : count ≤ limit
   pub known : (i : ℕ) → i < count → get_or numbers i 0 < limit
 
--- the numbers of the kept variables, and the row that is read by them
-pub record RowNumbered (numbers : List ℕ) (count : ℕ) (old : List ℕ) (from : ℕ) : Type 0 where
-  pub variables : Numbered numbers count 64
-  pub within : from + 64 ≤ length old
-
 -- the numbers of the kept variables and of the kept actions
 pub record KeptNumbered (numbers : List ℕ) (variable_count : ℕ) (originals : List ℕ) (action_count : ℕ) : Type 0 where
   pub variables : Numbered numbers variable_count 64
   pub actions : Numbered originals action_count 512
 
--- the number of a kept variable, and its place among those kept
-pub record PlaceOf (number place : ℕ) : Type 0 where
-  pub known : number < 64
-  pub few : place < 64
+-- arrays of origins of the variables and the actions of a task, within its limits
+pub record OriginFor (d : Arrays) (o : OriginArrays) : Type 0 where
+  pub variables : o.variables ≡ d.variables
+  pub actions : o.actions ≡ d.actions
+  pub writable : OriginWithin o.variables o.actions o.sizes
 
 -- the first `count` cells of the row at `to` are set, and the cells before them are as they were
 pub record RowSet (before after : List ℕ) (to count : ℕ) (cell : ℕ → ℕ) : Type 0 where
@@ -62,8 +59,3 @@ pub record HasAction (file : List ℕ) (action : ℕ) : Type 0 where
 pub record ReducedOnce (t : Task) (level : ℕ) : Type 0 where
   pub accepted : accepted_task t ≡ true
   pub other : eqb level 5 ≡ false
-
--- an accepted task, and the level at which each turn marks
-pub record ReducedInTurns (t : Task) (level : ℕ) : Type 0 where
-  pub accepted : accepted_task t ≡ true
-  pub fourth : level ≡ 4

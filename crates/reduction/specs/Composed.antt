@@ -2,21 +2,21 @@
 use Rattle.std.specs.Prelude.{ℕ, ◌+◌, ◌*◌, ◌<◌, ◌≡◌, Bool, ◌&&◌, List, eqb, get_or}
 use Rattle.files.specs.Below.{all_below}
 use Rattle.files.specs.Clauses.{OriginWithin}
-use Rattle.files.specs.Dense.{OriginArrays, OriginSizes, held_origin}
-use Rattle.files.specs.Task.{Task, variable_count, action_count, size_of}
-use Rattle.reduction.specs.Clauses.{Numbered}
+use Rattle.files.specs.Dense.{OriginSizes, held, held_origin}
+use Rattle.files.specs.declared.arrays.Arrays.{Arrays}
+use Rattle.files.specs.declared.arrays.OriginArrays.{OriginArrays}
+use Rattle.reduction.specs.Clauses.{Numbered, OriginFor}
 use Rattle.reduction.specs.Turns.{composed, own_origin}
 
 -- each new value is below the size that an array has for its variable
 abbrev pub OriginValues : OriginArrays → List ℕ → Type 0
 OriginValues o sizes = (i value : ℕ) → i < o.variables → value < get_or o.sizes i 0 → get_or o.values (32 * i + value) 0 < get_or sizes i 0
 
--- arrays hold the own origins of each task with these counts and sizes
-pub record Owns (sizes : List ℕ) (o : OriginArrays) : Type 0 where
-  pub writable : OriginWithin o.variables o.actions o.sizes
-  pub values : OriginValues o sizes
-  pub origins : (t : Task) → variable_count t ≡ o.variables → action_count t ≡ o.actions → ((v : ℕ) → v < o.variables → size_of t v ≡ get_or sizes v 0)
-      → held_origin o ≡ own_origin t
+-- arrays hold the own origins of the task that arrays hold
+pub record Owns (d : Arrays) (o : OriginArrays) : Type 0 where
+  pub within : OriginFor d o
+  pub values : OriginValues o d.sizes
+  pub origins : held_origin o ≡ own_origin (held d)
 
 -- the second's variables and actions are numbers of the first's, and the first's new values are values of the second's
 pub record Composable (first second : OriginArrays) : Type 0 where
@@ -29,6 +29,8 @@ pub record Composable (first second : OriginArrays) : Type 0 where
 
 -- arrays hold the two origins composed
 pub record Composes (first second after : OriginArrays) : Type 0 where
+  pub variables : after.variables ≡ second.variables
+  pub actions : after.actions ≡ second.actions
   pub writable : OriginWithin after.variables after.actions after.sizes
   pub values : (sizes : List ℕ) → OriginValues second sizes → OriginValues after sizes
   pub origins : held_origin after ≡ composed (held_origin first) (held_origin second)

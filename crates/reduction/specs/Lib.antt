@@ -6,6 +6,7 @@ pub mod Reach
 pub mod Turns
 pub mod Task
 pub mod Reduce
+pub mod Level
 pub mod Preserved
 pub mod TurnsRight
 pub mod Stretch

@@ -58,19 +58,20 @@ pub record Listing (counts order : List ℕ) (actions found : ℕ) : Type 0 wher
   pub listed : (a : ℕ) → a < actions → get_or counts a 0 ≡ 0 → (i : ℕ) × (i < found) × (get_or order i 0 ≡ a)
   pub count : found ≡ count_below actions (λ a. eqb (get_or counts a 0) 0)
 
--- arrays to begin with: no action asks for anything
-pub record Beginning (variables actions : ℕ) (rows counts order : List ℕ) : Type 0 where
+-- to begin with no action asks for anything, and none is listed
+pub record Beginning (variables actions : ℕ) (rows : List ℕ) (found : ℕ) : Type 0 where
   pub limits : WithinLimits variables actions
   pub empty : (i : ℕ) → get_or rows i 0 ≡ 0
   pub rows_room : 16384 ≤ length rows
-  pub counts_room : 512 ≤ length counts
-  pub order_room : 512 ≤ length order
+  pub none : found ≡ 0
 
 -- each action asks for its conditions, and those without any are listed
 pub record Begun (conditions : List ℕ) (variables actions : ℕ) (rows counts order : List ℕ) (found : ℕ) : Type 0 where
   pub asks : (a i : ℕ) → a < actions → asks_for rows a i ≡ row_facts conditions (64 * a) variables i
   pub count : (a : ℕ) → a < actions → get_or counts a 0 ≡ asked rows a
   pub listing : Listing counts order actions found
+  pub counts_room : 512 ≤ length counts
+  pub order_room : 512 ≤ length order
 
 -- a count that can be lowered, and a list with room
 pub record Lowerable (counts order : List ℕ) (found a : ℕ) : Type 0 where
@@ -98,6 +99,8 @@ pub record RowLowerable (counts order : List ℕ) (test : ℕ → Bool) (place a
 
 pub record RowLowered (counts order counts₁ order₁ : List ℕ) (test : ℕ → Bool) (actions found r : ℕ) : Type 0 where
   pub less : (a : ℕ) → a < actions → get_or counts₁ a 0 + bit (test a) ≡ get_or counts a 0
+  pub counts_room : 512 ≤ length counts₁
+  pub order_room : 512 ≤ length order₁
   pub listing : Listing counts₁ order₁ actions r
   pub earlier : (i : ℕ) → i < found → get_or order₁ i 0 ≡ get_or order i 0
   pub more : found ≤ r

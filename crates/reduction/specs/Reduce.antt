@@ -1,7 +1,7 @@
 -- Reduction called alone: the row of check, marking and reduction, with what each lent buffer holds after every outcome.
-use Rattle.std.specs.Prelude.{ℕ, Bool, ◌&&◌, List, [], ◌∷◌, leb, length}
-use Rattle.files.specs.declared.Outcome.{Outcome}
-use Rattle.files.specs.Outcome.{done, guard, and_then, fits, overwrite}
+use Rattle.std.specs.Prelude.{ℕ, Bool, ◌&&◌, List, [], ◌∷◌, leb, length, Result, Ok, Err}
+use Rattle.files.specs.Outcome.{Outcome, done, refused, guard, and_then, fits, overwrite}
+use Rattle.files.specs.declared.refusals.Refusal.{Refusal}
 use Rattle.files.specs.Stages.{Stage, stage, left_by, answer_by, ByStages}
 use Rattle.files.specs.Task.{Task, action_count, fact_count}
 use Rattle.files.specs.TaskFile.{check_task, task_of, task_file}
@@ -9,7 +9,17 @@ use Rattle.files.specs.OriginFile.{Origin, origin_file}
 use Rattle.marking.specs.Rounds.{marking}
 use Rattle.marking.specs.Mark.{marks_fit, action_marks_of, fact_marks_of}
 use Rattle.reduction.specs.Task.{mark_level, reduced_task, origins_at, turn_count}
-use Rattle.reduction.specs.declared.Reduced.{Reduced}
+use Rattle.reduction.specs.declared.Counts.{Counts}
+
+-- the numbers of an answer: the outcome, the four lengths written, the round count and the turn count, 0 beside a refusal
+pub record Reduced : Type 0 where
+  pub outcome : Outcome
+  pub action_marks : ℕ
+  pub fact_marks : ℕ
+  pub reduced : ℕ
+  pub origin : ℕ
+  pub rounds : ℕ
+  pub turns : ℕ
 
 -- the files of the reduced task and its origins under a signer
 unfoldable pub reduced_file : Task → ℕ → ℕ → List ℕ
@@ -87,6 +97,20 @@ reduce_whole t level signer =
 -- beside a refusal there are no lengths, rounds and turns
 abbrev pub no_files : Outcome → Reduced
 no_files o = record { outcome = o; action_marks = 0; fact_marks = 0; reduced = 0; origin = 0; rounds = 0; turns = 0 }
+
+-- the numbers of an answer
+abbrev pub reduced_of : Result Counts Refusal → Reduced
+reduced_of (Ok c) =
+    record {
+      outcome = done;
+      action_marks = c.action_marks;
+      fact_marks = c.fact_marks;
+      reduced = c.reduced;
+      origin = c.origin;
+      rounds = c.rounds;
+      turns = c.turns;
+    }
+reduced_of (Err r) = no_files (refused r)
 
 -- reduction of a task, after what is given: what it answers, and what the buffers hold now
 abbrev pub ReducesTask : Outcome → Task → ℕ → ℕ → Buffers → Reduced → Buffers → Type 0

@@ -1,7 +1,8 @@
 -- The stretch of condition pairs of an action, in the full or the reduced file.
-use Rattle.std.specs.Prelude.{ℕ, ◌+◌, ◌*◌, ◌≡◌, cond, List, [], eqb, ltb, take, drop}
-use Rattle.files.specs.declared.Outcome.{Outcome}
-use Rattle.files.specs.Outcome.{done, is_done, guard, and_then, in_second}
+use Rattle.std.specs.Prelude.{ℕ, ◌+◌, ◌*◌, ◌≡◌, cond, List, [], eqb, ltb, take, drop, Result, Ok, Err}
+use Rattle.std.specs.Borrow.{Bor}
+use Rattle.files.specs.declared.refusals.Refusal.{Refusal}
+use Rattle.files.specs.Outcome.{Outcome, done, is_done, guard, and_then, in_second}
 use Rattle.files.specs.Task.{action_count}
 use Rattle.files.specs.TaskFile.{check_task, task_of, action_place, conditions_in}
 
@@ -25,9 +26,10 @@ unfoldable pub stretch : List ℕ → List ℕ → ℕ → ℕ → List ℕ
 stretch full reduced side a =
     cond (is_done (stretch_outcome full reduced side a)) (condition_bytes (side_of side full reduced) a) []
 
--- the three numbers that the call is lent for its outcome
-abbrev pub lent_outcome : ℕ → ℕ → ℕ → Outcome
-lent_outcome number file place = record { number = number; file = file; place = place }
+-- the part that the call hands back: none beside a refusal
+abbrev pub part_of : Result (Bor (List ℕ)) Refusal → List ℕ
+part_of (Ok part) = part.now
+part_of (Err r) = []
 
 -- the call: the part that it hands back, and its outcome
 pub record Stretches (full reduced : List ℕ) (side a : ℕ) (part : List ℕ) (given : Outcome) : Type 0 where

@@ -1,10 +1,12 @@
 -- Turns on arrays: what the code asks and leaves.
 use Rattle.std.specs.Prelude.{ℕ, ◌≡◌, Bool, true, cond, List}
 use Rattle.files.specs.Accepted.{accepted_task}
-use Rattle.files.specs.Clauses.{OriginWithin}
-use Rattle.files.specs.Dense.{Arrays, OriginArrays, held, held_origin}
+use Rattle.files.specs.Dense.{held, held_origin}
+use Rattle.files.specs.declared.arrays.Arrays.{Arrays}
+use Rattle.files.specs.declared.arrays.OriginArrays.{OriginArrays}
 use Rattle.files.specs.OriginFile.{Origin}
 use Rattle.files.specs.Task.{Task}
+use Rattle.reduction.specs.Clauses.{OriginFor}
 use Rattle.reduction.specs.Composed.{OriginValues}
 use Rattle.reduction.specs.Filled.{Marks}
 use Rattle.reduction.specs.ReducedBy.{kept_at}
@@ -12,7 +14,7 @@ use Rattle.reduction.specs.Turns.{turn_task, turn_origin, composed, same_task, t
 
 -- origins of the variables and actions of a task: each new value is inside its variable's size
 pub record OriginInside (d : Arrays) (o : OriginArrays) : Type 0 where
-  pub writable : OriginWithin d.variables d.actions o.sizes
+  pub within : OriginFor d o
   pub values : OriginValues o d.sizes
 
 -- an accepted task with the marks of level 4, and its origins
@@ -38,4 +40,4 @@ pub record TurnsLeave (t : Task) (d : Arrays) (o : OriginArrays) (turns : ℕ) :
   pub task : held d ≡ (turning t).task
   pub origin : held_origin o ≡ (turning t).origin
   pub count : turns ≡ (turning t).turns
-  pub writable : OriginWithin d.variables d.actions o.sizes
+  pub within : OriginFor d o

@@ -2,9 +2,10 @@
 ghost use Rattle.std.specs.Prelude.{◌≡◌, ℕ, ◌+◌, ◌*◌, ◌<◌, get_or};
 ghost use Rattle.files.specs.Clauses.{Writable};
 ghost use Rattle.reduction.specs.Clauses.{Numbered};
-ghost use Rattle.reduction.specs.Filled.{ArraysChosen};
+ghost use Rattle.reduction.specs.Filled.{TaskChosen};
 
-use crate::renumber;
+use crate::{renumber, rows};
+use files::arrays::Arrays;
 use files::limits;
 use plans::ReducedAction;
 
@@ -13,30 +14,23 @@ pub fn copy_rows(rows: &mut [u8], old: &[u8; 32768], chosen: &[u16; 512], count:
     requires { Writable (Numbered chosen.now count 512) 32768 rows.old }
     ensures { (j i : ℕ) → j < count → i < 64 → get_or rows.new (64 * j + i) 0 ≡ get_or old.now (64 * get_or chosen.now j 0 + i) 0 }
 {
-    let mut j: usize = 0;
-    while j < count {
+    rows::set_rows(rows, limits::ROW, limits::ROW, count, |j, i| {
         let action = renumber::original(chosen, ReducedAction(j as u16));
-        let a = action.0 as usize;
-        renumber::copy_row(rows, limits::ROW * j, old, limits::ROW * a, limits::ROW);
-        j += 1;
-    }
+        old[limits::ROW * action.0 as usize + i]
+    });
 }
 
-// Fills arrays with the costs and rows of the chosen actions.
-pub fn choose(
-    chosen: &[u16; 512],
-    count: usize,
-    costs: &[u32; 512],
-    conditions: &[u8; 32768],
-    effects: &[u8; 32768],
-    chosen_costs: &mut [u32; 512],
-    chosen_conditions: &mut [u8; 32768],
-    chosen_effects: &mut [u8; 32768],
-)
+// Fills arrays with the variables and the goal of a task, and with the chosen ones of its actions.
+pub fn choose(chosen: &[u16; 512], count: usize, from: &Arrays, to: &mut Arrays)
     requires { Numbered chosen.now count 512 }
-    ensures { ArraysChosen chosen.now count costs.now conditions.now effects.now chosen_costs.new chosen_conditions.new chosen_effects.new }
+    ensures { TaskChosen chosen.now count from.now to.new }
 {
-    renumber::map_costs(chosen_costs, costs, chosen, count);
-    copy_rows(chosen_conditions, conditions, chosen, count);
-    copy_rows(chosen_effects, effects, chosen, count);
+    to.variables = from.variables;
+    to.sizes = from.sizes;
+    to.starts = from.starts;
+    to.goal = from.goal;
+    to.actions = count;
+    renumber::map_actions(&mut to.costs, &from.costs, chosen, count);
+    copy_rows(&mut to.conditions, &from.conditions, chosen, count);
+    copy_rows(&mut to.effects, &from.effects, chosen, count);
 }

@@ -4,28 +4,30 @@
 
 mod arrays;
 mod chosen;
+mod level;
 mod named;
 mod origins;
 mod reach;
 mod renumber;
+mod rows;
 mod stages;
 mod stretch;
 mod turns;
 
-ghost use Rattle.reduction.specs.Reduce.{buffers, Reduces};
-ghost use Rattle.reduction.specs.Stretch.{lent_outcome, Stretches};
+ghost use Rattle.std.specs.Prelude.{◌≡◌};
+ghost use Rattle.reduction.specs.Reduce.{buffers, reduced_of, Reduces};
+ghost use Rattle.files.specs.Outcome.{outcome_of};
+ghost use Rattle.reduction.specs.Stretch.{part_of, Stretches};
 
-use files::outcomes;
+use files::arrays::Arrays;
+use files::refusals::{Reason, Refusal};
+use level::Level;
 use plans::{OriginalAction, ReducedAction};
 
-// The level of turns.
-const IN_TURNS: u32 = 5;
-
-// What reduction answers: the four lengths written, the round count and the turn count, 0 beside a
-// refusal.
-#[derive(Clone, Copy)]
-pub struct Reduced {
-    pub outcome: files::Outcome,
+// How many action marks and fact marks were written, how long both files are, and how many rounds and
+// turns there were.
+#[derive(Clone, Copy, Debug, Default, PartialEq, Eq)]
+pub struct Counts {
     pub action_marks: usize,
     pub fact_marks: usize,
     pub reduced: usize,
@@ -44,75 +46,24 @@ pub fn reduce(
     facts: &mut [u8],
     reduced: &mut [u8],
     origin: &mut [u8],
-) -> Reduced
-    ensures { Reduces task.now level signer (buffers actions.old facts.old reduced.old origin.old) result (buffers actions.new facts.new reduced.new origin.new) }
+) -> Result<Counts, Refusal>
+    ensures { Reduces task.now level signer (buffers actions.old facts.old reduced.old origin.old) (reduced_of result) (buffers actions.new facts.new reduced.new origin.new) }
 {
-    let mut sizes = [0u8; 64];
-    let mut starts = [0u8; 64];
-    let mut goal = [0u8; 64];
-    let mut costs = [0u32; 512];
-    let mut conditions = [0u8; 32768];
-    let mut effects = [0u8; 32768];
-    let read = files::decode::read_task(
-        task,
-        &mut sizes,
-        &mut starts,
-        &mut goal,
-        &mut costs,
-        &mut conditions,
-        &mut effects,
-    );
-    if read.number != 0 {
-        return stages::refused(read);
-    }
-    if !stages::valid_level(level) {
-        return stages::refused(outcomes::refuse(outcomes::UNKNOWN_LEVEL, 0));
-    }
+    let mut arrays = Arrays::empty();
+    arrays.read(task)?;
+    let level = Level::try_from(level)?;
     if signer < 1 {
-        return stages::refused(outcomes::refuse(outcomes::WRONG_SIGN_OFF, 0));
+        return Err(Refusal::at(Reason::WrongSignOff, 0));
     }
-    let variables = files::task::variables_in(task);
-    let actions_in = files::task::actions_in(task);
-    if level == IN_TURNS {
-        let scope = marking::rounds::Scope {
-            level: turns::LEVEL,
-            variables: variables,
-            actions: actions_in,
-        };
-        return stages::reduce_in_turns(
-            scope,
-            &mut sizes,
-            &mut starts,
-            &mut goal,
-            &mut costs,
-            &mut conditions,
-            &mut effects,
-            signer,
-            actions,
-            facts,
-            reduced,
-            origin,
-        );
+    match level {
+        Level::Once(level) => {
+            let level = level.number();
+            stages::reduce_once(&arrays, level, signer, actions, facts, reduced, origin)
+        }
+        Level::InTurns => {
+            stages::reduce_in_turns(&mut arrays, signer, actions, facts, reduced, origin)
+        }
     }
-    let scope = marking::rounds::Scope {
-        level: level,
-        variables: variables,
-        actions: actions_in,
-    };
-    stages::reduce_task(
-        scope,
-        &sizes,
-        &starts,
-        &goal,
-        &costs,
-        &conditions,
-        &effects,
-        signer,
-        actions,
-        facts,
-        reduced,
-        origin,
-    )
 }
 
 // The condition pairs of an action, as they stand in the file of a side: 0 the first, any other
@@ -122,21 +73,12 @@ pub fn conditions<'a>(
     reduced: &'a [u8],
     side: u32,
     action: usize,
-    number: &mut u32,
-    file: &mut u32,
-    place: &mut usize,
-) -> &'a [u8]
-    ensures { Stretches full.now reduced.now side action result.now (lent_outcome number.new file.new place.new) }
+) -> Result<&'a [u8], Refusal>
+    ensures { Stretches full.now reduced.now side action (part_of result) (outcome_of result) }
 {
-    let outcome = stretch::outcome(full, reduced, side, action);
-    *number = outcome.number;
-    *file = outcome.file;
-    *place = outcome.place;
-    if outcome.number != 0 {
-        return &full[0..0];
-    }
+    stretch::check(full, reduced, side, action)?;
     if side == 0 {
-        return stretch::original_pairs(full, OriginalAction(action as u16));
+        return Ok(stretch::original_pairs(full, OriginalAction(action as u16)));
     }
-    stretch::reduced_pairs(reduced, ReducedAction(action as u16))
+    Ok(stretch::reduced_pairs(reduced, ReducedAction(action as u16)))
 }

@@ -1,87 +1,35 @@
 // Origins as arrays: the own origins of a task, origins composed, and whether a turn moves nothing.
-ghost use Rattle.std.specs.Prelude.{◌≡◌, ℕ, ◌+◌, ◌*◌, ◌≤◌, ◌<◌, List, get_or};
+ghost use Rattle.std.specs.Prelude.{◌≡◌, ℕ, ◌+◌, ◌*◌, ◌≤◌, ◌<◌, get_or};
 ghost use Rattle.files.specs.Clauses.{OriginWithin, RowWithin, Writable};
-ghost use Rattle.files.specs.Dense.{origin_arrays};
 ghost use Rattle.reduction.specs.Composed.{Owns, Composable, Composes, row_unmoved, unmoved_at};
-ghost use Rattle.reduction.specs.Clauses.{Numbered, KeptNumbered, PlaceOf, RowSet};
+ghost use Rattle.reduction.specs.Clauses.{Numbered, KeptNumbered};
 ghost use Rattle.reduction.specs.Dense.{mapped_cell};
 
-use crate::renumber;
+use crate::{renumber, rows};
+use files::arrays::{Arrays, OriginArrays};
 use files::limits;
-use plans::ReducedAction;
-
-// The first `count` numbers, in the row at `to`.
-fn count_up(row: &mut [u8], to: usize, count: usize)
-    requires { Writable (count ≤ 64) (to + count) row.old }
-    ensures { RowSet row.old row.new to count (λ i. i) }
-{
-    let mut i: usize = 0;
-    while i < count {
-        row[to + i] = i as u8;
-        i += 1;
-    }
-}
-
-// Each value its own new value.
-fn own_values(values: &mut [u8], variables: usize)
-    requires { Writable (variables ≤ 64) 2048 values.old }
-    ensures { (v d : ℕ) → v < variables → d < 32 → get_or values.new (32 * v + d) 0 ≡ d }
-{
-    let mut v: usize = 0;
-    while v < variables {
-        count_up(values, limits::MOST_VALUES * v, limits::MOST_VALUES);
-        v += 1;
-    }
-}
-
-// Each action its own.
-fn own_actions(originals: &mut [u16], actions: usize)
-    requires { Writable (actions ≤ 512) 512 originals.old }
-    ensures { (j : ℕ) → j < actions → get_or originals.new j 0 ≡ j }
-{
-    let mut j: usize = 0;
-    while j < actions {
-        originals[j] = j as u16;
-        j += 1;
-    }
-}
 
 // Fills arrays with the own origins of a task.
-pub fn own(
-    numbers: &mut [u8; 64],
-    old_sizes: &mut [u8; 64],
-    new_values: &mut [u8; 2048],
-    originals: &mut [u16; 512],
-    sizes: &[u8; 64],
-    variables: usize,
-    actions: usize,
-)
-    requires { OriginWithin variables actions sizes.now }
-    ensures { Owns sizes.now (origin_arrays variables actions numbers.new old_sizes.new new_values.new originals.new) }
+pub fn own(origin: &mut OriginArrays, task: &Arrays)
+    requires { OriginWithin task.now.variables task.now.actions task.now.sizes }
+    ensures { Owns task.now origin.new }
 {
-    count_up(numbers, 0, variables);
-    renumber::copy_row(old_sizes, 0, sizes, 0, variables);
-    own_values(new_values, variables);
-    own_actions(originals, actions);
+    let variables = task.variables;
+    origin.variables = variables;
+    origin.actions = task.actions;
+    origin.sizes = task.sizes;
+    rows::set_row(&mut origin.numbers, 0, variables, |v| v as u8);
+    rows::set_rows(
+        &mut origin.values,
+        limits::MOST_VALUES,
+        limits::MOST_VALUES,
+        variables,
+        |_, d| d as u8,
+    );
+    rows::set_row(&mut origin.originals, 0, task.actions, |a| a as u16);
 }
 
-// The row of place `i`: what the later values make of the first values of variable `v`.
-fn compose_row(row: &mut [u8], first: &[u8; 2048], v: usize, later: &[u8; 2048], i: usize)
-    requires { Writable (PlaceOf v i) 2048 row.old }
-    ensures { RowSet row.old row.new (32 * i) 32 (λ d. mapped_cell later.now i (get_or first.now (32 * v + d) 0)) }
-{
-    let mut d: usize = 0;
-    while d < limits::MOST_VALUES {
-        row[limits::MOST_VALUES * i + d] = renumber::mapped(
-            later,
-            i,
-            first[limits::MOST_VALUES * v + d],
-        );
-        d += 1;
-    }
-}
-
-// The rows of the kept variables.
+// The rows of the kept variables: what the later values make of the first values.
 fn compose_values(
     rows: &mut [u8],
     first: &[u8; 2048],
@@ -92,56 +40,45 @@ fn compose_values(
     requires { Writable (Numbered numbers.now count 64) 2048 rows.old }
     ensures { (i d : ℕ) → i < count → d < 32 → get_or rows.new (32 * i + d) 0 ≡ mapped_cell later.now i (get_or first.now (32 * get_or numbers.now i 0 + d) 0) }
 {
-    let mut i: usize = 0;
-    while i < count {
-        compose_row(rows, first, numbers[i] as usize, later, i);
-        i += 1;
-    }
-}
-
-// The first numbers of the actions that the later numbers name.
-pub fn compose_actions(originals: &mut [u16], first: &[u16; 512], later: &[u16; 512], count: usize)
-    requires { Writable (Numbered later.now count 512) 512 originals.old }
-    ensures { (j : ℕ) → j < count → get_or originals.new j 0 ≡ get_or first.now (get_or later.now j 0) 0 }
-{
-    let mut j: usize = 0;
-    while j < count {
-        let action = renumber::original(later, ReducedAction(j as u16));
-        let a = action.0 as usize;
-        originals[j] = first[a];
-        j += 1;
-    }
-}
-
-// Composes origins with those of a later turn, which has `count` variables and `chosen` actions.
-pub fn compose(
-    numbers: &mut [u8; 64],
-    old_sizes: &mut [u8; 64],
-    new_values: &mut [u8; 2048],
-    originals: &mut [u16; 512],
-    count: usize,
-    chosen: usize,
-    later_numbers: &[u8; 64],
-    later_values: &[u8; 2048],
-    later_originals: &[u16; 512],
-)
-    requires { KeptNumbered later_numbers.now count later_originals.now chosen }
-    ensures { (variables actions : ℕ) (sizes : List ℕ) → Composable (origin_arrays variables actions numbers.old old_sizes.old new_values.old originals.old) (origin_arrays count chosen later_numbers.now sizes later_values.now later_originals.now) → Composes (origin_arrays variables actions numbers.old old_sizes.old new_values.old originals.old) (origin_arrays count chosen later_numbers.now sizes later_values.now later_originals.now) (origin_arrays count chosen numbers.new old_sizes.new new_values.new originals.new) }
-{
-    let first_numbers = *numbers;
-    let first_sizes = *old_sizes;
-    let first_values = *new_values;
-    let first_originals = *originals;
-    renumber::map_sizes(numbers, &first_numbers, later_numbers, count);
-    renumber::map_sizes(old_sizes, &first_sizes, later_numbers, count);
-    compose_values(
-        new_values,
-        &first_values,
-        later_numbers,
+    rows::set_rows(
+        rows,
+        limits::MOST_VALUES,
+        limits::MOST_VALUES,
         count,
-        later_values,
+        |i, d| {
+            let v = numbers[i] as usize;
+            renumber::mapped(later, i, first[limits::MOST_VALUES * v + d])
+        },
     );
-    compose_actions(originals, &first_originals, later_originals, chosen);
+}
+
+// Composes origins with those of a later turn.
+pub fn compose(origin: &mut OriginArrays, later: &OriginArrays)
+    requires { KeptNumbered later.now.numbers later.now.variables later.now.originals later.now.actions }
+    ensures { Composable origin.old later.now → Composes origin.old later.now origin.new }
+{
+    let numbers = origin.numbers;
+    let sizes = origin.sizes;
+    let values = origin.values;
+    let originals = origin.originals;
+    let variables = later.variables;
+    origin.variables = variables;
+    origin.actions = later.actions;
+    renumber::map_variables(&mut origin.numbers, &numbers, &later.numbers, variables);
+    renumber::map_variables(&mut origin.sizes, &sizes, &later.numbers, variables);
+    compose_values(
+        &mut origin.values,
+        &values,
+        &later.numbers,
+        variables,
+        &later.values,
+    );
+    renumber::map_actions(
+        &mut origin.originals,
+        &originals,
+        &later.originals,
+        later.actions,
+    );
 }
 
 // Whether each value of the row at `base` is its own new value.
@@ -149,40 +86,29 @@ fn row_unmoved(values: &[u8], base: usize, size: u8) -> bool
     requires { RowWithin values.now base size }
     ensures { result ≡ row_unmoved values.now base size }
 {
-    let mut d: u8 = 0;
-    while d < size {
+    for d in 0..size {
         if values[base + d as usize] != d {
             return false;
         }
-        d += 1;
     }
     true
 }
 
 // Whether a turn leaves as many variables and actions as there were, and each value its own.
-pub fn unmoved(
-    variables: usize,
-    actions: usize,
-    count: usize,
-    chosen: usize,
-    sizes: &[u8; 64],
-    values: &[u8; 2048],
-) -> bool
-    requires { OriginWithin count chosen sizes.now }
-    ensures { result ≡ unmoved_at variables actions count chosen sizes.now values.now }
+pub fn unmoved(task: &Arrays, later: &OriginArrays) -> bool
+    requires { OriginWithin later.now.variables later.now.actions task.now.sizes }
+    ensures { result ≡ unmoved_at task.now.variables task.now.actions later.now.variables later.now.actions task.now.sizes later.now.values }
 {
-    if count != variables {
+    if later.variables != task.variables {
         return false;
     }
-    if chosen != actions {
+    if later.actions != task.actions {
         return false;
     }
-    let mut v: usize = 0;
-    while v < variables {
-        if !row_unmoved(values, limits::MOST_VALUES * v, sizes[v]) {
+    for v in 0..task.variables {
+        if !row_unmoved(&later.values, limits::MOST_VALUES * v, task.sizes[v]) {
             return false;
         }
-        v += 1;
     }
     true
 }

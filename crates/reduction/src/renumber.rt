@@ -1,10 +1,11 @@
 // New numbers of values, and rows by new numbers.
-ghost use Rattle.std.specs.Prelude.{◌≡◌, ℕ, ◌+◌, ◌*◌, ◌≤◌, ◌<◌, cond, eqb, length, get_or};
+ghost use Rattle.std.specs.Prelude.{◌≡◌, ℕ, ◌+◌, ◌*◌, ◌≤◌, ◌<◌, cond, eqb, length, get_or, slice_index_or};
 ghost use Rattle.files.specs.Clauses.{Writable};
-ghost use Rattle.reduction.specs.Clauses.{Numbered, RowNumbered, KeptNumbered, RowSet};
+ghost use Rattle.reduction.specs.Clauses.{Numbered, KeptNumbered, RowSet};
 ghost use Rattle.reduction.specs.Dense.{new_value_at, new_size_at, mapped_cell};
 
-use crate::named;
+use crate::{named, rows};
+use files::arrays::OriginArrays;
 use files::limits;
 use plans::{OriginalAction, ReducedAction};
 
@@ -22,15 +23,10 @@ fn number_values(values: &mut [u8], named: &[u8; 2048], v: usize)
 {
     let rest = named::named_in(named, v);
     let mut rank: u8 = 0;
-    let mut d: usize = 0;
-    while d < limits::MOST_VALUES {
-        values[limits::MOST_VALUES * v + d] = number(
-            named[limits::MOST_VALUES * v + d],
-            rank,
-            rest,
-        );
-        rank += named::marked(named[limits::MOST_VALUES * v + d]);
-        d += 1;
+    for d in 0..limits::MOST_VALUES {
+        let mark = named[limits::MOST_VALUES * v + d];
+        values[limits::MOST_VALUES * v + d] = number(mark, rank, rest);
+        rank += u8::from(mark == 1);
     }
 }
 
@@ -40,10 +36,8 @@ pub fn new_values(named: &[u8; 2048], variables: usize) -> [u8; 2048]
     ensures { (v d : ℕ) → v < variables → d < 32 → get_or result (32 * v + d) 0 ≡ new_value_at named.now v d }
 {
     let mut values = [0u8; 2048];
-    let mut v: usize = 0;
-    while v < variables {
+    for v in 0..variables {
         number_values(&mut values, named, v);
-        v += 1;
     }
     values
 }
@@ -68,25 +62,21 @@ pub fn mapped(values: &[u8; 2048], v: usize, cell: u8) -> u8
     values[limits::MOST_VALUES * v + (cell % 32) as usize]
 }
 
-// A row of the kept variables: `count` cells at `to`, from the row at `from`.
+// A row of the kept variables.
 pub fn map_row(
     row: &mut [u8],
-    to: usize,
-    old: &[u8],
-    from: usize,
+    old: &[u8; 64],
     numbers: &[u8; 64],
     count: usize,
     values: &[u8; 2048],
 )
-    requires { Writable (RowNumbered numbers.now count old.now from) (to + 64) row.old }
-    ensures { RowSet row.old row.new to count (λ i. mapped_cell values.now (get_or numbers.now i 0) (get_or old.now (from + get_or numbers.now i 0) 0)) }
+    requires { Writable (Numbered numbers.now count 64) 64 row.old }
+    ensures { (i : ℕ) → i < count → get_or row.new i 0 ≡ mapped_cell values.now (get_or numbers.now i 0) (get_or old.now (get_or numbers.now i 0) 0) }
 {
-    let mut i: usize = 0;
-    while i < count {
+    rows::set_row(row, 0, count, |i| {
         let v = numbers[i] as usize;
-        row[to + i] = mapped(values, v, old[from + v]);
-        i += 1;
-    }
+        mapped(values, v, old[v])
+    });
 }
 
 // The number in the full task of an action of the reduced task.
@@ -98,60 +88,37 @@ pub fn original(originals: &[u16; 512], action: ReducedAction) -> OriginalAction
     OriginalAction(originals[j])
 }
 
-// The rows of the kept actions.
-pub fn map_rows(
-    rows: &mut [u8],
-    old: &[u8; 32768],
-    originals: &[u16; 512],
-    actions: usize,
-    numbers: &[u8; 64],
-    count: usize,
-    values: &[u8; 2048],
-)
-    requires { Writable (KeptNumbered numbers.now count originals.now actions) 32768 rows.old }
-    ensures { (j i : ℕ) → j < actions → i < count → get_or rows.new (64 * j + i) 0 ≡ mapped_cell values.now (get_or numbers.now i 0) (get_or old.now (64 * get_or originals.now j 0 + get_or numbers.now i 0) 0) }
+// The rows of the kept actions, by the numbers of the kept variables.
+pub fn map_rows(rows: &mut [u8], old: &[u8; 32768], kept: &OriginArrays, values: &[u8; 2048])
+    requires { Writable (KeptNumbered kept.now.numbers kept.now.variables kept.now.originals kept.now.actions) 32768 rows.old }
+    ensures { (j i : ℕ) → j < kept.now.actions → i < kept.now.variables → get_or rows.new (64 * j + i) 0 ≡ mapped_cell values.now (get_or kept.now.numbers i 0) (get_or old.now (64 * get_or kept.now.originals j 0 + get_or kept.now.numbers i 0) 0) }
 {
-    let mut j: usize = 0;
-    while j < actions {
-        let action = original(originals, ReducedAction(j as u16));
-        let a = action.0 as usize;
-        map_row(
-            rows,
-            limits::ROW * j,
-            old,
-            limits::ROW * a,
-            numbers,
-            count,
-            values,
-        );
-        j += 1;
-    }
+    rows::set_rows(rows, limits::ROW, kept.variables, kept.actions, |j, i| {
+        let action = original(&kept.originals, ReducedAction(j as u16));
+        let v = kept.numbers[i] as usize;
+        mapped(values, v, old[limits::ROW * action.0 as usize + v])
+    });
 }
 
-// The costs of the kept actions.
-pub fn map_costs(costs: &mut [u32], old: &[u32; 512], originals: &[u16; 512], actions: usize)
-    requires { Writable (Numbered originals.now actions 512) 512 costs.old }
-    ensures { (j : ℕ) → j < actions → get_or costs.new j 0 ≡ get_or old.now (get_or originals.now j 0) 0 }
+// The entries of actions at the numbers of chosen ones.
+pub fn map_actions<T: Copy>(cells: &mut [T], old: &[T], numbers: &[u16; 512], count: usize)
+    requires numbers { Numbered numbers.now count 512 }
+    requires room { 512 ≤ length cells.old }
+    requires source { 512 ≤ length old.now }
+    ensures { (j : ℕ) (d : T) → j < count → slice_index_or cells.new j d ≡ slice_index_or old.now (get_or numbers.now j 0) d }
 {
-    let mut j: usize = 0;
-    while j < actions {
-        let action = original(originals, ReducedAction(j as u16));
-        let a = action.0 as usize;
-        costs[j] = old[a];
-        j += 1;
-    }
+    rows::set_row(cells, 0, count, |j| {
+        let action = original(numbers, ReducedAction(j as u16));
+        old[action.0 as usize]
+    });
 }
 
-// The domain sizes of the kept variables, as they were.
-pub fn map_sizes(sizes: &mut [u8], old: &[u8; 64], numbers: &[u8; 64], count: usize)
-    requires { Writable (Numbered numbers.now count 64) 64 sizes.old }
-    ensures { (i : ℕ) → i < count → get_or sizes.new i 0 ≡ get_or old.now (get_or numbers.now i 0) 0 }
+// The entries of variables at the numbers of kept ones.
+pub fn map_variables(cells: &mut [u8], old: &[u8; 64], numbers: &[u8; 64], count: usize)
+    requires { Writable (Numbered numbers.now count 64) 64 cells.old }
+    ensures { (i : ℕ) → i < count → get_or cells.new i 0 ≡ get_or old.now (get_or numbers.now i 0) 0 }
 {
-    let mut i: usize = 0;
-    while i < count {
-        sizes[i] = old[numbers[i] as usize];
-        i += 1;
-    }
+    rows::set_row(cells, 0, count, |i| old[numbers[i] as usize]);
 }
 
 // The new domain sizes of the kept variables.
@@ -165,12 +132,10 @@ pub fn new_sizes(
     requires { Writable (Numbered numbers.now count 64) 64 sizes.old }
     ensures { (i : ℕ) → i < count → get_or sizes.new i 0 ≡ new_size_at named.now (get_or numbers.now i 0) (get_or old.now (get_or numbers.now i 0) 0) }
 {
-    let mut i: usize = 0;
-    while i < count {
+    rows::set_row(sizes, 0, count, |i| {
         let v = numbers[i] as usize;
-        sizes[i] = new_size(named, v, old[v]);
-        i += 1;
-    }
+        new_size(named, v, old[v])
+    });
 }
 
 // The new numbers of each kept variable's values, a row of 32 each.
@@ -178,27 +143,11 @@ pub fn value_rows(rows: &mut [u8], values: &[u8; 2048], numbers: &[u8; 64], coun
     requires { Writable (Numbered numbers.now count 64) 2048 rows.old }
     ensures { (i d : ℕ) → i < count → d < 32 → get_or rows.new (32 * i + d) 0 ≡ get_or values.now (32 * get_or numbers.now i 0 + d) 0 }
 {
-    let mut i: usize = 0;
-    while i < count {
-        copy_row(
-            rows,
-            limits::MOST_VALUES * i,
-            values,
-            limits::MOST_VALUES * numbers[i] as usize,
-            limits::MOST_VALUES,
-        );
-        i += 1;
-    }
-}
-
-// Copies `count` cells to the row at `to`, from the row at `from`.
-pub fn copy_row(row: &mut [u8], to: usize, old: &[u8], from: usize, count: usize)
-    requires { Writable (from + count ≤ length old.now) (to + count) row.old }
-    ensures { RowSet row.old row.new to count (λ i. get_or old.now (from + i) 0) }
-{
-    let mut i: usize = 0;
-    while i < count {
-        row[to + i] = old[from + i];
-        i += 1;
-    }
+    rows::set_rows(
+        rows,
+        limits::MOST_VALUES,
+        limits::MOST_VALUES,
+        count,
+        |i, d| { values[limits::MOST_VALUES * numbers[i] as usize + d] },
+    );
 }

@@ -1,9 +1,11 @@
 // The condition pairs of an action, as they stand in the full or the reduced file.
 ghost use Rattle.std.specs.Prelude.{◌≡◌};
+ghost use Rattle.files.specs.Outcome.{outcome_of};
 ghost use Rattle.reduction.specs.Clauses.{HasAction};
 ghost use Rattle.reduction.specs.Stretch.{side_of, stretch_outcome, condition_bytes};
 
-use files::{Outcome, outcomes, task};
+use files::refusals::{Reason, Refusal};
+use files::task;
 use plans::{OriginalAction, ReducedAction};
 
 // The file of a side: 0 the first, any other number the second.
@@ -17,22 +19,18 @@ fn side_of<'a>(side: u32, full: &'a [u8], reduced: &'a [u8]) -> &'a [u8]
 }
 
 // The first file is checked whole, then the second, then the action against the side's count.
-pub fn outcome<'a>(full: &'a [u8], reduced: &'a [u8], side: u32, action: usize) -> Outcome
-    ensures { result ≡ stretch_outcome full.now reduced.now side action }
+pub fn check<'a>(full: &'a [u8], reduced: &'a [u8], side: u32, action: usize) -> Result<(), Refusal>
+    ensures { outcome_of result ≡ stretch_outcome full.now reduced.now side action }
 {
-    let first = files::check_task(full);
-    if first.number != 0 {
-        return first;
-    }
-    let second = outcomes::in_second(files::check_task(reduced));
-    if second.number != 0 {
-        return second;
+    files::check_task(full)?;
+    if let Err(refusal) = files::check_task(reduced) {
+        return Err(refusal.of_second());
     }
     let actions = task::actions_in(side_of(side, full, reduced));
     if actions <= action {
-        return outcomes::refuse(outcomes::OUT_OF_RANGE, 0);
+        return Err(Refusal::at(Reason::OutOfRange, 0));
     }
-    outcomes::done()
+    Ok(())
 }
 
 // The condition pairs of an action of an accepted file, which lie within it.

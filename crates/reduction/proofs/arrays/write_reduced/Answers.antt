@@ -2,6 +2,8 @@
 use Rattle.reduction.proofs.ReduceStages.{writes_alike}
 use Rattle.reduction.proofs.arrays.write_reduced.Goals as goal
 
+pub write-requires : goal.write-requires
+write-requires c = c.fill.ensures.within
+
 pub returns : goal.returns
-returns c =
-    λ A bits. writes_alike _ _ _ _ _ _ _ _ _ _ (c.fill-counts.ensures.task A bits) (c.fill-counts.ensures.origins A bits) c.write.ensures
+returns c = λ A bits. writes_alike _ _ _ _ _ _ _ _ _ _ (c.fill.ensures.task A bits) (c.fill.ensures.origins A bits) c.write.ensures

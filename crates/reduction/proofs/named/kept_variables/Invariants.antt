@@ -1,7 +1,6 @@
 -- The loop's invariant: the numbers so far are those chosen before `v`.
-use Prim.Native.Nat.{◌-◌, ◌≤◌}
+use Prim.Native.Nat.{◌≤◌}
 use mathlib.Core.Path.{◌≡◌}
-use lib.ListN.{length}
 use Rattle.files.specs.Below.{chosen_below}
 use Rattle.files.specs.Dense.{row_numbers}
 use Rattle.reduction.specs.Dense.{keeps_at}
@@ -9,12 +8,4 @@ use Rattle.reduction.proofs.named.kept_variables.Given as goal
 
 abbrev pub invariant-loop-v : goal.invariant-loop-v
 invariant-loop-v l =
-    (row_numbers l.numbers 0 l.count ≡ chosen_below l.v (keeps_at l.named l.changed l.starts))
-    × (l.count ≤ l.v)
-    × (l.v ≤ l.scope.variables)
-    × (l.scope.variables ≤ 64)
-    × (64 ≤ length l.numbers)
-    × (length l.numbers ≡ length l.initial.numbers)
-
-abbrev pub decreases-loop-v : goal.decreases-loop-v
-decreases-loop-v l = l.scope.variables - l.v
+    (row_numbers l.numbers 0 l.count ≡ chosen_below l.v (keeps_at l.named l.changed l.starts)) × (l.count ≤ l.v)

@@ -8,10 +8,10 @@ use Rattle.reduction.proofs.named.named_facts.Goals as goal
 pub returns : goal.returns
 unfolding named_at
 returns c =
-    let a = c.args in
+    let t = c.args.task.now in
     fresh_marks_twice 2048
-    (row_names false a.goal.now 0 a.sizes.now a.scope.variables)
-    (names_anew false a.conditions.now a.sizes.now a.scope.variables a.kept.now unmarked a.scope.actions)
+    (row_names false t.goal 0 t.sizes t.variables)
+    (names_anew false t.conditions t.sizes t.variables c.args.kept.now unmarked t.actions)
     _ _
     c.name_row.ensures
     c.gain_facts.ensures

@@ -1,5 +1,4 @@
 -- The loop's invariant: no value before `d` is named and other than the start value.
-use Prim.Native.Nat.{◌-◌, ◌≤◌}
 use mathlib.Core.Path.{◌≡◌}
 use mathlib.Core.Bool.{false, not, ◌&&◌}
 use lib.Dec.{eqb}
@@ -8,8 +7,4 @@ use Rattle.reduction.specs.Dense.{named_value}
 use Rattle.reduction.proofs.named.other_named.Given as goal
 
 abbrev pub invariant-loop-d : goal.invariant-loop-d
-invariant-loop-d l =
-    (any_below l.d (λ k. named_value l.named l.v k && not (eqb k l.start)) ≡ false) × (l.d ≤ 32)
-
-abbrev pub decreases-loop-d : goal.decreases-loop-d
-decreases-loop-d l = 32 - l.d
+invariant-loop-d l = any_below l.d (λ k. named_value l.named l.v k && not (eqb k l.start)) ≡ false

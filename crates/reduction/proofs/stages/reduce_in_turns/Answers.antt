@@ -1,64 +1,32 @@
 -- Marking, turns, then both files: a stage that is refused ends the row.
-use Prim.Native.Nat.{ℕ, ◌≤◌}
-use mathlib.Core.Path.{◌≡◌, refl, sym, ap, subst, ◌∙◌}
-use native.Mathlib.Omega.{arith}
-use Rattle.files.specs.Dense.{Arrays, held, arrays}
-use Rattle.files.proofs.HeldTask.{actions_held}
-use Rattle.files.proofs.Valid.{Valid, task_valid}
-use Rattle.marking.specs.Mark.{MarkBuffers}
-use Rattle.marking.proofs.MarkRow.{marks_left}
-use Rattle.reduction.specs.Filled.{Marks}
-use Rattle.reduction.specs.ReducedBy.{kept_at}
+use mathlib.Core.Path.{refl, sym, ◌∙◌}
+use Rattle.files.specs.Dense.{held}
 use Rattle.reduction.proofs.Levels.{five_turns}
-use Rattle.reduction.proofs.ReduceStages.{kept_bits, marks_room, marks_in_turns, turned_writes, marks_refused, files_refused, files_written}
-use borrow.Author.Rules.{rules}
+use Rattle.reduction.proofs.ReduceStages.{reduced_err, kept_marks, marks_within, marks_in_turns, turned_writes, marks_refused, files_refused, files_written}
 use Rattle.reduction.proofs.stages.reduce_in_turns.Goals as goal
 
-pub returns-then-first-ne0 : goal.returns-then-first-ne0
-returns-then-first-ne0 c =
-    let task : Arrays = arrays c.args.scope.variables c.args.scope.actions c.args.sizes.now c.args.starts.now c.args.goal.now c.args.costs.now c.args.conditions.now c.args.effects.now in
-    marks_refused (held task) 5 _ _ _ _ _ (marks_in_turns (held task) _ c.requires.fourth c.mark_task-marked.ensures) c.if-first-ne0.true _ c.refused.ensures
+pub returns-in_err-marked : goal.returns-in_err-marked
+returns-in_err-marked c =
+    let e = c.in_err-marked.field-0.0 in
+    marks_refused (held c.args.task.now) 5 _ _ _ _ _ (marks_in_turns _ _ refl c.in_err-marked.ensures) e refl _ (reduced_err _ e c.from_residual.ensures.1)
 
 pub kept_actions-kept-requires : goal.kept_actions-kept-requires
-kept_actions-kept-requires c =
-    let task : Arrays = arrays c.args.scope.variables c.args.scope.actions c.args.sizes.now c.args.starts.now c.args.goal.now c.args.costs.now c.args.conditions.now c.args.effects.now in
-    let valid : Valid (held task) = task_valid (held task) c.requires.accepted in
-    let actions_few : c.args.scope.actions ≤ 512 = omega (arith, valid.actions_few, actions_held task) in
-    record {
-      few = actions_few;
-      within = marks_room task valid c.args.scope.level _ _ (ap (λ (b : MarkBuffers). b.actions) (marks_left _ _ _ _ _ c.mark_task-marked.ensures c.if-first-ne0.false));
-    }
+kept_actions-kept-requires c = marks_within c.args.task.now c.requires _ _ _ _ c.in_ok-marked.ensures refl
 
-pub run-turned-requires : goal.run-turned-requires
-run-turned-requires c =
-    let task : Arrays = arrays c.args.scope.variables c.args.scope.actions c.args.sizes.now c.args.starts.now c.args.goal.now c.args.costs.now c.args.conditions.now c.args.effects.now in
-    let valid : Valid (held task) = task_valid (held task) c.requires.accepted in
-    let kept_marks : c.mark_task-marked.result.outcome.number ≡ 0 → Marks c.kept_actions-kept.result c.args.scope.actions (kept_at (held task) 4) = λ z. subst (λ (l : ℕ). Marks c.kept_actions-kept.result c.args.scope.actions (kept_at (held task) l)) c.requires.fourth
-    (λ a l.
-    c.kept_actions-kept.ensures a l
-    ∙ kept_bits task valid c.args.scope.level _ _ (ap (λ (b : MarkBuffers). b.actions) (marks_left _ _ _ _ _ c.mark_task-marked.ensures z)) a (omega (arith, actions_held task))) in
-    record { accepted = c.requires.accepted; marks = kept_marks c.if-first-ne0.false }
+pub run-turns-requires : goal.run-turns-requires
+run-turns-requires c =
+    record { accepted = c.requires; marks = kept_marks c.args.task.now c.requires _ _ _ _ c.in_ok-marked.ensures refl _ c.kept_actions-kept.ensures }
 
-pub shape_of-actions-then-second-ne0 : goal.shape_of-actions-then-second-ne0
-shape_of-actions-then-second-ne0 c = search (rules, c.mark_task-marked)
+pub write-requires : goal.write-requires
+write-requires c = c.run-turns.ensures.within
 
-pub shape_of-facts-then-second-ne0 : goal.shape_of-facts-then-second-ne0
-shape_of-facts-then-second-ne0 c = search (rules, c.mark_task-marked)
-
-pub returns-then-second-ne0 : goal.returns-then-second-ne0
-returns-then-second-ne0 c =
-    let task : Arrays = arrays c.args.scope.variables c.args.scope.actions c.args.sizes.now c.args.starts.now c.args.goal.now c.args.costs.now c.args.conditions.now c.args.effects.now in
-    let passes = c.if-first-ne0.false in
-    files_refused (held task) 5 _ _ _ _ _ (marks_in_turns (held task) _ c.requires.fourth c.mark_task-marked.ensures) passes _ _ _ (turned_writes (held task) c.run-turned.ensures c.write-written.ensures) c.if-second-ne0.true _ c.refused-then-second-ne0.ensures
-
-pub shape_of-actions : goal.shape_of-actions
-shape_of-actions c = search (rules, c.mark_task-marked)
-
-pub shape_of-facts : goal.shape_of-facts
-shape_of-facts c = search (rules, c.mark_task-marked)
+pub returns-in_err-lengths : goal.returns-in_err-lengths
+returns-in_err-lengths c =
+    let e = c.in_err-lengths.field-0.0 in
+    files_refused (held c.args.task.now) 5 _ _ _ _ _ (marks_in_turns _ _ refl c.in_ok-marked.ensures) refl _ _ _
+    (turned_writes _ c.run-turns.ensures c.write.ensures) e c.in_err-lengths.was _ (reduced_err _ e c.from_residual-in_err-lengths.ensures.1)
 
 pub returns : goal.returns
 returns c =
-    let task : Arrays = arrays c.args.scope.variables c.args.scope.actions c.args.sizes.now c.args.starts.now c.args.goal.now c.args.costs.now c.args.conditions.now c.args.effects.now in
-    let passes = c.if-first-ne0.false in
-    files_written (held task) 5 _ _ _ _ _ (marks_in_turns (held task) _ c.requires.fourth c.mark_task-marked.ensures) passes _ _ _ (turned_writes (held task) c.run-turned.ensures c.write-written.ensures) c.if-second-ne0.false _ c.done.ensures _ (c.run-turned.ensures.count ∙ sym (five_turns (held task) 5 refl))
+    files_written (held c.args.task.now) 5 _ _ _ _ _ (marks_in_turns _ _ refl c.in_ok-marked.ensures) refl _ _ _
+    (turned_writes _ c.run-turns.ensures c.write.ensures) _ c.in_ok-lengths.was _ (c.run-turns.ensures.count ∙ sym (five_turns _ 5 refl))
