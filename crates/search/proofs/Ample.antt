@@ -8,11 +8,10 @@ use mathlib.Core.Option.{none, some}
 use native.Mathlib.Omega.{arith}
 use lib.ListN.{length, length-append}
 use borrow.Author.Tests.{leb-true}
-use Rattle.files.specs.declared.Outcome.{Outcome}
+use Rattle.files.specs.Outcome.{Outcome, done, is_done, guard, and_then, fits}
 use Rattle.files.specs.Accepted.{accepted_task}
 use Rattle.files.specs.Bytes.{Octets}
 use Rattle.files.specs.OriginFile.{variable_origin_bytes, origin_file}
-use Rattle.files.specs.Outcome.{done, is_done, guard, and_then, fits}
 use Rattle.files.specs.PlanFile.{plan_file}
 use Rattle.files.specs.Stages.{outcome_of}
 use Rattle.files.specs.Records.{size_fits, number_bytes, record_bytes, signer_of}

@@ -5,9 +5,8 @@ use mathlib.Core.Bool.{true}
 use mathlib.Core.List.{List, [], ◌∷◌, map}
 use mathlib.Core.Option.{Option, none, some, get_or}
 use lib.ListN.{length}
-use Rattle.files.specs.declared.Outcome.{Outcome}
+use Rattle.files.specs.Outcome.{Outcome, and_then, fits}
 use Rattle.files.specs.Listed.{Refusal, refused_at, short, listed, file_refusals}
-use Rattle.files.specs.Outcome.{and_then, fits}
 use Rattle.files.specs.PlanFile.{plan_file}
 use Rattle.files.specs.Stages.{beside, outcome_of}
 use Rattle.files.specs.Task.{action_count, fact_count}

@@ -20,9 +20,11 @@ use Rattle.plans.proofs.RowStates.{meets_some, after_none, after_some, meets_at,
 use Rattle.distances.specs.States.{state_number, state_at}
 use Rattle.distances.specs.Table.{next_state}
 use Rattle.distances.specs.Rows.{row_variables, row_states, row_state, can_reach}
-use Rattle.lookup.specs.Moves.{row_weight, weighted, set_by, asked_of, set_freely}
+use Rattle.lookup.specs.Moves.{no_move, row_weight, weighted, set_by, asked_of, set_freely}
 use Rattle.bits.specs.Sets.{in_word, in_words}
 use Rattle.lookup.specs.FactRows.{most_facts, fact_number, leads_to_fact}
+use Rattle.lookup.specs.declared.moves.Move.{Move}
+use Rattle.search.specs.declared.first_plan.Here.{Here}
 use Rattle.search.specs.ReadOff.{StepTables, Stepped, HereOf, freed_by, taken_by, goes_by, CanGo}
 use Rattle.distances.proofs.RowNumbers.{RowInside, number_sum, state_alike}
 use Rattle.distances.proofs.StateLoops.{after_inside, after_number}
@@ -31,11 +33,11 @@ use Rattle.distances.proofs.Predecessors.{reach_at}
 use Rattle.distances.proofs.FactRowLaws.{all_same, reach_holds}
 
 -- what the variables in the set of a word add
-freed_other : (here : List ℕ) (word v : ℕ) → in_word word v ≡ false → freed_by here word (suc v) ≡ freed_by here word v
+freed_other : (here : Here) (word v : ℕ) → in_word word v ≡ false → freed_by here word (suc v) ≡ freed_by here word v
 unfolding freed_by
-freed_other here word v e = let term : cond (in_word word v) (get_or here (8 + v) 0) 0 ≡ 0 = rw e refl in omega (arith, term)
+freed_other here word v e = let term : cond (in_word word v) (get_or here.added v 0) 0 ≡ 0 = rw e refl in omega (arith, term)
 
-freed_skip : (here : List ℕ) (word from r : ℕ) → from ≤ r → ((k : ℕ) → from ≤ k → k < r → in_word word k ≡ false) → freed_by here word r ≡ freed_by here word from
+freed_skip : (here : Here) (word from r : ℕ) → from ≤ r → ((k : ℕ) → from ≤ k → k < r → in_word word k ≡ false) → freed_by here word r ≡ freed_by here word from
 freed_skip here word from zero l h = let is : from ≡ 0 = omega arith in ap (freed_by here word) (sym is)
 freed_skip here word from (suc r) l h =
     split_le from r
@@ -71,7 +73,7 @@ module _ (sizes conditions effects : List ℕ) (base : ℕ) (s : State) where
   balance (suc n) met = omega (arith, one_balance n (met n (omega arith)), balance n (λ v h. met v (omega arith)))
 
 -- an action of the tables, from a state
-module _ (n actions : ℕ) (sizes costs conditions effects rows moves : List ℕ) (tables : StepTables n actions sizes costs conditions effects rows moves) (s : ℕ) (here : List ℕ)
+module _ (n actions : ℕ) (sizes costs conditions effects rows : List ℕ) (moves : List Move) (tables : StepTables n actions sizes costs conditions effects rows moves) (s : ℕ) (here : Here)
     (known : HereOf n sizes rows s here) (below : s < row_states n sizes) (a : ℕ) (inside : a < actions) where
   abbrev state : State
   state = row_state n sizes s
@@ -79,7 +81,7 @@ module _ (n actions : ℕ) (sizes costs conditions effects rows moves : List ℕ
   abbrev after : State
   after = after_row effects (64 * a) state
 
-  applies : in_words here 0 a ≡ in_words rows (8 * most_facts) a && all_hold (row_pairs conditions (64 * a) 0 n) state
+  applies : in_words here.actions 0 a ≡ in_words rows (8 * most_facts) a && all_hold (row_pairs conditions (64 * a) 0 n) state
   unfolding can_reach leads_to_fact
   applies =
       known.actions_are a (omega (arith, tables.asked.actions_few))
@@ -90,37 +92,37 @@ module _ (n actions : ℕ) (sizes costs conditions effects rows moves : List ℕ
 
   -- the variables that it sets freely
   abbrev free_word : ℕ
-  free_word = get_or moves (3 * a + 2) 0
+  free_word = (get_or moves a no_move).free
 
   freed_variables : freed_by here free_word n ≡ sum_below n (free_at sizes conditions effects (64 * a) state)
   unfolding freed_by
   freed_variables =
-      sum_alike n (λ v. cond (in_word free_word v) (get_or here (8 + v) 0) 0) (free_at sizes conditions effects (64 * a) state)
+      sum_alike n (λ v. cond (in_word free_word v) (get_or here.added v 0) 0) (free_at sizes conditions effects (64 * a) state)
       (λ v h.
-      let free = tables.moves_are.free a v inside (omega (arith, tables.asked.variables_few)) ∙ ap (λ (b : Bool). b && set_freely conditions effects (64 * a) v) (lt-ltb v n h) in
+      let free = (tables.moves_are a inside).free v (omega (arith, tables.asked.variables_few)) ∙ ap (λ (b : Bool). b && set_freely conditions effects (64 * a) v) (lt-ltb v n h) in
       ap₂ (λ (b : Bool) (x : ℕ). cond b x 0) free (known.added v h))
 
   freed_is : freed_by here free_word 64 ≡ sum_below n (free_at sizes conditions effects (64 * a) state)
   freed_is =
       freed_skip here free_word n 64 tables.asked.variables_few
-      (λ k b c. tables.moves_are.free a k inside c ∙ ap (λ (x : Bool). x && set_freely conditions effects (64 * a) k) (le-ltb k n b))
+      (λ k b c. (tables.moves_are a inside).free k c ∙ ap (λ (x : Bool). x && set_freely conditions effects (64 * a) k) (le-ltb k n b))
       ∙ freed_variables
 
   -- the number after it
-  module _ (yes : in_words here 0 a ≡ true) where
+  module _ (yes : in_words here.actions 0 a ≡ true) where
     met : (v : ℕ) → v < n → meets_at conditions (64 * a) state v ≡ true
     met = all_below_elim n (meets_at conditions (64 * a) state) (sym (hold_below conditions (64 * a) state n) ∙ (and_split (in_words rows (8 * most_facts) a) _ (sym applies ∙ yes)).1)
 
-    after_balance : weighted sizes after n + taken_by here moves a ≡ s + get_or moves (3 * a) 0
+    after_balance : weighted sizes after n + taken_by here moves a ≡ s + (get_or moves a no_move).set
     unfolding taken_by
     after_balance =
-        omega (arith, balance sizes conditions effects (64 * a) state n met, freed_is, tables.moves_are.asked a inside, tables.moves_are.set a inside, number_weights sizes n tables.asked.size_least s below)
+        omega (arith, balance sizes conditions effects (64 * a) state n met, freed_is, (tables.moves_are a inside).asked, (tables.moves_are a inside).set, number_weights sizes n tables.asked.size_least s below)
 
     goes_number : goes_by here moves s a ≡ weighted sizes after n
     unfolding goes_by
     goes_number = rw yes (omega (arith, after_balance))
 
-  pub goes_nowhere : in_words here 0 a ≡ false → goes_by here moves s a ≡ s
+  pub goes_nowhere : in_words here.actions 0 a ≡ false → goes_by here moves s a ≡ s
   unfolding goes_by
   goes_nowhere e = rw e refl
 
@@ -136,20 +138,20 @@ module _ (n actions : ℕ) (sizes costs conditions effects rows moves : List ℕ
       record {
         action_few = omega (arith, tables.asked.actions_few);
         state_few = omega (arith, tables.asked.states_few);
-        set_few = omega (arith, tables.moves_are.set a inside, weights_below sizes n tables.asked.size_least (set_by effects (64 * a)) set_inside, tables.asked.states_few);
+        set_few = omega (arith, (tables.moves_are a inside).set, weights_below sizes n tables.asked.size_least (set_by effects (64 * a)) set_inside, tables.asked.states_few);
         enough = λ yes. omega (arith, after_balance yes);
       }
 
   pub goes_below : goes_by here moves s a < row_states n sizes
   goes_below =
-      split (in_words here 0 a)
+      split (in_words here.actions 0 a)
       (λ yes.
       let within = after_inside sizes effects (64 * a) n state (state_inside sizes n tables.asked.size_least s) (λ v. tables.asked.effect_inside a v inside) in
       omega (arith, goes_number yes, weights_below sizes n tables.asked.size_least after within))
       (λ no. omega (arith, goes_nowhere no))
 
 -- an action of the task that the tables hold
-module _ (t : Task) (n actions : ℕ) (sizes costs rows moves : List ℕ) (k : Stepped t n actions sizes costs rows moves) (s : ℕ) (here : List ℕ)
+module _ (t : Task) (n actions : ℕ) (sizes costs rows : List ℕ) (moves : List Move) (k : Stepped t n actions sizes costs rows moves) (s : ℕ) (here : Here)
     (known : HereOf n sizes rows s here) (below : s < row_states n sizes) (a : ℕ) (inside : a < actions) where
   here_state : state_at t.variables s ≡ row_state n sizes s
   unfolding row_state
@@ -161,7 +163,7 @@ module _ (t : Task) (n actions : ℕ) (sizes costs rows moves : List ℕ) (k : S
       ap (λ (x : Action). applicable x (state_at t.variables s)) (k.actions_are a inside)
       ∙ ap (applicable (row_action n costs k.conditions k.effects a)) here_state
 
-  pub applies_is : in_words here 0 a ≡ in_words rows (8 * most_facts) a && applicable (action_of t a) (state_at t.variables s)
+  pub applies_is : in_words here.actions 0 a ≡ in_words rows (8 * most_facts) a && applicable (action_of t a) (state_at t.variables s)
   applies_is =
       applies n actions sizes costs k.conditions k.effects rows moves k.tables s here known below a inside
       ∙ ap (λ (b : Bool). in_words rows (8 * most_facts) a && b) (sym holds_is)
@@ -173,7 +175,7 @@ module _ (t : Task) (n actions : ℕ) (sizes costs rows moves : List ℕ) (k : S
       ∙ ap (λ (vs : List Variable). state_number vs (apply (action_of t a) (row_state n sizes s))) (sym k.variables_are)
       ∙ ap (λ (f : State). state_number t.variables (apply (action_of t a) f)) (sym here_state)
 
-  pub goes_is : in_words here 0 a ≡ true → goes_by here moves s a ≡ next_state t a s
+  pub goes_is : in_words here.actions 0 a ≡ true → goes_by here moves s a ≡ next_state t a s
   goes_is there =
       goes_number n actions sizes costs k.conditions k.effects rows moves k.tables s here known below a inside there
       ∙ sym (number_sum sizes k.starts (after_row k.effects (64 * a) (row_state n sizes s)) n)

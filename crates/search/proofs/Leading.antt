@@ -14,6 +14,8 @@ use Rattle.files.proofs.Logic.{clash, split, split_le, and_split, and_join}
 use Rattle.plans.specs.State.{applicable}
 use Rattle.distances.specs.States.{state_at}
 use Rattle.distances.specs.Table.{Distance, minutes_of, same, step_to, next_state, through, distances, entry_of}
+use Rattle.lookup.specs.declared.moves.Move.{Move}
+use Rattle.search.specs.declared.first_plan.Here.{Here}
 use Rattle.search.specs.FirstPlan.{first_action}
 use Rattle.distances.specs.declared.Entry.{Entry}
 use Rattle.distances.specs.Entries.{is_none, entry_total, same_entry, after_step, Low}
@@ -21,7 +23,7 @@ use Rattle.distances.specs.Rows.{row_states}
 use Rattle.bits.specs.Sets.{in_words}
 use Rattle.lookup.specs.FactRows.{most_facts, costs_within}
 use Rattle.search.specs.declared.first_plan.Step.{Step}
-use Rattle.search.specs.declared.stages.Searched.{Searched}
+use Rattle.search.specs.ReadOff.{Searched}
 use Rattle.search.specs.ReadOff.{goes_by, CanStepFrom, StepFrom, has_by, CanCompare, HasBy, LooksOn, CanLead, Leads, FirstLed}
 use Rattle.search.proofs.Going.{goes_below, goes_nowhere, applies_is, goes_is}
 use Rattle.distances.proofs.DistanceLaws.{some_none, add_step_minutes}
@@ -34,7 +36,7 @@ dear_not_same : (a : Action) (y : Entry) (d e : Distance) → e ≡ some (entry_
 dear_not_same a y d e q dear = minutes_not_same a y d e q (λ total w m. omega (arith, dear, m, add_step_minutes a total))
 
 -- whether a state has its entry by way of an action, as the code finds it
-module _ (t : Task) (look : ℕ → Entry) (searched : Searched) (s : ℕ) (here costs moves : List ℕ) (k : Leads t look searched s here costs moves) where
+module _ (t : Task) (look : ℕ → Entry) (searched : Searched) (s : ℕ) (here : Here) (costs : List ℕ) (moves : List Move) (k : Leads t look searched s here costs moves) where
   own_distance : get_or (distances t) s none ≡ some (entry_total (look s))
   own_distance = some_distance (look s) (get_or (distances t) s none) (k.entries_are s k.below) k.own_near
 
@@ -55,11 +57,11 @@ module _ (t : Task) (look : ℕ → Entry) (searched : Searched) (s : ℕ) (here
       ap (λ (d : Distance). same d (get_or (distances t) s none)) (through_applicable t (distances t) s a e)
       ∙ sym (dear_not_same (action_of t a) (look s) (get_or (distances t) (next_state t a s) none) (get_or (distances t) s none) own_distance dear)
 
-  words_are : (a : ℕ) → a < searched.actions → in_words here 0 a ≡ in_words k.rows (8 * most_facts) a && applicable (action_of t a) (state_at t.variables s)
+  words_are : (a : ℕ) → a < searched.actions → in_words here.actions 0 a ≡ in_words k.rows (8 * most_facts) a && applicable (action_of t a) (state_at t.variables s)
   words_are a h = applies_is t searched.variables searched.actions k.sizes costs k.rows moves k.stepped s here k.here_of k.below a h
 
   -- one that the words pass over: not applicable, or too dear
-  passed_over : (a : ℕ) → a < searched.actions → in_words here 0 a ≡ false → tight t (distances t) s a ≡ false
+  passed_over : (a : ℕ) → a < searched.actions → in_words here.actions 0 a ≡ false → tight t (distances t) s a ≡ false
   unfolding costs_within
   passed_over a h e =
       split (applicable (action_of t a) (state_at t.variables s))
@@ -77,7 +79,7 @@ module _ (t : Task) (look : ℕ → Entry) (searched : Searched) (s : ℕ) (here
     below_is =
         omega (arith, goes, goes_below searched.variables searched.actions k.sizes costs k.stepped.conditions k.stepped.effects k.rows moves k.stepped.tables s here k.here_of k.below a h)
 
-    has_not : in_words here 0 a ≡ false → has_by (action_of t a) next (look s) ≡ tight t (distances t) s a
+    has_not : in_words here.actions 0 a ≡ false → has_by (action_of t a) next (look s) ≡ tight t (distances t) s a
     unfolding has_by
     has_not e =
         let same_state : n ≡ s =
@@ -86,7 +88,7 @@ module _ (t : Task) (look : ℕ → Entry) (searched : Searched) (s : ℕ) (here
         ∙ rw k.own_near (step_other (action_of t a) (look s))
         ∙ sym (passed_over a h e)
 
-    module _ (yes : in_words here 0 a ≡ true) where
+    module _ (yes : in_words here.actions 0 a ≡ true) where
       e : applicable (action_of t a) (state_at t.variables s) ≡ true
       e = (and_split (in_words k.rows (8 * most_facts) a) _ (sym (words_are a h) ∙ yes)).1
 
@@ -113,11 +115,11 @@ module _ (t : Task) (look : ℕ → Entry) (searched : Searched) (s : ℕ) (here
 
     has_is : has_by (action_of t a) next (look s) ≡ tight t (distances t) s a
     has_is =
-        split (in_words here 0 a) (λ yes. split (is_none next) (has_far yes) (has_near yes)) has_not
+        split (in_words here.actions 0 a) (λ yes. split (is_none next) (has_far yes) (has_near yes)) has_not
 
   -- an action by which the state has its entry is not passed over
-  pub not_passed : (a : ℕ) → a < searched.actions → tight t (distances t) s a ≡ true → in_words here 0 a ≡ true
-  not_passed a h e = split (in_words here 0 a) (λ yes. yes) (λ no. clash e (passed_over a h no))
+  pub not_passed : (a : ℕ) → a < searched.actions → tight t (distances t) s a ≡ true → in_words here.actions 0 a ≡ true
+  not_passed a h e = split (in_words here.actions 0 a) (λ yes. yes) (λ no. clash e (passed_over a h no))
 
   -- the first of all, where none before it is
   first_is : (a : ℕ) → a < searched.actions → tight t (distances t) s a ≡ true → ((b : ℕ) → b < a → tight t (distances t) s b ≡ false) → a ≡ first_action t (distances t) s 0 (action_count t)
@@ -128,12 +130,12 @@ module _ (t : Task) (look : ℕ → Entry) (searched : Searched) (s : ℕ) (here
       (λ q. clash f.passes (before (first_action t (distances t) s 0 (action_count t)) q))
 
 -- the actions before this step's were looked at in vain
-pub record Led (look : ℕ → Entry) (searched : Searched) (s : ℕ) (here costs moves : List ℕ) (step : Step) : Type 0 where
+pub record Led (look : ℕ → Entry) (searched : Searched) (s : ℕ) (here : Here) (costs : List ℕ) (moves : List Move) (step : Step) : Type 0 where
   pub below : step.action.0 < searched.actions
   pub goes : step.next ≡ goes_by here moves s step.action.0
   pub before : (t : Task) → Leads t look searched s here costs moves → (b : ℕ) → b < step.action.0 → tight t (distances t) s b ≡ false
 
-module _ (look : ℕ → Entry) (searched : Searched) (s : ℕ) (here costs moves : List ℕ) (asked : CanLead look searched s here costs moves) where
+module _ (look : ℕ → Entry) (searched : Searched) (s : ℕ) (here : Here) (costs : List ℕ) (moves : List Move) (asked : CanLead look searched s here costs moves) where
   from : (a : ℕ) → a < searched.actions → CanStepFrom searched a s here moves
   from a h = record { actions_few = asked.actions_few; goes = asked.goes; more = h }
 

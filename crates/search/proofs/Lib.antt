@@ -8,7 +8,6 @@ pub mod FoundLaws
 pub mod StageLaws
 pub mod PlanFiles
 pub mod SearchLaws
-pub mod TableFilling
 pub mod FirstBits
 pub mod Going
 pub mod HereLoops

@@ -11,10 +11,9 @@ use lib.Dec.{eqb, leb}
 use lib.ListN.{length, take, get_or, length-map, get_or-append}
 use lib.Seq.{take-append_seam}
 use borrow.Author.Tests.{le-leb, eqb-true}
-use Rattle.files.specs.declared.Outcome.{Outcome}
+use Rattle.files.specs.Outcome.{Outcome, done, refusal, is_done, and_then, overwrite}
 use Rattle.files.specs.Accepted.{valid_signer, accepted_task, accepted_plan}
 use Rattle.files.specs.Bytes.{Octets}
-use Rattle.files.specs.Outcome.{done, refusal, is_done, and_then, overwrite}
 use Rattle.files.specs.PlanFile.{plan_file}
 use Rattle.files.specs.Reading.{read_plan, under}
 use Rattle.files.specs.Stages.{Stage, beside, outcome_of, left_by, answer_by}
@@ -36,11 +35,10 @@ use Rattle.reduction.specs.Preserved.{Preserves}
 use Rattle.reduction.proofs.Answers.{stages_fit, buffers_fit}
 use Rattle.reduction.proofs.Levels.{reduction_preserves, reduction_accepted}
 use Rattle.distances.specs.declared.Entry.{Entry}
-use Rattle.search.specs.declared.Planned.{Planned}
+use Rattle.search.specs.Planner.{Planned, valid_planning, taken_level, count_fits, searched, plan_found, states_fit, plan_fits, plan_made, SearchBuffers, search_buffers, search_stages, Lent, lent, unplanned, plan_stages, plan_whole, plan_answer, plan_after, Plans}
 use Rattle.distances.specs.States.{state_count}
 use Rattle.search.specs.FirstPlan.{first_plan}
 use Rattle.search.specs.Least.{started_at, DistanceLeast, PlanFirst}
-use Rattle.search.specs.Planner.{valid_planning, taken_level, count_fits, searched, plan_found, states_fit, plan_fits, plan_made, SearchBuffers, search_buffers, search_stages, Lent, lent, unplanned, plan_stages, plan_whole, plan_answer, plan_after, Plans}
 use Rattle.search.specs.PlannerRight.{PlanLongEnough, HandedBack, EntryRight, PlannerRight, PlannerPromise, PlansRight}
 use Rattle.distances.specs.Table.{minutes_of, distances, entry_of, table_of}
 use Rattle.search.proofs.Answers.{row_is}

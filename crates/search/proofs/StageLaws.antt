@@ -13,13 +13,18 @@ use borrow.Author.Tests.{le-leb}
 use Rattle.files.specs.Accepted.{valid_signer, accepted_task}
 use Rattle.files.specs.Bytes.{Octets}
 use Rattle.files.specs.OriginFile.{Origin, origin_of}
-use Rattle.files.specs.Outcome.{done, is_done, overwrite}
+use Rattle.std.specs.Prelude.{Result, Ok, Err}
+use Rattle.std.specs.Result.{IsErrAnd}
+use Rattle.std.proofs.lemmas.Result.{err_from_is_err_and}
+use Rattle.search.specs.declared.Counts.{Counts}
+use Rattle.files.specs.declared.refusals.Refusal.{Refusal}
+use Rattle.files.specs.Outcome.{done, refused, is_done, overwrite}
 use Rattle.files.specs.PlanFile.{plan_file}
 use Rattle.files.specs.Stages.{Stage, outcome_of, left_by, answer_by}
 use Rattle.files.specs.Task.{Task, action_count}
 use Rattle.files.specs.TaskFile.{check_task, task_of}
-use Rattle.files.proofs.Guards.{is_done_lem, is_refused, done_number, passed, both_done}
-use Rattle.files.proofs.Logic.{clash, split, split_option, and_join}
+use Rattle.files.proofs.Guards.{is_done_lem, refused_stands, done_number, passed, both_done}
+use Rattle.files.proofs.Logic.{split, split_option, and_join}
 use Rattle.files.proofs.OriginRoundTrip.{origin_read_as}
 use Rattle.files.proofs.Stages.{left_last, by_first, by_second, given_whole, given_refused}
 use Rattle.files.proofs.TaskChecked.{task_accepted}
@@ -27,45 +32,45 @@ use Rattle.files.proofs.TaskRoundTrip.{task_read_as}
 use Rattle.files.proofs.Listed.{task_check_done}
 use Rattle.files.proofs.Valid.{Valid, task_valid}
 use Rattle.plans.specs.Plan.{IsPlan, total_of}
-use Rattle.reduction.specs.declared.Reduced.{Reduced}
+use Rattle.reduction.specs.Reduce.{Reduced, Buffers, with_files, reduced_file, origins_file, valid_reduction, reduce_input, reduce_stages, reduce_file_stages, reduce_whole, Reduces}
 use Rattle.reduction.specs.Task.{reduced_task, origins_at, by_original}
-use Rattle.reduction.specs.Reduce.{Buffers, with_files, reduced_file, origins_file, valid_reduction, reduce_input, reduce_stages, reduce_file_stages, reduce_whole, Reduces}
 use Rattle.reduction.specs.Preserved.{FilesPreserve, by_origin_file}
 use Rattle.reduction.proofs.FilesPreserved.{reduction_of_files}
 use Rattle.reduction.proofs.Levels.{reduction_preserves, reduction_accepted}
-use Rattle.search.specs.declared.Planned.{Planned}
-use Rattle.search.specs.declared.stages.Found.{Found}
+use Rattle.search.specs.Planner.{Planned, taken_level, searched, searched_states, plan_found, plan_made, states_fit, plan_fits, SearchBuffers, search_buffers, search_stages, lent, unplanned, planned_of, plan_whole, plan_stages, Plans}
+use Rattle.search.specs.declared.stages.PlanFound.{PlanFound}
+use Rattle.distances.specs.declared.Entry.{Entry}
+use Rattle.search.specs.Found.{Found, found_of}
 use Rattle.search.specs.FirstPlan.{first_plan, found_plan}
 use Rattle.search.specs.Least.{PlanFirst}
-use Rattle.search.specs.Planner.{taken_level, searched, searched_states, plan_found, plan_made, states_fit, plan_fits, SearchBuffers, search_stages, lent, unplanned, plan_whole, plan_stages, Plans}
-use Rattle.search.specs.Found.{found_states, found_whole, not_found, Searches, FilesWritten, CanSearchFiles, SearchesFiles, both_together}
+use Rattle.search.specs.Found.{found_states, found_whole, not_found, Searches, FilesWritten, SearchesFiles, both_together}
 use Rattle.search.proofs.FoundLaws.{plan_is}
 use Rattle.search.proofs.LeastPlans.{search_least}
 
-module _ (first : Reduced) (found : Found) where
-  pub together_refused : (p : Planned) → p ≡ unplanned found.outcome → (found.outcome.number ≡ 0 → ⊥) → p ≡ both_together first found
-  unfolding both_together
-  together_refused p e d = rw (is_refused found.outcome d) e
+pub together_done : (first : Reduced) (x : PlanFound) (states : ℕ)
+    → record {
+      outcome = done;
+      action_marks = first.action_marks;
+      fact_marks = first.fact_marks;
+      reduced = first.reduced;
+      origin = first.origin;
+      table = x.states;
+      plan = x.plan;
+      rounds = first.rounds;
+      turns = first.turns;
+      cost = x.cost;
+      steps = x.steps;
+    }
+    ≡ both_together first (found_of states (Ok x))
+unfolding both_together is_done
+together_done first x states = refl
 
-  abbrev both_planned : Planned
-  both_planned =
-      record {
-        outcome = found.outcome;
-        action_marks = first.action_marks;
-        fact_marks = first.fact_marks;
-        reduced = first.reduced;
-        origin = first.origin;
-        table = found.states;
-        plan = found.plan;
-        rounds = first.rounds;
-        turns = first.turns;
-        cost = found.cost;
-        steps = found.steps;
-      }
+pub planned_up : (x : Result Counts Refusal) (r : Refusal) → IsErrAnd x (λ y. y ≡ r) → planned_of x ≡ unplanned (refused r)
+planned_up x r h = let p = err_from_is_err_and x h in rw (p.1, p.2) refl
 
-  pub together_done : found.outcome.number ≡ 0 → both_planned ≡ both_together first found
-  unfolding both_together
-  together_done z = rw (is_done_lem found.outcome z) refl
+pub together_refused : (first : Reduced) (states : ℕ) (r : Refusal) → unplanned (refused r) ≡ both_together first (found_of states (Err r))
+unfolding both_together
+together_refused first states r = rw (refused_stands r) refl
 
 module _ (task : List ℕ) (level signer : ℕ) (before : Buffers) (first : Reduced) (after : Buffers) (k : Reduces task (taken_level level) signer before first after) where
   abbrev t : Task
@@ -90,16 +95,12 @@ module _ (task : List ℕ) (level signer : ℕ) (before : Buffers) (first : Redu
       (λ n. is_done_lem (outcome_of files_row) (sym (ap (λ (x : Reduced). x.outcome.number) (given_refused k n)) ∙ z))
 
   -- reduction refuses
-  plans_early : (first.outcome.number ≡ 0 → ⊥) → (b now : SearchBuffers) (found : Found) → found ≡ not_found 0 first.outcome → now ≡ b
-      → (p : Planned) → p ≡ both_together first found → Plans task level signer (lent before b.table b.plan) p (lent after now.table now.plan)
-  unfolding plan_stages both_together
-  plans_early d b now found f same p q =
+  pub plans_early : (first.outcome.number ≡ 0 → ⊥) → (table : List Entry) (plan : List ℕ) → Plans task level signer (lent before table plan) (unplanned first.outcome) (lent after table plan)
+  unfolding plan_stages
+  plans_early d table plan =
       let n = row_refused d in
       let is : first.outcome ≡ outcome_of files_row = ap (λ (x : Reduced). x.outcome) (given_refused k n) in
-      let no : is_done found.outcome ≡ false = ap (λ (x : Found). is_done x.outcome) f ∙ is_refused first.outcome d in
-      by_first files_row (search_stages u (plan_found task taken) signer b) _ _ before n
-      (q ∙ rw no refl ∙ ap unplanned (ap (λ (x : Found). x.outcome) f ∙ is))
-      (λ i. lent (k.buffers i) (same i).table (same i).plan)
+      by_first files_row (search_stages u (plan_found task taken) signer (search_buffers table plan)) _ _ before n (ap unplanned is) (λ i. lent (k.buffers i) table plan)
 
   -- reduction is done: its files say what they should
   module _ (z : first.outcome.number ≡ 0) (octets : Octets task) (small : signer < 2 ^ 32) where
@@ -278,13 +279,11 @@ module _ (task : List ℕ) (level signer : ℕ) (before : Buffers) (first : Redu
           (λ i. lent (filled i) now.table now.plan)
           (record { answer = answer_is p q; buffers = search_buffers_lem })
 
-  module _ (octets : Octets task) (small : signer < 2 ^ 32) where
-    pub can_search_files : CanSearchFiles first after.reduced after.origin
-    can_search_files z = files_written z octets small
+  module _ (octets : Octets task) (small : signer < 2 ^ 32) (z : first.outcome.number ≡ 0) where
+    pub can_search_files : FilesWritten first after.reduced after.origin
+    can_search_files = files_written z octets small
 
-    pub plans_both : (b now : SearchBuffers) (found : Found) → SearchesFiles first after.reduced after.origin signer b found now
-        → (p : Planned) → p ≡ both_together first found → Plans task level signer (lent before b.table b.plan) p (lent after now.table now.plan)
-    plans_both b now found w p q =
-        split (is_done first.outcome)
-        (λ y. let z = done_number first.outcome y in plans_late z octets small b now found (w.searches z) p q)
-        (λ n. let d : first.outcome.number ≡ 0 → ⊥ = λ z. clash (is_done_lem first.outcome z) n in plans_early d b now found (w.refused d).0 (w.refused d).1 p q)
+    pub plans_both : (b now : SearchBuffers) (found : Result PlanFound Refusal) → SearchesFiles first after.reduced after.origin signer b found now
+        → (p : Planned) → p ≡ both_together first (found_of (found_states (task_of (take first.reduced after.reduced)) (length b.table)) found)
+        → Plans task level signer (lent before b.table b.plan) p (lent after now.table now.plan)
+    plans_both b now found w p q = plans_late z octets small b now _ w p q

@@ -20,10 +20,12 @@ use Rattle.plans.specs.State.{all_hold}
 use Rattle.reduction.specs.Preserved.{by_origin_file}
 use Rattle.distances.specs.States.{state_count, state_at}
 use Rattle.distances.specs.Table.{minutes_of, distances, next_state, start_number}
+use Rattle.lookup.specs.declared.moves.Move.{Move}
+use Rattle.search.specs.declared.first_plan.Here.{Here}
 use Rattle.search.specs.FirstPlan.{steps_from, found_plan}
 use Rattle.distances.specs.declared.Entry.{Entry}
 use Rattle.search.specs.declared.first_plan.Step.{Step}
-use Rattle.search.specs.declared.stages.Searched.{Searched}
+use Rattle.search.specs.ReadOff.{Searched}
 use Rattle.distances.specs.Entries.{entry_total}
 use Rattle.distances.specs.Rows.{row_states}
 use Rattle.search.specs.ReadOff.{HereOf, CanKnow, goes_by, CanLead, Leads, FirstLed, CanPut, StepPut, CanStep, StepsToWrite, PlanIn, StepsWritten}
@@ -61,14 +63,14 @@ written_none origin [] buffer at e = refl
 written_none origin (x ∷ xs) buffer at e = absurd (omega (arith, e))
 
 -- i steps are written, and s is the state reached
-pub record Stepping (look : ℕ → Entry) (plan : List ℕ) (steps : ℕ) (searched : Searched) (origin sizes costs rows moves : List ℕ) (s i : ℕ) (buffer : List ℕ) : Type 0 where
+pub record Stepping (look : ℕ → Entry) (plan : List ℕ) (steps : ℕ) (searched : Searched) (origin sizes costs rows : List ℕ) (moves : List Move) (s i : ℕ) (buffer : List ℕ) : Type 0 where
   pub below : 0 < steps → s < row_states searched.variables sizes
   pub room : length buffer ≡ length plan
   pub none_yet : i ≡ 0 → buffer ≡ plan
   pub writing : (t : Task) → PlanIn t look steps searched sizes costs rows moves → Writing t (take searched.named origin) plan steps s i buffer
 
 -- a task whose table and arrays these are
-module _ (t : Task) (look : ℕ → Entry) (steps : ℕ) (searched : Searched) (sizes costs rows moves : List ℕ) (k : PlanIn t look steps searched sizes costs rows moves) where
+module _ (t : Task) (look : ℕ → Entry) (steps : ℕ) (searched : Searched) (sizes costs rows : List ℕ) (moves : List Move) (k : PlanIn t look steps searched sizes costs rows moves) where
   valid : Valid t
   valid = task_valid t k.accepted
 
@@ -121,7 +123,7 @@ module _ (t : Task) (look : ℕ → Entry) (steps : ℕ) (searched : Searched) (
         within_total (look s) w.total (total_is (look s) (get_or (distances t) s none) w.total (k.entries_are s w.inside) w.distance)
         (omega (arith, steps_few t valid s w.total w.inside w.distance, k.few)) (minutes_few t valid s w.total w.inside w.distance)
 
-    leads : (here : List ℕ) → HereOf searched.variables sizes rows s here → Leads t look searched s here costs moves
+    leads : (here : Here) → HereOf searched.variables sizes rows s here → Leads t look searched s here costs moves
     leads here known =
         record {
           sizes = sizes;
@@ -145,7 +147,7 @@ module _ (t : Task) (look : ℕ → Entry) (steps : ℕ) (searched : Searched) (
           one_leads = onward.passes;
         }
 
-    module _ (here : List ℕ) (known : HereOf searched.variables sizes rows s here) (r : Step) (found : FirstLed look searched s here costs moves r) where
+    module _ (here : Here) (known : HereOf searched.variables sizes rows s here) (r : Step) (found : FirstLed look searched s here costs moves r) where
       from_is : r.action.0 ≡ action_from t s
       from_is = found.is t (leads here known)
 
@@ -191,7 +193,7 @@ module _ (t : Task) (look : ℕ → Entry) (steps : ℕ) (searched : Searched) (
       steps_length_within t valid w.limit s w.total w.inside w.distance w.enough ∙ omega (arith, w.left) in
       sym (written_none origin (steps_from t (distances t) s w.limit) buffer (4 + 2 * steps) none_left) ∙ w.rest
 
-module _ (look : ℕ → Entry) (plan : List ℕ) (steps : ℕ) (searched : Searched) (origin sizes costs rows moves : List ℕ) where
+module _ (look : ℕ → Entry) (plan : List ℕ) (steps : ℕ) (searched : Searched) (origin sizes costs rows : List ℕ) (moves : List Move) where
   pub steps_begin : StepsToWrite look plan steps searched origin sizes costs rows moves
       → Stepping look plan steps searched origin sizes costs rows moves searched.start 0 plan
   steps_begin asked =
@@ -224,7 +226,7 @@ module _ (look : ℕ → Entry) (plan : List ℕ) (steps : ℕ) (searched : Sear
         }
 
     module _ (asked : CanStep look plan steps searched origin sizes costs rows moves) (w : Stepping look plan steps searched origin sizes costs rows moves s i buffer) where
-      module _ (more : i < steps) (here : List ℕ) (known : HereOf searched.variables sizes rows s here) where
+      module _ (more : i < steps) (here : Here) (known : HereOf searched.variables sizes rows s here) where
         below_now : (a : ℕ) → a < searched.actions → goes_by here moves s a < row_states searched.variables sizes
         below_now a h =
             goes_below searched.variables searched.actions sizes costs asked.conditions asked.effects rows moves asked.tables s here known (w.below (omega arith)) a h

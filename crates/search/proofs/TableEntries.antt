@@ -5,7 +5,7 @@ use mathlib.Core.Bool.{true, false}
 use mathlib.Core.List.{List}
 use mathlib.Core.Option.{none, some}
 use native.Mathlib.Omega.{arith}
-use lib.ListN.{get_or, length-map}
+use lib.ListN.{length, get_or, length-map}
 use lib.ListN.{get_or-append}
 use Rattle.files.specs.Outcome.{overwrite}
 use Rattle.files.specs.Task.{Task}
@@ -23,7 +23,16 @@ use Rattle.distances.proofs.Radix.{start_below}
 use Rattle.search.proofs.LeastPlans.{first_plan_none}
 use Rattle.distances.proofs.Distances.{distances_length, steps_few, minutes_few}
 
+-- as many entries as states
+pub table_length : (t : Task) → length (table_of t) ≡ state_count t.variables
+unfolding table_of
+table_length t = length-map (distances t) entry_of ∙ distances_length t
+
 -- the front of a lent table
+pub filled_at : (old entries : List Entry) (s : ℕ) → s < length entries → table_entry (overwrite old entries) s ≡ table_entry entries s
+unfolding table_entry overwrite
+filled_at old entries s h = get_or-append entries _ no_entry s h
+
 pub table_entry_lem : (t : Task) (old : List Entry) (s : ℕ) → s < state_count t.variables → table_entry (overwrite old (table_of t)) s ≡ entry_of (get_or (distances t) s none)
 unfolding table_entry overwrite table_of
 table_entry_lem t old s h =

@@ -1,11 +1,10 @@
 -- What the search of one task comes to, its plan written by other numbers; and the search of the files that reduction has written.
-use Rattle.std.specs.Prelude.{ℕ, ◌+◌, ◌*◌, ◌≤◌, ◌<◌, ◌≡◌, true, cond, List, ◌++◌, length, take}
+use Rattle.std.specs.Prelude.{ℕ, ◌+◌, ◌*◌, ◌≤◌, ◌<◌, ◌≡◌, true, cond, List, ◌++◌, length, take, Result, Ok, Err}
 use Rattle.std.proofs.Math.Option.{map}
-use Rattle.files.specs.declared.Outcome.{Outcome}
+use Rattle.files.specs.Outcome.{Outcome, done, refusal, refused, is_done, fits, overwrite}
 use Rattle.files.specs.Accepted.{accepted_task}
-use Rattle.files.specs.Dense.{Arrays, held}
 use Rattle.files.specs.Bytes.{placed, u16_bytes, u32_bytes}
-use Rattle.files.specs.Outcome.{done, refusal, is_done, fits}
+use Rattle.files.specs.declared.refusals.Refusal.{Refusal}
 use Rattle.files.specs.OriginFile.{origin_of, origin_actions_place}
 use Rattle.files.specs.PlanFile.{plan_file}
 use Rattle.files.specs.Records.{record_bytes}
@@ -14,23 +13,32 @@ use Rattle.files.specs.Task.{Task, action_count}
 use Rattle.files.specs.TaskFile.{check_task, task_of}
 use Rattle.plans.specs.Plan.{total_of}
 use Rattle.reduction.specs.Preserved.{by_origin_file}
-use Rattle.reduction.specs.Reduce.{Buffers}
-use Rattle.reduction.specs.declared.Reduced.{Reduced}
+use Rattle.reduction.specs.Reduce.{Buffers, Reduced}
 use Rattle.distances.specs.States.{state_count}
 use Rattle.distances.specs.Table.{minutes_of, steps_of, table_of, start_number}
-use Rattle.distances.specs.Entries.{is_none, Holds, table_entry}
+use Rattle.distances.specs.Entries.{is_none, table_entry}
 use Rattle.lookup.specs.FactRows.{CheapRow}
+use Rattle.lookup.specs.declared.moves.Move.{Move}
 use Rattle.search.specs.FirstPlan.{first_plan, found_plan}
-use Rattle.search.specs.ReadOff.{Stepped}
-use Rattle.search.specs.Planner.{states_fit, SearchBuffers, search_stages, unplanned, lent, Plans}
+use Rattle.search.specs.ReadOff.{Searched, Stepped}
+use Rattle.search.specs.Planner.{states_fit, SearchBuffers, search_stages, unplanned, lent, Plans, Planned}
 use Rattle.distances.specs.declared.Entry.{Entry}
-use Rattle.search.specs.declared.Planned.{Planned}
-use Rattle.search.specs.declared.stages.Found.{Found}
-use Rattle.search.specs.declared.stages.Searched.{Searched}
+use Rattle.search.specs.declared.stages.PlanFound.{PlanFound}
+use Rattle.plans.specs.declared.Minutes.{Minutes}
+use Rattle.plans.specs.declared.Steps.{Steps}
 
 -- how many entries of the table are filled
 unfoldable pub found_states : Task → ℕ → ℕ
 found_states t table_room = cond (is_done (states_fit t table_room)) (state_count t.variables) 0
+
+-- what the search of a task comes to: the entries filled, also beside 24 and the plan buffer's 21, and the plan file's length, cost and steps, 0 beside a
+-- refusal
+pub record Found : Type 0 where
+  pub outcome : Outcome
+  pub states : ℕ
+  pub plan : ℕ
+  pub cost : Minutes
+  pub steps : Steps
 
 -- a refusal, with so many entries filled
 abbrev pub not_found : ℕ → Outcome → Found
@@ -47,6 +55,11 @@ found_whole t original signer =
       steps = record { 0 = (total_of t (found_plan t)).steps };
     }
 
+-- the numbers of an answer, beside whose refusal so many entries are filled
+abbrev pub found_of : ℕ → Result PlanFound Refusal → Found
+found_of states (Ok x) = record { outcome = done; states = x.states; plan = x.plan; cost = x.cost; steps = x.steps }
+found_of states (Err r) = not_found states (refused r)
+
 -- the search of a task: what it finds, and what the table and the plan buffer hold now
 abbrev pub Searches : Task → (List ℕ → List ℕ) → ℕ → SearchBuffers → Found → SearchBuffers → Type 0
 Searches t original signer b found now =
@@ -59,30 +72,14 @@ pub record FilesWritten (first : Reduced) (reduced origin : List ℕ) : Type 0 w
   pub checked : check_task (take first.reduced reduced) ≡ done
   pub numbers : action_count (task_of (take first.reduced reduced)) ≤ length (origin_of (take first.origin origin)).actions
 
--- they are written where reduction is done
-abbrev pub CanSearchFiles : Reduced → List ℕ → List ℕ → Type 0
-CanSearchFiles first reduced origin = first.outcome.number ≡ 0 → FilesWritten first reduced origin
-
--- the search of the reduced file's task by the numbers in the origin file; none where reduction refuses
-pub record SearchesFiles (first : Reduced) (reduced origin : List ℕ) (signer : ℕ) (b : SearchBuffers) (found : Found) (now : SearchBuffers) : Type 0 where
-  pub refused : (first.outcome.number ≡ 0 → ⊥) → (found ≡ not_found 0 first.outcome) × (now ≡ b)
-  pub searches : first.outcome.number ≡ 0 → Searches (task_of (take first.reduced reduced)) (by_origin_file (take first.origin origin)) signer b found now
-
--- what is well given, and room for every entry
-pub record CanSearchIn (given : Type 0) (entries : List ℕ) : Type 0 where
-  pub source : given
-  pub room : Holds entries 4096
-
--- arrays of an accepted task, and room for every entry
-abbrev pub CanSearchArrays : Arrays → List ℕ → Type 0
-CanSearchArrays d entries = CanSearchIn (accepted_task (held d) ≡ true) entries
-
--- no search, or one that is refused
-abbrev pub unsearched : Outcome → Searched
-unsearched o = record { outcome = o; states = 0; start = 0; variables = 0; actions = 0; named = 0; place = 0 }
+-- the search of the reduced file's task by the numbers in the origin file
+abbrev pub SearchesFiles : Reduced → List ℕ → List ℕ → ℕ → SearchBuffers → Result PlanFound Refusal → SearchBuffers → Type 0
+SearchesFiles first reduced origin signer b r now =
+    let t = task_of (take first.reduced reduced) in
+    Searches t (by_origin_file (take first.origin origin)) signer b (found_of (found_states t (length b.table)) r) now
 
 -- the table of a task, its steps in arrays, and the actions that cost no more than a best plan
-pub record TableFound (t : Task) (searched : Searched) (entries : List Entry) (sizes costs rows moves : List ℕ) : Type 0 where
+pub record TableFound (t : Task) (searched : Searched) (entries : List Entry) (sizes costs rows : List ℕ) (moves : List Move) : Type 0 where
   pub accepted : accepted_task t ≡ true
   pub few : state_count t.variables ≤ 4096
   pub states : searched.states ≡ state_count t.variables
@@ -91,20 +88,20 @@ pub record TableFound (t : Task) (searched : Searched) (entries : List Entry) (s
   pub cheap : CheapRow searched.actions costs (minutes_of (table_entry entries searched.start)) rows
   pub table : entries ≡ table_of t
 
--- the search of the task that arrays hold, for a table of `room` entries
-pub record SearchedIn (t : Task) (room named place : ℕ) (searched : Searched) (entries : List Entry) (sizes costs rows moves : List ℕ) : Type 0 where
-  pub outcome : searched.outcome ≡ states_fit t room
-  pub refused : (searched.outcome.number ≡ 0 → ⊥) → searched ≡ unsearched searched.outcome
-  pub found : searched.outcome.number ≡ 0 → TableFound t searched entries sizes costs rows moves
-  pub named_is : searched.outcome.number ≡ 0 → searched.named ≡ named
-  pub place_is : searched.outcome.number ≡ 0 → searched.place ≡ place
+-- the search of a task in a lent table, whose actions an origin file of so many bytes names in the record at a place: its entries are the front of the table,
+-- which is as it was beside a refusal
+pub record SearchedIn (t : Task) (named place : ℕ) (o : Outcome) (searched : Searched) (table now : List Entry) (sizes costs rows : List ℕ) (moves : List Move) : Type 0 where
+  pub outcome : o ≡ states_fit t (length table)
+  pub untouched : (o.number ≡ 0 → ⊥) → now ≡ table
+  pub front : o.number ≡ 0 → now ≡ overwrite table (take searched.states now)
+  pub found : o.number ≡ 0 → TableFound t searched (take searched.states now) sizes costs rows moves
+  pub named_is : o.number ≡ 0 → searched.named ≡ named
+  pub place_is : o.number ≡ 0 → searched.place ≡ place
 
 -- the same of the reduced file, with the place of the actions' numbers in the origin file
-pub record SearchedFiles (first : Reduced) (reduced origin : List ℕ) (room : ℕ) (searched : Searched) (entries : List Entry) (sizes costs rows moves : List ℕ) : Type 0 where
-  pub refused : (first.outcome.number ≡ 0 → ⊥) → searched ≡ unsearched first.outcome
-  pub searched_in : first.outcome.number ≡ 0
-      → SearchedIn (task_of (take first.reduced reduced)) room first.origin (origin_actions_place (take first.origin origin)) searched entries sizes costs rows moves
-  pub place_few : searched.place < 8589934592
+pub record SearchedFiles (first : Reduced) (reduced origin : List ℕ) (o : Outcome) (searched : Searched) (table now : List Entry) (sizes costs rows : List ℕ) (moves : List Move) : Type 0 where
+  pub searched_in : SearchedIn (task_of (take first.reduced reduced)) first.origin (origin_actions_place (take first.origin origin)) o searched table now sizes costs rows moves
+  pub place_few : o.number ≡ 0 → searched.place < 8589934592
 
 -- by the entry of the start state: no plan, or one whose file fits the plan buffer
 unfoldable pub entry_fits : Entry → ℕ → Outcome
@@ -116,30 +113,20 @@ plan_by states e room =
     let o = entry_fits e room in
     cond (is_done o) (record { outcome = done; states = states; plan = 16 + 2 * steps_of e; cost = e.minutes; steps = e.steps }) (not_found states o)
 
-unfoldable pub found_by : Searched → Entry → ℕ → Found
-found_by s e room = cond (is_done s.outcome) (plan_by s.states e room) (not_found 0 s.outcome)
-
--- the head of the plan file, where there is one, and its sign-off
+-- the head of the plan file, where there is one
 unfoldable pub headed : Found → List ℕ → List ℕ
 headed f plan = cond (is_done f.outcome) (placed plan 0 (u16_bytes (2 * f.steps.0) ++ u16_bytes 8)) plan
 
-unfoldable pub signed_off : ℕ → Found → List ℕ → List ℕ
-signed_off signer f plan =
-    let at = 4 + 2 * f.steps.0 in
-    cond (is_done f.outcome) (placed plan at (record_bytes 5 (u32_bytes signer ++ u32_bytes at))) plan
+-- its sign-off behind so many steps
+unfoldable pub signed_off : ℕ → ℕ → List ℕ → List ℕ
+signed_off signer steps plan =
+    let at = 4 + 2 * steps in
+    placed plan at (record_bytes 5 (u32_bytes signer ++ u32_bytes at))
 
--- the answer, and the file begun
-pub record Begins (searched : Searched) (e : Entry) (plan : List ℕ) (r : Found) (now : List ℕ) : Type 0 where
-  pub found : r ≡ found_by searched e (length plan)
-  pub begun : now ≡ headed r plan
-
--- a file that was begun, and the file ended
-abbrev pub CanFinish : Found → List ℕ → Type 0
-CanFinish begun plan = begun.outcome.number ≡ 0 → 16 + 2 * begun.steps.0 ≤ length plan
-
-pub record Finishes (signer : ℕ) (begun : Found) (plan : List ℕ) (r : Found) (now : List ℕ) : Type 0 where
-  pub found : r ≡ begun
-  pub ended : now ≡ signed_off signer begun plan
+-- where so many entries are filled: the answer by the entry of the start state, and the file begun
+pub record Begins (states : ℕ) (e : Entry) (plan : List ℕ) (r : Result PlanFound Refusal) (now : List ℕ) : Type 0 where
+  pub found : found_of states r ≡ plan_by states e (length plan)
+  pub begun : now ≡ headed (found_of states r) plan
 
 -- the answers of reduction and of the search together
 unfoldable pub both_together : Reduced → Found → Planned

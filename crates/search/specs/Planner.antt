@@ -1,9 +1,9 @@
 -- The planner by its stages: what it answers, and what each lent buffer holds after every outcome.
-use Rattle.std.specs.Prelude.{ℕ, Bool, cond, ◌||◌, List, [], ◌∷◌, ◌++◌, map, eqb, leb, length}
+use Rattle.std.specs.Prelude.{ℕ, Bool, cond, ◌||◌, List, [], ◌∷◌, ◌++◌, map, eqb, leb, length, Result, Ok, Err}
 use Rattle.std.proofs.Math.Option
 use Rattle.std.proofs.Math.Option.{Option, none, some, get_or}
-use Rattle.files.specs.declared.Outcome.{Outcome}
-use Rattle.files.specs.Outcome.{done, refusal, guard, fits, overwrite}
+use Rattle.files.specs.Outcome.{Outcome, done, refusal, refused, guard, fits, overwrite}
+use Rattle.files.specs.declared.refusals.Refusal.{Refusal}
 use Rattle.files.specs.Stages.{Stage, stage, beside, left_by, answer_by, ByStages}
 use Rattle.files.specs.Task.{Task, action_count, fact_count}
 use Rattle.files.specs.TaskFile.{task_of}
@@ -16,7 +16,23 @@ use Rattle.distances.specs.States.{state_count}
 use Rattle.distances.specs.Table.{table_of}
 use Rattle.search.specs.FirstPlan.{first_plan}
 use Rattle.distances.specs.declared.Entry.{Entry}
-use Rattle.search.specs.declared.Planned.{Planned}
+use Rattle.search.specs.declared.Counts.{Counts}
+use Rattle.files.specs.declared.units.Minutes.{Minutes}
+use Rattle.files.specs.declared.units.Steps.{Steps}
+
+-- the numbers of an answer: the outcome, the six lengths written, the round count, the turn count, cost and steps, 0 beside a refusal
+pub record Planned : Type 0 where
+  pub outcome : Outcome
+  pub action_marks : ℕ
+  pub fact_marks : ℕ
+  pub reduced : ℕ
+  pub origin : ℕ
+  pub table : ℕ
+  pub plan : ℕ
+  pub rounds : ℕ
+  pub turns : ℕ
+  pub cost : Minutes
+  pub steps : Steps
 
 -- the levels that the planner takes
 unfoldable pub valid_planning : ℕ → Bool
@@ -100,6 +116,24 @@ unplanned o =
       cost = record { 0 = 0 };
       steps = record { 0 = 0 };
     }
+
+-- the numbers of an answer
+abbrev pub planned_of : Result Counts Refusal → Planned
+planned_of (Ok c) =
+    record {
+      outcome = done;
+      action_marks = c.action_marks;
+      fact_marks = c.fact_marks;
+      reduced = c.reduced;
+      origin = c.origin;
+      table = c.table;
+      plan = c.plan;
+      rounds = c.rounds;
+      turns = c.turns;
+      cost = c.cost;
+      steps = c.steps;
+    }
+planned_of (Err r) = unplanned (refused r)
 
 -- the six lengths, the round count and the turn count, and cost and steps of the plan
 abbrev pub plan_whole : List ℕ → ℕ → ℕ → Planned

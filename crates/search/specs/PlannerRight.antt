@@ -14,9 +14,8 @@ use Rattle.reduction.specs.Answers.{LongEnough}
 use Rattle.distances.specs.States.{state_count}
 use Rattle.distances.specs.Table.{minutes_of, steps_of, entry_of}
 use Rattle.search.specs.Least.{started_at}
-use Rattle.search.specs.Planner.{valid_planning, Lent, Plans, plan_answer}
+use Rattle.search.specs.Planner.{valid_planning, Lent, Plans, plan_answer, Planned}
 use Rattle.distances.specs.declared.Entry.{Entry}
-use Rattle.search.specs.declared.Planned.{Planned}
 
 -- the buffers are long enough for the planner: where no plan exists, every plan buffer is
 pub record PlanLongEnough (task : List ℕ) (level signer : ℕ) (b : Lent) : Type 0 where

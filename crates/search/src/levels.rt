@@ -1,7 +1,9 @@
 // The level that the planner takes, and reduction at it.
 ghost use Rattle.std.specs.Prelude.{◌≡◌};
-ghost use Rattle.reduction.specs.Reduce.{buffers, Reduces};
+ghost use Rattle.reduction.specs.Reduce.{buffers, Reduces, reduced_of};
 ghost use Rattle.search.specs.Planner.{taken_level};
+
+use files::refusals::Refusal;
 
 // The level given where the planner takes it, else 0, which reduction refuses.
 fn taken_level(level: u32) -> u32
@@ -25,8 +27,8 @@ pub fn reduce_taken(
     facts: &mut [u8],
     reduced: &mut [u8],
     origin: &mut [u8],
-) -> reduction::Reduced
-    ensures { Reduces task.now (taken_level level) signer (buffers actions.old facts.old reduced.old origin.old) result (buffers actions.new facts.new reduced.new origin.new) }
+) -> Result<reduction::Counts, Refusal>
+    ensures { Reduces task.now (taken_level level) signer (buffers actions.old facts.old reduced.old origin.old) (reduced_of result) (buffers actions.new facts.new reduced.new origin.new) }
 {
     let taken = taken_level(level);
     reduction::reduce(task, taken, signer, actions, facts, reduced, origin)

@@ -8,14 +8,15 @@ pub mod own_table;
 mod stages;
 mod work_table;
 
-ghost use Rattle.search.specs.Planner.{lent_of};
+ghost use Rattle.std.specs.Prelude.{◌≡◌};
+ghost use Rattle.search.specs.Planner.{lent_of, planned_of};
 ghost use Rattle.search.specs.PlannerRight.{PlansRight};
 
-// What the planner answers: the six lengths written, the round count, the turn count, cost and
-// steps, 0 beside a refusal.
-#[derive(Clone, Copy)]
-pub struct Planned {
-    pub outcome: files::Outcome,
+use files::refusals::Refusal;
+
+// What the planner answers: the six lengths written, the round count, the turn count, cost and steps.
+#[derive(Clone, Copy, Debug, PartialEq, Eq)]
+pub struct Counts {
     pub action_marks: usize,
     pub fact_marks: usize,
     pub reduced: usize,
@@ -40,10 +41,21 @@ pub fn plan(
     origin: &mut [u8],
     table: &mut [distances::Entry],
     plan: &mut [u8],
-) -> Planned
-    ensures { PlansRight task.now level signer (lent_of actions.old facts.old reduced.old origin.old table.old plan.old) result (lent_of actions.new facts.new reduced.new origin.new table.new plan.new) }
+) -> Result<Counts, Refusal>
+    ensures { PlansRight task.now level signer (lent_of actions.old facts.old reduced.old origin.old table.old plan.old) (planned_of result) (lent_of actions.new facts.new reduced.new origin.new table.new plan.new) }
 {
-    let first = levels::reduce_taken(task, level, signer, actions, facts, reduced, origin);
-    let found = work_table::search(first, signer, reduced, origin, table, plan);
-    stages::together(first, found)
+    let first = levels::reduce_taken(task, level, signer, actions, facts, reduced, origin)?;
+    let found = work_table::search(&first, signer, reduced, origin, table, plan)?;
+    Ok(Counts {
+        action_marks: first.action_marks,
+        fact_marks: first.fact_marks,
+        reduced: first.reduced,
+        origin: first.origin,
+        table: found.states,
+        plan: found.plan,
+        rounds: first.rounds,
+        turns: first.turns,
+        cost: found.cost,
+        steps: found.steps,
+    })
 }

@@ -12,4 +12,4 @@ after_step-requires c =
     record { low = pre.low (sym c.is_none.ensures ∙ c.if-is_none.false); cost_most = pre.cost_most }
 
 pub returns : goal.returns
-returns c = has_some _ _ c.args.costs.now _ _ c.is_none.ensures c.if-is_none.false _ c.after_step.ensures _ c.same.ensures
+returns c = has_some _ _ c.args.costs.now _ _ c.is_none.ensures c.if-is_none.false _ c.after_step.ensures _ c.is_same.ensures

@@ -3,5 +3,4 @@ use mathlib.Core.Path.{sym}
 use Rattle.search.proofs.levels.reduce_taken.Goals as goal
 
 pub returns : goal.returns
-returns c =
-    rw (sym c.taken_level-taken.ensures) c.reduce.ensures
+returns c = rw (sym c.taken_level-taken.ensures) c.reduce.ensures

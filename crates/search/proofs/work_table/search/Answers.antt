@@ -1,42 +1,45 @@
-use Rattle.std.proofs.Common.{◌≡◌, List, length, rules}
-use mathlib.Core.Path.{sym, ap, subst, ◌∙◌}
-use Rattle.files.specs.Outcome.{overwrite}
+-- A refusal leaves what it found; else the plan's file is begun, written and ended.
+use Rattle.std.proofs.Common.{arith}
+use mathlib.Core.Path.{refl, subst}
+use Rattle.std.specs.Prelude.{Ok, Err}
 use Rattle.distances.specs.declared.Entry.{Entry}
-use Rattle.distances.specs.Entries.{entries_in, table_entry, most_numbers}
-use Rattle.search.specs.Found.{Begins, SearchesFiles}
-use Rattle.search.specs.Planner.{search_buffers}
-use Rattle.search.specs.ReadOff.{StepsToWrite, StepsWritten}
-use Rattle.search.proofs.PlanFiles.{can_finish}
-use Rattle.search.proofs.SearchLaws.{can_fill, can_steps, searches_files}
+use Rattle.search.specs.Found.{Begins, signed_off}
+use Rattle.search.proofs.SearchLaws.{can_steps, can_end, searches_not, searches_refused, searches_done}
 use Rattle.search.proofs.work_table.search.Goals as goal
 
-pub fill-requires : goal.fill-requires
-fill-requires c =
-    let long : length c.search_files-searched.new.entries ≡ most_numbers = search (rules, c.search_files-searched.auto.entries) in
-    can_fill c.args.first c.args.reduced.now c.args.origin.now c.args.table.now c.search_files-searched.result c.search_files-searched.new.entries c.search_files-searched.new.sizes c.search_files-searched.new.costs c.search_files-searched.new.rows c.search_files-searched.new.moves long c.search_files-searched.ensures
+pub returns-in_err-search_files : goal.returns-in_err-search_files
+returns-in_err-search_files c =
+    searches_not _ _ _ _ _ _ _ c.in_err-search_files.field-0.0 _ _ _ _ _ c.in_err-search_files.ensures c.from_residual.result c.from_residual.ensures.1
+
+pub returns-in_err-found : goal.returns-in_err-found
+returns-in_err-found c =
+    let r = c.in_err-found.field-0.0 in
+    searches_refused _ _ _ _ _ _ _ _ _ _ _ c.in_ok-search_files.ensures refl _ _ _ r
+    (subst (λ (e : Entry). Begins c.search_files.new.self.states e c.args.plan.now (Err r) c.begin.new.plan) c.entry_at.ensures c.in_err-found.ensures)
+    c.from_residual-in_err-found.result c.from_residual-in_err-found.ensures.1
 
 pub write_steps-requires : goal.write_steps-requires
 write_steps-requires c =
-    let long : length c.search_files-searched.new.entries ≡ most_numbers = search (rules, c.search_files-searched.auto.entries) in
-    let begins : Begins c.search_files-searched.result (table_entry (overwrite c.args.table.now (entries_in c.search_files-searched.new.entries c.search_files-searched.result.states)) c.search_files-searched.result.start) c.args.plan.now c.begin-begun.result c.begin-begun.new.plan =
-    subst (λ (e : Entry). Begins c.search_files-searched.result e c.args.plan.now c.begin-begun.result c.begin-begun.new.plan)
-    (c.entry_at.ensures ∙ ap (λ (t : List Entry). table_entry t c.search_files-searched.result.start) c.fill.ensures) c.begin-begun.ensures in
-    subst (λ (t : List Entry). StepsToWrite (table_entry t) c.begin-begun.new.plan c.begin-begun.result.steps.0 c.search_files-searched.result c.args.origin.now c.search_files-searched.new.sizes c.search_files-searched.new.costs c.search_files-searched.new.rows c.search_files-searched.new.moves)
-    (sym c.fill.ensures)
-    (can_steps c.args.first c.args.reduced.now c.args.origin.now c.args.table.now c.search_files-searched.result c.search_files-searched.new.entries c.search_files-searched.new.sizes c.search_files-searched.new.costs c.search_files-searched.new.rows c.search_files-searched.new.moves long c.search_files-searched.ensures c.requires c.args.plan.now c.begin-begun.new.plan c.begin-begun.result begins c.begin-begun.auto.plan)
+    let x = c.in_ok-found.found in
+    can_steps _ _ _ _ _ _ _ _ _ _ _ c.in_ok-search_files.ensures refl c.args.signer _ _ x
+    (subst (λ (e : Entry). Begins c.search_files.new.self.states e c.args.plan.now (Ok x) c.begin.new.plan) c.entry_at.ensures c.in_ok-found.ensures)
+    c.requires c.begin.auto.plan
 
-pub finish-requires : goal.finish-requires
-finish-requires c = can_finish c.search_files-searched.result c.entry_at.result c.args.plan.now c.begin-begun.new.plan c.write_steps.new.plan c.begin-begun.result c.begin-begun.ensures (c.write_steps.auto.plan ∙ c.begin-begun.auto.plan)
+pub put_sign_off-requires : goal.put_sign_off-requires
+put_sign_off-requires c =
+    let x = c.in_ok-found.found in
+    omega (
+      arith,
+      c.write_steps.auto.plan,
+      c.begin.auto.plan,
+      can_end _ _ _ _ _ _ _ _ _ _ _ c.in_ok-search_files.ensures refl c.args.signer _ _ x
+          (subst (λ (e : Entry). Begins c.search_files.new.self.states e c.args.plan.now (Ok x) c.begin.new.plan) c.entry_at.ensures c.in_ok-found.ensures),
+    )
 
 pub returns : goal.returns
+unfolding signed_off
 returns c =
-    let long : length c.search_files-searched.new.entries ≡ most_numbers = search (rules, c.search_files-searched.auto.entries) in
-    let begins : Begins c.search_files-searched.result (table_entry (overwrite c.args.table.now (entries_in c.search_files-searched.new.entries c.search_files-searched.result.states)) c.search_files-searched.result.start) c.args.plan.now c.begin-begun.result c.begin-begun.new.plan =
-    subst (λ (e : Entry). Begins c.search_files-searched.result e c.args.plan.now c.begin-begun.result c.begin-begun.new.plan)
-    (c.entry_at.ensures ∙ ap (λ (t : List Entry). table_entry t c.search_files-searched.result.start) c.fill.ensures) c.begin-begun.ensures in
-    let written : StepsWritten (table_entry (overwrite c.args.table.now (entries_in c.search_files-searched.new.entries c.search_files-searched.result.states))) c.begin-begun.new.plan c.begin-begun.result.steps.0 c.search_files-searched.result c.args.origin.now c.search_files-searched.new.sizes c.search_files-searched.new.costs c.search_files-searched.new.rows c.search_files-searched.new.moves c.write_steps.new.plan =
-    subst (λ (t : List Entry). StepsWritten (table_entry t) c.begin-begun.new.plan c.begin-begun.result.steps.0 c.search_files-searched.result c.args.origin.now c.search_files-searched.new.sizes c.search_files-searched.new.costs c.search_files-searched.new.rows c.search_files-searched.new.moves c.write_steps.new.plan)
-    c.fill.ensures c.write_steps.ensures in
-    subst (λ (t : List Entry). SearchesFiles c.args.first c.args.reduced.now c.args.origin.now c.args.signer (search_buffers c.args.table.now c.args.plan.now) c.finish.result (search_buffers t c.finish.new.plan))
-    (sym c.fill.ensures)
-    (searches_files c.args.first c.args.reduced.now c.args.origin.now c.args.table.now c.search_files-searched.result c.search_files-searched.new.entries c.search_files-searched.new.sizes c.search_files-searched.new.costs c.search_files-searched.new.rows c.search_files-searched.new.moves long c.search_files-searched.ensures c.requires c.args.plan.now c.begin-begun.new.plan c.begin-begun.result begins c.write_steps.new.plan written c.args.signer c.finish.new.plan c.finish.result c.finish.ensures)
+    let x = c.in_ok-found.found in
+    searches_done _ _ _ _ _ _ _ _ _ _ _ c.in_ok-search_files.ensures refl _ _ _ x
+    (subst (λ (e : Entry). Begins c.search_files.new.self.states e c.args.plan.now (Ok x) c.begin.new.plan) c.entry_at.ensures c.in_ok-found.ensures)
+    _ c.write_steps.ensures _ c.put_sign_off.ensures
