@@ -1,5 +1,5 @@
 -- The second part of a text, from the code's own steps: the goal, the operators and the end.
-use Prim.Native.Nat.{ℕ, ◌≤◌, ◌<◌}
+use Prim.Native.Nat.{ℕ}
 use mathlib.Core.Path.{◌≡◌, refl, sym, ap, ◌∙◌}
 use mathlib.Core.Bool.{true}
 use mathlib.Core.List.{List, [], map}
@@ -7,26 +7,27 @@ use mathlib.Core.Option.{none}
 use native.Mathlib.Omega.{arith}
 use lib.Dec.{eqb, leb}
 use lib.ListN.{length, take, drop}
-use borrow.Author.Tests.{le-leb, lt-leb, eqb-true}
-use Rattle.files.proofs.Guards.{guard_passes, guard_refuses, goes_on_lem, stops, both_done, is_done_lem}
+use borrow.Author.Tests.{eqb-true}
+use Rattle.files.proofs.Guards.{goes_on_lem, stops, both_done, is_done_lem, refused_number}
 use Rattle.files.proofs.Logic.{split}
-use Rattle.files.specs.declared.Outcome.{Outcome}
+use Rattle.files.specs.Outcome.{Outcome, done, refused, guard}
 use Rattle.files.specs.Bytes.{placed}
-use Rattle.files.specs.Outcome.{done, refusal}
 use Rattle.files.specs.Rows.{cleared, filled, filled_rows}
 use Rattle.files.specs.Task.{Pair}
 use Rattle.digits.specs.Decimal.{ascii}
-use Rattle.translator.specs.declared.fields.Cursor.{Cursor}
-use Rattle.translator.specs.declared.fields.ReadNumber.{ReadNumber}
-use Rattle.translator.specs.declared.text.Begun.{Begun}
+use Rattle.translator.specs.Cursors.{Cursor}
+use Rattle.translator.specs.Cursors.{ReadNumber}
+use Rattle.files.specs.declared.arrays.Arrays.{Arrays}
+use Rattle.files.specs.declared.refusals.Refusal.{Refusal}
 use Rattle.translator.specs.Clauses.{capped, with_number, number_after, judged, number_by, same}
 use Rattle.translator.specs.ListContracts.{ListRead}
 use Rattle.translator.specs.OperatorContracts.{cost_by, conditions_of, effects_of, OperatorsRead}
 use Rattle.translator.specs.Fields.{word, number, field_value}
-use Rattle.translator.specs.Format.{unsupported, unless, Format, gives, field, bind, repeat, is_open, field_after, fault_after, step_after, cursor_after, value_after}
-use Rattle.translator.specs.Parts.{Front, axioms, behind, closed_at, ended_at, BodyRead}
+use Rattle.translator.specs.Format.{unsupported, unless, Format, gives, field, bind, repeat, cursor_refused, is_open, field_after, fault_after, step_after, cursor_after, value_after}
+use Rattle.translator.specs.Parts.{Begun, Front, axioms, behind, closed_at, ended_at, BodyRead}
 use Rattle.translator.specs.Sas.{Operator, Rule, Sas, line_feed}
 use Rattle.translator.specs.Text.{says, each, count, conditions, operator, rule}
+use Rattle.translator.proofs.Calls.{numbered_shut, judged_shut}
 use Rattle.translator.proofs.CountReading.{count_most}
 use Rattle.translator.proofs.ReadingLaws.{after_refused, after_bind, value_bind, open_before}
 use Rattle.translator.proofs.RepeatReading.{each_length}
@@ -49,13 +50,12 @@ module _ (s : List ℕ) (c : Cursor) (n : ReadNumber) (last : Cursor) (is : n �
   unfolding closed_at
   ended_refused d = closed_by (stops last.outcome _ last.outcome refl d)
 
-  pub ended_before : (r : Outcome) → last.outcome.number ≡ 0 → last.at < length s → r ≡ refusal 31 last.at → r ≡ ended_at s c
+  pub ended_open : (r : Outcome) → last.outcome.number ≡ 0 → r ≡ guard (leb (length s) last.at) 31 last.at done → r ≡ ended_at s c
   unfolding closed_at
-  ended_before r z h q = closed_by (goes_on_lem last.outcome _ r last.outcome refl z (guard_refuses (leb (length s) last.at) 31 last.at done r (lt-leb (length s) last.at h) q))
+  ended_open r z q = closed_by (goes_on_lem last.outcome _ r last.outcome refl z q)
 
-  pub ended_here : (r : Outcome) → last.outcome.number ≡ 0 → length s ≤ last.at → r ≡ done → r ≡ ended_at s c
-  unfolding closed_at
-  ended_here r z h q = closed_by (goes_on_lem last.outcome _ r last.outcome refl z (guard_passes (leb (length s) last.at) 31 last.at done r (le-leb (length s) last.at h) q))
+pub ended_shut : (s : List ℕ) (e : Refusal) → refused e ≡ ended_at s (cursor_refused (refused e))
+ended_shut s e = ended_refused s (cursor_refused (refused e)) _ (cursor_refused (refused e)) (numbered_shut s e line_feed) (judged_shut e _ _ _) (refused_number e)
 
 -- no axioms: the count alone
 module _ (f : Front) (goal : List Pair) (operators : List Operator) (s : List ℕ) (c : Cursor) where
@@ -86,17 +86,16 @@ module _ (f : Front) (goal : List Pair) (operators : List Operator) (s : List �
   unfolding axioms value_after
   axioms_operators = ap (λ (x : Sas). x.operators) (value_bind (each rule _) _ s _)
 
-module _ (s : List ℕ) (h : Begun) (stated : Cursor) (asked : ReadNumber) (aimed closed : Cursor) (cnt : ReadNumber) (last : Cursor) (outcome : Outcome)
-    (sizes goal₀ goal_now costs₀ costs conditions₀ conditions_now effects₀ effects_now : List ℕ)
+module _ (s : List ℕ) (h : Begun) (stated : Cursor) (asked : ReadNumber) (aimed closed : Cursor) (cnt : ReadNumber) (last : Cursor) (outcome : Outcome) (before now : Arrays)
     (e₁ : stated ≡ field_after (word (ascii "end_state\nbegin_goal\n")) s h.cursor)
     (e₂ : asked ≡ number_by (count 64) same s stated)
-    (e₃ : ListRead s asked.cursor asked.value sizes h.variables goal₀ 0 aimed goal_now)
+    (e₃ : ListRead s asked.cursor asked.value (take h.variables before.sizes) before.goal 0 aimed now.goal)
     (e₄ : closed ≡ field_after (word (ascii "end_goal\n")) s aimed)
     (e₅ : cnt ≡ number_by (count 512) same s closed)
-    (e₆ : OperatorsRead s cnt.cursor cnt.value (take h.variables sizes) h.metric costs₀ conditions₀ effects₀ last costs conditions_now effects_now)
+    (e₆ : OperatorsRead s cnt.cursor cnt.value (take h.variables before.sizes) h.metric before.costs before.conditions before.effects last now.costs now.conditions now.effects)
     (e₇ : outcome ≡ ended_at s last) where
   sz : List ℕ
-  sz = take h.variables sizes
+  sz = take h.variables before.sizes
 
   T : Cursor
   T = field_after (word (ascii "end_state\nbegin_goal\n")) s h.cursor
@@ -193,22 +192,37 @@ module _ (s : List ℕ) (h : Begun) (stated : Cursor) (asked : ReadNumber) (aime
   unfolding ops
   many = each_length (operator sz) s m C₃
 
-  pub body_read : BodyRead s h sizes goal₀ costs₀ conditions₀ effects₀ (record { outcome = outcome; variables = h.variables; actions = cnt.value }) goal_now costs conditions_now effects_now
+  -- a refusal
+  pub body_up : (e : Refusal) → outcome ≡ refused e → now.variables ≡ before.variables → now.sizes ≡ before.sizes → now.starts ≡ before.starts → BodyRead s h before (refused e) now
   unfolding sz
-  body_read =
+  body_up e is variables sizes starts =
       record {
-        variables = refl;
-        few_actions = count_most s closed 512 cnt e₅;
+        variables = variables;
+        sizes = sizes;
+        starts = starts;
+        few_actions = λ z. absurd (refused_number e z);
+        outcome = λ f. sym is ∙ end_is f;
+        stored = λ f z. absurd (refused_number e z);
+      }
+
+  pub body_read : now.variables ≡ before.variables → now.sizes ≡ before.sizes → now.starts ≡ before.starts → now.actions ≡ cnt.value → BodyRead s h before outcome now
+  unfolding sz
+  body_read variables sizes starts actions =
+      record {
+        variables = variables;
+        sizes = sizes;
+        starts = starts;
+        few_actions = λ z. omega (arith, actions, count_most s closed 512 cnt e₅);
         outcome = end_is;
         stored = λ f z.
             let all = C₄_open z in
             let read : is_open last ≡ true = ap is_open last_at ∙ all in
             let ops_are : value_after (each (operator sz) cnt.value) s cnt.cursor ≡ (value_after (behind sz f) s h.cursor).operators = listed all ∙ operators_are f in
             record {
-              counted = with_number_value C₃ m cnt cnt_is (C₃_open all) ∙ sym many ∙ ap length (operators_are f);
-              goal_read = e₃.row (ap is_open aimed_is ∙ C₂_open (C₃_open all)) ∙ ap (filled (cleared goal₀ 0 64) 0) (aims (C₂_open (C₃_open all)) ∙ goal_is f);
-              costs_read = e₆.costs_read read ∙ ap (λ (l : List Operator). placed costs₀ 0 (map (λ o. cost_by h.metric o.cost) l)) ops_are;
-              conditions_read = e₆.conditions_read read ∙ ap (λ (l : List Operator). filled_rows conditions₀ 0 (map conditions_of l)) ops_are;
-              effects_read = e₆.effects_read read ∙ ap (λ (l : List Operator). filled_rows effects₀ 0 (map effects_of l)) ops_are;
+              counted = actions ∙ with_number_value C₃ m cnt cnt_is (C₃_open all) ∙ sym many ∙ ap length (operators_are f);
+              goal_read = e₃.row (ap is_open aimed_is ∙ C₂_open (C₃_open all)) ∙ ap (filled (cleared before.goal 0 64) 0) (aims (C₂_open (C₃_open all)) ∙ goal_is f);
+              costs_read = e₆.costs_read read ∙ ap (λ (l : List Operator). placed before.costs 0 (map (λ o. cost_by h.metric o.cost) l)) ops_are;
+              conditions_read = e₆.conditions_read read ∙ ap (λ (l : List Operator). filled_rows before.conditions 0 (map conditions_of l)) ops_are;
+              effects_read = e₆.effects_read read ∙ ap (λ (l : List Operator). filled_rows before.effects 0 (map effects_of l)) ops_are;
             };
       }

@@ -5,19 +5,17 @@ use mathlib.Core.Bool.{true, false}
 use mathlib.Core.List.{List}
 use lib.Dec.{leb}
 use lib.ListN.{length}
-use Rattle.files.specs.declared.Outcome.{Outcome}
+use Rattle.files.specs.Outcome.{Outcome, done, is_done, guard, and_then, fits, overwrite}
 use Rattle.files.specs.Accepted.{accepted_task}
-use Rattle.files.specs.Outcome.{done, is_done, guard, and_then, fits, overwrite}
 use Rattle.files.proofs.Done.{facts}
 use Rattle.files.proofs.Guards.{is_done_lem, is_refused, done_number, both_done}
 use Rattle.files.proofs.Listed.{listed_itself}
 use Rattle.files.proofs.Logic.{split, clash}
 use Rattle.files.proofs.Stages.{both_yes, both_no, both_last}
-use Rattle.translator.specs.declared.Translated.{Translated}
 use Rattle.translator.specs.Sas.{Sas}
 use Rattle.translator.specs.Stated.{supported, stated}
 use Rattle.translator.specs.Text.{check_text, sas_of, text_task}
-use Rattle.translator.specs.Translate.{translated, translate_whole, no_file, Translates, translate_outcome, translate_answer, translated_file, text_refusals, translate_refusals}
+use Rattle.translator.specs.Translate.{Translated, translated, translate_whole, no_file, Translates, translate_outcome, translate_answer, translated_file, text_refusals, translate_refusals}
 use Rattle.translator.proofs.Answers.{translate_listed}
 use Rattle.translator.proofs.Right.{check_fits, text_listed, text_passes, text_states, text_right}
 use Rattle.translator.proofs.Supported.{text_supported}
@@ -78,10 +76,6 @@ module _ (text : List ℕ) (signer : ℕ) (file : List ℕ) where
 
     pub call_signed : 1 ≤ signer
     call_signed = (simp facts at behind.0).0
-
-    pub call_fits : length (translated text signer) ≤ length file
-    unfolding fits
-    call_fits = (simp facts at behind.1).0
 
     -- so the answer is the whole, and the buffer is overwritten
     pub call_whole : translate_answer text signer file ≡ translate_whole text signer

@@ -1,24 +1,27 @@
 -- The loop over a list of pairs: what is left to be read and stored makes of the row what all pairs make of it.
 use Prim.Native.Nat.{ℕ, ◌+◌, ◌-◌, ◌≤◌, ◌<◌}
-use mathlib.Core.Path.{◌≡◌, refl, sym, ap, ap₂, ◌∙◌}
+use mathlib.Core.Path.{◌≡◌, refl, sym, ap, ap₂, subst, ◌∙◌}
 use mathlib.Core.Bool.{Bool, true, false, not, ◌||◌}
 use mathlib.Core.List.{List, [], ◌∷◌}
 use native.Mathlib.Omega.{arith}
 use lib.Dec.{eqb}
-use lib.ListN.{length, get_or, take}
+use lib.ListN.{length, get_or}
 use borrow.Author.Tests.{le-leb, lt-leb}
-use Rattle.files.proofs.Logic.{split_le}
+use Rattle.files.proofs.Logic.{split_le, clash}
 use Rattle.files.specs.Below.{any_of}
 use Rattle.files.specs.Rows.{cleared, filled}
 use Rattle.files.specs.Task.{Pair}
-use Rattle.translator.specs.declared.fields.Cursor.{Cursor}
+use Rattle.translator.specs.Cursors.{Cursor}
 use Rattle.translator.specs.ListContracts.{is_new, Given, PairStored, ListRead}
-use Rattle.translator.specs.Format.{repeat, is_open, cursor_after, value_after}
+use Rattle.translator.specs.Format.{repeat, cursor_refused, is_open, cursor_after, value_after}
 use Rattle.translator.specs.Stated.{variables_of}
 use Rattle.translator.specs.Text.{condition, conditions}
+use Rattle.files.specs.declared.refusals.Refusal.{Refusal}
+use Rattle.files.specs.Outcome.{refused}
+use Rattle.translator.proofs.Calls.{closed, after_shut}
 use Rattle.translator.proofs.OrderLaws.{none_some}
 use Rattle.translator.proofs.RowsInOrder.{filled_cell}
-use Rattle.translator.proofs.ReadingLaws.{open_before}
+use Rattle.translator.proofs.ReadingLaws.{after_refused, open_before}
 use Rattle.translator.proofs.RepeatReading.{repeat_next, repeat_others}
 
 -- a row that is cleared gives no variable
@@ -87,16 +90,19 @@ module _ (s sizes : List ℕ) (base : ℕ) (whole : Cursor) (pairs : List Pair) 
       moved_left true false c = refl
       moved_left false b c = refl
 
-  pub conditions_end : (c : Cursor) (count variables : ℕ) (all before : List ℕ) → sizes ≡ take variables all → left ≤ 0 → whole ≡ cursor_after (conditions sizes [] count) s c → pairs ≡ value_after (conditions sizes [] count) s c → blank ≡ cleared before base 64
-      → ListRead s c count all variables before base here row
+  pub conditions_stop : is_open here ≡ false → here ≡ whole
+  conditions_stop d = sym (after_refused (conditions sizes inv.given left) s here d) ∙ inv.cursor
+
+  pub conditions_end : (c : Cursor) (count : ℕ) (before : List ℕ) → left ≤ 0 → whole ≡ cursor_after (conditions sizes [] count) s c → pairs ≡ value_after (conditions sizes [] count) s c → blank ≡ cleared before base 64
+      → ListRead s c count sizes before base here row
   unfolding conditions repeat cursor_after value_after filled
-  conditions_end c count variables all before z h e f g =
+  conditions_end c count before h e f g =
       let none : left ≡ 0 = omega arith in
       let moved : here ≡ whole = sym (ap (λ (n : ℕ). cursor_after (conditions sizes inv.given n) s here) none) ∙ inv.cursor in
       let empty : value_after (conditions sizes inv.given left) s here ≡ [] = ap (λ (n : ℕ). value_after (conditions sizes inv.given n) s here) none in
-      let listed : pairs ≡ value_after (conditions (take variables all) [] count) s c = f ∙ ap (λ (l : List ℕ). value_after (conditions l [] count) s c) z in
+      let listed : pairs ≡ value_after (conditions sizes [] count) s c = f in
       record {
-        cursor = moved ∙ e ∙ ap (λ (l : List ℕ). cursor_after (conditions l [] count) s c) z;
+        cursor = moved ∙ e;
         row = λ o. sym (ap (filled row base) empty) ∙ inv.rest (sym (ap is_open moved) ∙ o) ∙ ap₂ (λ (l : List ℕ) (ps : List Pair). filled l base ps) g listed;
         gives = λ o v.
             inv.cells o v
@@ -107,3 +113,24 @@ module _ (s sizes : List ℕ) (base : ℕ) (whole : Cursor) (pairs : List Pair) 
       or_false : (b : Bool) → b || false ≡ b
       or_false true = refl
       or_false false = refl
+
+-- a loop that counts up
+pub conditions_from : (s sizes : List ℕ) (base : ℕ) (c : Cursor) (count : ℕ) (before row : List ℕ) → base + 64 ≤ length before → row ≡ cleared before base 64
+    → ConditionsLeft s sizes base (cursor_after (conditions sizes [] count) s c) (value_after (conditions sizes [] count) s c) row c (count - 0) row
+conditions_from s sizes base c count before row h e =
+    let all : count ≡ count - 0 = omega arith in
+    subst (λ (n : ℕ). ConditionsLeft s sizes base (cursor_after (conditions sizes [] count) s c) (value_after (conditions sizes [] count) s c) row c n row) all (conditions_start s sizes base c count before row h e)
+
+module _ (s sizes : List ℕ) (base : ℕ) (whole : Cursor) (pairs : List Pair) (blank : List ℕ) (here : Cursor) (count i : ℕ) (row : List ℕ) (inv : ConditionsLeft s sizes base whole pairs blank here (count - i) row) where
+  pub conditions_on : (next : Cursor) (now : List ℕ) → i < count → ((given : List ℕ) → (is_open here ≡ true → Given row row base given) → PairStored s here sizes given row base next now)
+      → ConditionsLeft s sizes base whole pairs blank next (count - (i + 1)) now
+  conditions_on next now h q =
+      let further : count - i - 1 ≡ count - (i + 1) = omega arith in
+      subst (λ (n : ℕ). ConditionsLeft s sizes base whole pairs blank next n now) further (conditions_next s sizes base whole pairs blank here (count - i) row inv next now (omega arith) q)
+
+pub list_up : (s : List ℕ) (c : Cursor) (count : ℕ) (sizes before : List ℕ) (base : ℕ) (r : Cursor) (now : List ℕ) → r ≡ cursor_after (conditions sizes [] count) s c → is_open r ≡ false
+    → ListRead s c count sizes before base r now
+list_up s c count sizes before base r now e d = record { cursor = e; row = λ o. clash o d; gives = λ o. clash o d }
+
+pub list_shut : (s : List ℕ) (e : Refusal) (count : ℕ) (sizes before : List ℕ) (base : ℕ) (now : List ℕ) → ListRead s (cursor_refused (refused e)) count sizes before base (cursor_refused (refused e)) now
+list_shut s e count sizes before base now = list_up s _ count sizes before base _ now (after_shut s e (conditions sizes [] count)) (closed e)

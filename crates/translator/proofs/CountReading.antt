@@ -9,8 +9,8 @@ use lib.Dec.{leb, ltb}
 use lib.ListN.{drop}
 use borrow.Author.Tests.{leb-true, ltb-true}
 use Rattle.files.proofs.Logic.{split}
-use Rattle.translator.specs.declared.fields.Cursor.{Cursor}
-use Rattle.translator.specs.declared.fields.ReadNumber.{ReadNumber}
+use Rattle.translator.specs.Cursors.{Cursor}
+use Rattle.translator.specs.Cursors.{ReadNumber}
 use Rattle.translator.specs.Clauses.{capped, with_number, number_after, judged, number_by, same}
 use Rattle.translator.specs.ListContracts.{value_below}
 use Rattle.translator.specs.Fields.{number, field_value}

@@ -5,18 +5,16 @@ use mathlib.Core.List.{List, [], ◌∷◌}
 use native.Mathlib.Nat.{add-zero}
 use native.Mathlib.Omega.{arith}
 use lib.Dec.{eqb}
-use lib.ListN.{length, get_or, drop, length-drop, drop_of_length-le}
+use lib.ListN.{length, get_or, drop, drop_of_length-le}
 use lib.Seq.{drop-cons, drop-drop}
 use borrow.Author.Tests.{eq-eqb, ne_eqb}
-use Rattle.files.proofs.Guards.{is_done_lem, is_refused, goes_on_lem, stops}
+use Rattle.files.proofs.Guards.{is_done_lem, is_refused, goes_on_lem, stops, refused_number}
 use Rattle.files.proofs.Logic.{split, split_le}
-use Rattle.files.specs.declared.Outcome.{Outcome}
-use Rattle.files.specs.Outcome.{done, refusal, is_done, guard, and_then}
-use Rattle.translator.specs.declared.fields.Cursor.{Cursor}
+use Rattle.files.specs.Outcome.{Outcome, done, refusal, refused, is_done, guard, and_then}
+use Rattle.files.specs.declared.refusals.Refusal.{Refusal}
+use Rattle.translator.specs.Cursors.{Cursor}
 use Rattle.translator.specs.Fields.{Field, word, name, byte_at, word_at, line_length, field_at, field_length}
-use Rattle.translator.specs.Format.{cursor_refused, is_open, cursor_by, field_after}
-use Rattle.translator.proofs.LineLaws.{line_within}
-use Rattle.translator.proofs.ReadingLaws.{field_closed}
+use Rattle.translator.specs.Format.{cursor_at, cursor_refused, is_open, cursor_by, field_after}
 
 pub cursor_by_end : (o x : Outcome) (end : ℕ) → o.number ≡ 0 → x ≡ done → record { outcome = x; at = end } ≡ cursor_by o end
 unfolding cursor_by
@@ -25,6 +23,13 @@ cursor_by_end o x end z e = rw (is_done_lem o z) (ap (λ (y : Outcome). record {
 pub cursor_by_refusal : (o : Outcome) (end : ℕ) → (o.number ≡ 0 → ⊥) → cursor_refused o ≡ cursor_by o end
 unfolding cursor_by
 cursor_by_refusal o end d = rw (is_refused o d) refl
+
+-- what is done goes on to an end, and a refusal has none
+pub go : (end : ℕ) → cursor_at end ≡ cursor_by done end
+go end = cursor_by_end done done end refl refl
+
+pub stop : (e : Refusal) (end : ℕ) → cursor_refused (refused e) ≡ cursor_by (refused e) end
+stop e end = cursor_by_refusal (refused e) end (refused_number e)
 
 -- the bytes of a text from an offset on
 pub rest_none : (s : List ℕ) (at : ℕ) → length s ≤ at → drop at s ≡ []
@@ -86,30 +91,7 @@ module _ (w s : List ℕ) (at i : ℕ) (whole : Outcome) (is : word_at (drop i w
       ∙ goes_on_lem (byte_at (get_or w i 0) (drop (at + i) s) (at + i)) (word_at (drop (i + 1) w) (drop (at + i + 1) s) (at + i + 1)) _ o e z refl
       ∙ first h
 
--- a line
-module _ (s : List ℕ) (here whole : ℕ) (is : here + line_length (drop here s) ≡ whole) where
-  pub line_none : length s ≤ here → here ≡ whole
-  unfolding line_length
-  line_none h = let e : line_length (drop here s) ≡ 0 = rw (rest_none s here h) refl in omega arith
-
-  pub line_stops : here < length s → get_or s here 0 ≡ 10 → here ≡ whole
-  unfolding line_length
-  line_stops h q = let e : line_length (drop here s) ≡ 0 = rw (rest_more s here h, eq-eqb (get_or s here 0) 10 q) refl in omega arith
-
-  pub line_next : here < length s → (get_or s here 0 ≡ 10 → ⊥) → here + 1 + line_length (drop (here + 1) s) ≡ whole
-  unfolding line_length
-  line_next h d =
-      let e : line_length (drop here s) ≡ line_length (drop (here + 1) s) + 1 = rw (rest_more s here h, ne_eqb (get_or s here 0) 10 d) refl in
-      omega arith
-
-pub line_reaches : (s : List ℕ) (at : ℕ) → at ≤ length s → at + line_length (drop at s) ≤ length s
-line_reaches s at h = omega (arith, line_within (drop at s), length-drop at s)
-
 -- a field behind a cursor
-pub field_refused : (f : Field) (s : List ℕ) (c : Cursor) → (c.outcome.number ≡ 0 → ⊥) → c ≡ field_after f s c
-unfolding is_open
-field_refused f s c d = sym (field_closed f s c (is_refused c.outcome d))
-
 pub field_cursor_by : (f : Field) (s : List ℕ) (c : Cursor) → c.outcome.number ≡ 0
     → cursor_by (field_at f (drop c.at s) c.at) (c.at + field_length f (drop c.at s)) ≡ field_after f s c
 unfolding field_after is_open

@@ -1,32 +1,36 @@
 -- An effect, from the code's own steps: what is read and tested, and how its old and its new value are stored.
 use Prim.Native.Nat.{ℕ, ◌+◌, ◌≤◌, ◌<◌}
 use mathlib.Core.Path.{◌≡◌, refl, sym, ap, ap₂, ◌∙◌}
-use mathlib.Core.Bool.{Bool, true, false, not, ◌&&◌, ◌||◌}
+use mathlib.Core.Bool.{Bool, true, false, not, cond, ◌&&◌, ◌||◌}
 use mathlib.Core.List.{List, [], ◌∷◌}
 use mathlib.Core.Option.{Option, none, some}
 use native.Mathlib.Omega.{arith}
 use lib.Dec.{eqb, ltb}
-use lib.ListN.{length, get_or, take, drop}
-use lib.Seq.{get_or-take, length-take-le}
+use lib.ListN.{length, get_or, drop}
 use borrow.Author.Tests.{ne_eqb, eq-eqb, eqb-true, ltb-true}
-use Rattle.files.proofs.Logic.{split}
+use Rattle.std.specs.Prelude as Std
+use Rattle.std.specs.Prelude.{Some, None}
+use Rattle.files.specs.declared.refusals.Refusal.{Refusal}
+use Rattle.files.specs.Outcome.{done, guard, refused}
+use Rattle.translator.specs.Reads.{code_of, Told}
+use Rattle.translator.proofs.Calls.{judged_open, judged_stop, judged_shut, passed_open, value_open, value_shut}
+use Rattle.files.proofs.Logic.{split, clash}
 use Rattle.files.specs.Below.{any_of}
 use Rattle.files.specs.Rows.{stored, filled}
 use Rattle.files.specs.Task.{Pair}
-use Rattle.translator.specs.declared.fields.Cursor.{Cursor}
-use Rattle.translator.specs.declared.fields.ReadNumber.{ReadNumber}
-use Rattle.translator.specs.Clauses.{Inside, capped, coded, with_number, number_after, signed_after, judged, number_by, same}
+use Rattle.translator.specs.Cursors.{Cursor}
+use Rattle.translator.specs.Cursors.{ReadNumber}
+use Rattle.translator.specs.Clauses.{capped, coded, with_number, number_after, signed_after, judged, number_by, same}
 use Rattle.translator.specs.ListContracts.{is_new, Given, variable_of, value_below}
-use Rattle.translator.specs.OperatorContracts.{plain_after, below_or_none, old_below, is_old, stored_old, EffectStored}
+use Rattle.translator.specs.OperatorContracts.{plain_after, below_or_none, old_below, stored_option, EffectStored}
 use Rattle.translator.specs.Fields.{number, signed, field_value}
-use Rattle.translator.specs.Format.{unsupported, out_of_range, unless, Format, gives, field, bind, repeat, is_open, step_after, cursor_after, value_after}
+use Rattle.translator.specs.Format.{unsupported, out_of_range, unless, Format, gives, field, bind, repeat, cursor_at, cursor_refused, is_open, step_after, cursor_after, value_after}
 use Rattle.translator.specs.Sas.{Effect, blank, line_feed}
 use Rattle.translator.specs.Stated.{is_value, is_old_value, old_pairs, new_pairs}
 use Rattle.translator.specs.Text.{each, variable_fault, value_fault, old_fault, free_pair, effect}
 use Rattle.translator.proofs.NumberReading.{capped_small, capped_most}
 use Rattle.translator.proofs.ReadingLaws.{after_refused, open_before}
 use Rattle.translator.proofs.StepReading.{eqb_capped, ltb_capped, step_fine, unless_none, number_is, signed_is, read_value, read_tested, read_with_number}
-use Rattle.translator.proofs.InsideReading.{after_inside}
 use Rattle.translator.proofs.RowReading.{new_stored}
 use Rattle.translator.proofs.ListReading.{step_same, number_cursor, number_value, variable_known, value_below_lem}
 
@@ -38,7 +42,13 @@ plain_read s c n j is e =
     read_tested (number blank) s c n (capped v) (number_is blank s c n is) unsupported (λ x. eqb x 0) (eqb n.value 0) j
     (λ o. ap (λ (x : ℕ). eqb x 0) (read_value (number blank) s c n (capped v) (number_is blank s c n is) o) ∙ eqb_capped v 0 (omega arith)) e
 
--- old values
+-- coded old values
+unfoldable pub is_old : ℕ → ℕ → Bool
+is_old value size = cond (eqb value 1048577) true (ltb value size)
+
+unfoldable pub stored_old : List ℕ → ℕ → ℕ → ℕ → List ℕ
+stored_old row base v value = cond (eqb value 1048577) row (stored row base v value)
+
 pub old_none : (value size : ℕ) → value ≡ 1048577 → true ≡ is_old value size
 unfolding is_old
 old_none value size e = rw (eq-eqb value 1048577 e) refl
@@ -70,6 +80,29 @@ old_read s c n size b j r is h t e q =
     (λ o. t ∙ ap (λ (x : ℕ). is_old x size) (read_value (signed blank) s c n (coded v) (signed_is blank s c n is) o) ∙ old_coded v size h)
     (λ o. refl) e q
 
+-- an old value that is tested where there is one
+module _ (s : List ℕ) (c : Cursor) (size : ℕ) (low : size < 1048576) where
+  pub old_refused : (e : Refusal) → record { cursor = cursor_refused (refused e); value = 0 } ≡ signed_after blank s c → record { cursor = cursor_refused (refused e); value = 0 } ≡ number_by (old_below size) coded s c
+  old_refused e h = old_read s c _ size _ _ _ h low refl (judged_shut e _ _ _) (value_shut e _)
+
+  module _ (at : ℕ) where
+    pub old_absent : record { cursor = cursor_at at; value = 1048577 } ≡ signed_after blank s c → record { cursor = cursor_at at; value = 1048577 } ≡ number_by (old_below size) coded s c
+    old_absent h = old_read s c _ size true (cursor_at at) _ h low (old_none 1048577 size refl) (passed_open at 5 c.at) (value_open _ _)
+
+    module _ (n : ℕ) (told : n ≤ 1048576) (h : record { cursor = cursor_at at; value = n } ≡ signed_after blank s c) where
+      told_some : n ≡ 1048577 → ⊥
+      told_some e = omega arith
+
+      pub old_fails : (e : Refusal) → refused e ≡ guard (ltb n size) 5 c.at done → record { cursor = cursor_refused (refused e); value = 0 } ≡ number_by (old_below size) coded s c
+      old_fails e f = old_read s c _ size (ltb n size) _ _ h low (old_some n size told_some) (judged_stop e at _ _ _ f) (value_shut e _)
+
+      pub old_passes : done ≡ guard (ltb n size) 5 c.at done → record { cursor = cursor_at at; value = n } ≡ number_by (old_below size) coded s c
+      old_passes f = old_read s c _ size (ltb n size) _ _ h low (old_some n size told_some) (judged_open at _ _ _ (omega arith) f) (value_open _ _)
+
+pub stored_told : (row : List ℕ) (base v : ℕ) (o : Std.Option ℕ) → Told o → stored_option row base v o ≡ stored_old row base v (code_of o)
+stored_told row base v None h = stored_none row base v 1048577 refl
+stored_told row base v (Some n) h = stored_some row _ base v n (λ e. omega arith) refl
+
 -- the fields behind the count of conditions
 effect_of : List ℕ → List ℕ → List Pair → Format Effect
 effect_of sizes given conditions =
@@ -100,24 +133,27 @@ plain_before : (s : List ℕ) (c : Cursor) → is_open (plain_after s c) ≡ tru
 unfolding plain_after cursor_after
 plain_before s c e = open_before (field (number blank) (λ n. unless (eqb n 0) unsupported none) gives) s c e
 
+-- nothing is stored behind a refusal
+pub effect_up : (s : List ℕ) (c : Cursor) (sizes given conditions effects : List ℕ) (base : ℕ) (r : Cursor) (conditions_now effects_now : List ℕ) → r ≡ cursor_after (effect sizes given) s c → is_open r ≡ false
+    → EffectStored s c sizes given conditions effects base r conditions_now effects_now
+effect_up s c sizes given conditions effects base r conditions_now effects_now e d =
+    record { cursor = e; conditions_row = λ o. clash o d; effects_row = λ o. clash o d; gives = λ o. clash o d }
+
 -- one effect
-module _ (s : List ℕ) (c : Cursor) (sizes : List ℕ) (variables : ℕ) (given conditions effects : List ℕ) (base : ℕ) (begun : Cursor) (n before new : ReadNumber) (size : ℕ)
-    (few : variables ≤ 64) (room : 64 ≤ length sizes) (conditions_long : base + 64 ≤ length conditions) (effects_long : base + 64 ≤ length effects)
+module _ (s : List ℕ) (c : Cursor) (sizes given conditions effects : List ℕ) (base : ℕ) (begun : Cursor) (n before new : ReadNumber) (size : ℕ)
+    (few : length sizes ≤ 64) (conditions_long : base + 64 ≤ length conditions) (effects_long : base + 64 ≤ length effects)
     (rows : is_open c ≡ true → Given conditions effects base given)
     (plain : begun ≡ plain_after s c)
-    (named : n ≡ number_by (variable_of (take variables sizes) given) same s begun) (sized : size ≡ get_or sizes n.value 0) (small : size < 256)
+    (named : n ≡ number_by (variable_of sizes given) same s begun) (sized : size ≡ get_or sizes n.value 0) (small : size < 256)
     (olds : before ≡ number_by (old_below size) coded s n.cursor) (news : new ≡ number_by (value_below size) same s before.cursor) where
-  sz : List ℕ
-  sz = take variables sizes
-
   P : Cursor
   P = plain_after s c
 
   K : Cursor
-  K = cursor_after (variable_of sz given) s P
+  K = cursor_after (variable_of sizes given) s P
 
   w : ℕ
-  w = value_after (variable_of sz given) s P
+  w = value_after (variable_of sizes given) s P
 
   O : Cursor
   O = cursor_after (old_below size) s K
@@ -131,13 +167,13 @@ module _ (s : List ℕ) (c : Cursor) (sizes : List ℕ) (variables : ℕ) (given
   d : ℕ
   d = value_after (value_below size) s O
 
-  variable_is : n ≡ number_by (variable_of sz given) same s P
-  unfolding sz P
-  variable_is = named ∙ ap (number_by (variable_of sz given) same s) plain
+  variable_is : n ≡ number_by (variable_of sizes given) same s P
+  unfolding P
+  variable_is = named ∙ ap (number_by (variable_of sizes given) same s) plain
 
   K_is : n.cursor ≡ K
   unfolding K
-  K_is = number_cursor (variable_of sz given) same s P n variable_is
+  K_is = number_cursor (variable_of sizes given) same s P n variable_is
 
   O_is : before.cursor ≡ O
   unfolding O
@@ -157,11 +193,11 @@ module _ (s : List ℕ) (c : Cursor) (sizes : List ℕ) (variables : ℕ) (given
 
   P_open : is_open K ≡ true → is_open P ≡ true
   unfolding K
-  P_open = open_before (variable_of sz given) s P
+  P_open = open_before (variable_of sizes given) s P
 
   w_is : is_open K ≡ true → n.value ≡ w
   unfolding K w
-  w_is = number_value (variable_of sz given) same s P n variable_is
+  w_is = number_value (variable_of sizes given) same s P n variable_is
 
   o_is : is_open O ≡ true → before.value ≡ coded old
   unfolding O old
@@ -171,38 +207,37 @@ module _ (s : List ℕ) (c : Cursor) (sizes : List ℕ) (variables : ℕ) (given
   unfolding N d
   d_is e = number_value (value_below size) same s before.cursor new news (ap (λ (x : Cursor). is_open (cursor_after (value_below size) s x)) O_is ∙ e) ∙ ap (value_after (value_below size) s) O_is
 
-  known : is_open K ≡ true → w < variables
-  unfolding K w sz
-  known e = let h = variable_known sz given s P e in omega (arith, length-take-le variables sizes (omega arith))
+  known : is_open K ≡ true → w < length sizes
+  unfolding K w
+  known e = variable_known sizes given s P e
 
-  size_is : is_open K ≡ true → size ≡ get_or sz w 0
-  unfolding sz
-  size_is e = sized ∙ ap (λ (v : ℕ). get_or sizes v 0) (w_is e) ∙ sym (get_or-take variables sizes w 0 (known e))
+  size_is : is_open K ≡ true → size ≡ get_or sizes w 0
+  size_is e = sized ∙ ap (λ (v : ℕ). get_or sizes v 0) (w_is e)
 
-  old_same : (o : Option ℕ) → is_open K ≡ true → below_or_none size o ≡ is_old_value sz w o
+  old_same : (o : Option ℕ) → is_open K ≡ true → below_or_none size o ≡ is_old_value sizes w o
   unfolding is_old_value is_value
   old_same none e = refl
   old_same (some x) e = ap (ltb x) (size_is e)
 
-  O_after : O ≡ step_after (signed blank) (old_fault sz w) s K
+  O_after : O ≡ step_after (signed blank) (old_fault sizes w) s K
   unfolding O cursor_after
-  O_after = step_same (signed blank) (λ o. unless (below_or_none size o) out_of_range none) (old_fault sz w) s K
+  O_after = step_same (signed blank) (λ o. unless (below_or_none size o) out_of_range none) (old_fault sizes w) s K
       (λ e. ap (λ (t : Bool). unless t out_of_range none) (old_same (field_value (signed blank) (drop K.at s)) e))
 
-  N_after : N ≡ step_after (number line_feed) (value_fault sz w) s O
+  N_after : N ≡ step_after (number line_feed) (value_fault sizes w) s O
   unfolding N cursor_after is_value
-  N_after = step_same (number line_feed) (λ x. unless (ltb x size) out_of_range none) (value_fault sz w) s O
+  N_after = step_same (number line_feed) (λ x. unless (ltb x size) out_of_range none) (value_fault sizes w) s O
       (λ e. ap (λ (k : ℕ). unless (ltb (field_value (number line_feed) (drop O.at s)) k) out_of_range none) (size_is (K_open e)))
 
-  cursor_is : new.cursor ≡ cursor_after (effect sz given) s c
+  cursor_is : new.cursor ≡ cursor_after (effect sizes given) s c
   unfolding effect_of cursor_after value_after K w P
-  cursor_is = N_is ∙ N_after ∙ ap (step_after (number line_feed) (value_fault sz w) s) O_after ∙ sym (effect_after sz given s c)
+  cursor_is = N_is ∙ N_after ∙ ap (step_after (number line_feed) (value_fault sizes w) s) O_after ∙ sym (effect_after sizes given s c)
 
-  value_is : is_open N ≡ true → record { conditions = []; variable = w; old = old; new = d } ≡ value_after (effect sz given) s c
+  value_is : is_open N ≡ true → record { conditions = []; variable = w; old = old; new = d } ≡ value_after (effect sizes given) s c
   unfolding effect_of cursor_after value_after K w P old d
   value_is e =
       (λ i. record { conditions = []; variable = w; old = old; new = value_after (value_below size) s (O_after i) })
-      ∙ sym (effect_value sz given s c (P_open (K_open (O_open e))))
+      ∙ sym (effect_value sizes given s c (P_open (K_open (O_open e))))
 
   old_fits : is_open O ≡ true → below_or_none size old ≡ true
   unfolding O old cursor_after value_after
@@ -233,8 +268,8 @@ module _ (s : List ℕ) (c : Cursor) (sizes : List ℕ) (variables : ℕ) (given
       twice false b = refl
 
   pub effect_stored : (conditions_now effects_now : List ℕ) → conditions_now ≡ stored_old conditions base n.value before.value → effects_now ≡ stored effects base n.value new.value
-      → EffectStored s c (take variables sizes) given conditions effects base new.cursor conditions_now effects_now
-  unfolding sz P new_pairs filled
+      → EffectStored s c sizes given conditions effects base new.cursor conditions_now effects_now
+  unfolding P new_pairs filled
   effect_stored conditions_now effects_now e f =
       record {
         cursor = cursor_is;
@@ -272,10 +307,3 @@ module _ (s : List ℕ) (c : Cursor) (sizes : List ℕ) (variables : ℕ) (given
       joined : (a b c g : Bool) → b && c ≡ not g → (not a && b) && c ≡ not (a || g)
       joined true b c g h = refl
       joined false b c g h = h
-
-pub plain_inside : (s : List ℕ) (c r : Cursor) → Inside s c.at → r ≡ plain_after s c → Inside s r.at
-unfolding plain_after cursor_after
-plain_inside s c r h e = after_inside (field (number blank) (λ n. unless (eqb n 0) unsupported none) gives) s c r h e
-
-pub plain_begun : (s : List ℕ) (c r : Cursor) → r ≡ plain_after s c → is_open r ≡ true → is_open c ≡ true
-plain_begun s c r e o = plain_before s c (sym (ap is_open e) ∙ o)

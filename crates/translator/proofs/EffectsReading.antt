@@ -1,21 +1,25 @@
 -- The loop over the effects of an operator: what is left to be read and stored makes of both rows what all effects make of them.
 use Prim.Native.Nat.{ℕ, ◌+◌, ◌-◌, ◌≤◌, ◌<◌}
-use mathlib.Core.Path.{◌≡◌, refl, sym, ap, ◌∙◌}
+use mathlib.Core.Path.{◌≡◌, refl, sym, ap, subst, ◌∙◌}
 use mathlib.Core.Bool.{Bool, true, false, ◌&&◌}
 use mathlib.Core.List.{List, [], ◌∷◌}
 use mathlib.Core.Option.{Option, none, some}
 use native.Mathlib.Omega.{arith}
 use lib.ListN.{length}
 use Rattle.files.specs.Rows.{cleared, filled}
-use Rattle.translator.specs.declared.fields.Cursor.{Cursor}
+use Rattle.translator.specs.Cursors.{Cursor}
 use Rattle.translator.specs.ListContracts.{is_new, Given}
-use Rattle.translator.specs.OperatorContracts.{EffectStored, EffectsStored}
-use Rattle.translator.specs.Format.{repeat, is_open, cursor_after, value_after}
+use Rattle.translator.specs.OperatorContracts.{EffectStored, EffectsStored, EffectsRead}
+use Rattle.translator.specs.Format.{repeat, cursor_refused, is_open, cursor_after, value_after}
 use Rattle.translator.specs.Sas.{Effect}
 use Rattle.translator.specs.Stated.{old_pairs, new_pairs}
 use Rattle.translator.specs.Text.{effect, effects}
+use Rattle.files.proofs.Logic.{clash}
+use Rattle.files.specs.declared.refusals.Refusal.{Refusal}
+use Rattle.files.specs.Outcome.{refused}
+use Rattle.translator.proofs.Calls.{closed, after_shut}
 use Rattle.translator.proofs.ConditionsReading.{cleared_given}
-use Rattle.translator.proofs.ReadingLaws.{open_before}
+use Rattle.translator.proofs.ReadingLaws.{after_refused, open_before}
 use Rattle.translator.proofs.RepeatReading.{repeat_next, repeat_others}
 
 -- a row of conditions beside a row of effects that is cleared
@@ -93,6 +97,9 @@ module _ (s sizes first : List ℕ) (base : ℕ) (c : Cursor) (count : ℕ) (con
             ∙ inv.effects_rest o;
       }
 
+  pub effects_stop : is_open here ≡ false → here ≡ cursor_after (effects sizes first count) s c
+  effects_stop d = sym (after_refused (effects sizes inv.given left) s here d) ∙ inv.cursor
+
   pub effects_end : (before : List ℕ) → left ≤ 0 → effects₀ ≡ cleared before base 64 → EffectsStored s c count sizes first conditions₀ before base here conditions_now effects_now
   unfolding effects repeat cursor_after value_after old_pairs new_pairs filled
   effects_end before h g =
@@ -107,3 +114,29 @@ module _ (s sizes first : List ℕ) (base : ℕ) (c : Cursor) (count : ℕ) (con
             ∙ inv.effects_rest (sym (ap is_open moved) ∙ o)
             ∙ ap (λ (l : List ℕ). filled l base (new_pairs (value_after (effects sizes first count) s c))) g;
       }
+
+-- a loop that counts up
+pub effects_from : (s sizes first : List ℕ) (base : ℕ) (c : Cursor) (count : ℕ) (conditions₀ before effects₀ : List ℕ) → base + 64 ≤ length before → effects₀ ≡ cleared before base 64
+    → (is_open c ≡ true → Given conditions₀ conditions₀ base first) → EffectsLeft s sizes first base c count conditions₀ effects₀ c (count - 0) conditions₀ effects₀
+effects_from s sizes first base c count conditions₀ before effects₀ h e rows =
+    let all : count ≡ count - 0 = omega arith in
+    subst (λ (n : ℕ). EffectsLeft s sizes first base c count conditions₀ effects₀ c n conditions₀ effects₀) all (effects_start s sizes first base c count conditions₀ before effects₀ h e rows)
+
+module _ (s sizes first : List ℕ) (base : ℕ) (c : Cursor) (count : ℕ) (conditions₀ effects₀ : List ℕ) (here : Cursor) (i : ℕ) (conditions_now effects_now : List ℕ)
+    (inv : EffectsLeft s sizes first base c count conditions₀ effects₀ here (count - i) conditions_now effects_now) where
+  pub effects_on : (next : Cursor) (conditions_then effects_then : List ℕ) → i < count
+      → ((given : List ℕ) → (is_open here ≡ true → Given conditions_now effects_now base given) → EffectStored s here sizes given conditions_now effects_now base next conditions_then effects_then)
+      → EffectsLeft s sizes first base c count conditions₀ effects₀ next (count - (i + 1)) conditions_then effects_then
+  effects_on next conditions_then effects_then h q =
+      let further : count - i - 1 ≡ count - (i + 1) = omega arith in
+      subst (λ (n : ℕ). EffectsLeft s sizes first base c count conditions₀ effects₀ next n conditions_then effects_then) further
+      (effects_next s sizes first base c count conditions₀ effects₀ here (count - i) conditions_now effects_now inv next conditions_then effects_then (omega arith) q)
+
+pub effects_up : (s : List ℕ) (c : Cursor) (count : ℕ) (sizes first conditions effects_before : List ℕ) (base : ℕ) (r : Cursor) (conditions_now effects_now : List ℕ) → r ≡ cursor_after (effects sizes first count) s c → is_open r ≡ false
+    → EffectsStored s c count sizes first conditions effects_before base r conditions_now effects_now
+effects_up s c count sizes first conditions effects_before base r conditions_now effects_now e d = record { cursor = e; conditions_row = λ o. clash o d; effects_row = λ o. clash o d }
+
+pub effects_shut : (s : List ℕ) (e : Refusal) (count : ℕ) (sizes conditions effects_before : List ℕ) (base : ℕ) (conditions_now effects_now : List ℕ)
+    → EffectsRead s (cursor_refused (refused e)) count sizes conditions effects_before base (cursor_refused (refused e)) conditions_now effects_now
+effects_shut s e count sizes conditions effects_before base conditions_now effects_now =
+    record { is = λ first rows. effects_up s _ count sizes first conditions effects_before base _ conditions_now effects_now (after_shut s e (effects sizes first count)) (closed e) }

@@ -6,18 +6,16 @@ use mathlib.Core.List.{List}
 use lib.ListN.{length, take}
 use lib.Seq.{take-append_seam}
 use borrow.Author.Tests.{le-leb, lt-ltb}
-use Rattle.files.specs.declared.Outcome.{Outcome}
+use Rattle.files.specs.Outcome.{Outcome, overwrite}
 use Rattle.files.specs.Accepted.{valid_signer}
-use Rattle.files.specs.Outcome.{overwrite}
 use Rattle.files.specs.Reading.{read_task}
 use Rattle.files.specs.Task.{Task}
 use Rattle.files.specs.TaskFile.{task_file}
 use Rattle.files.proofs.KindsRight.{tasks_right}
 use Rattle.files.proofs.Logic.{and_join}
-use Rattle.translator.specs.declared.Translated.{Translated}
 use Rattle.translator.specs.Right.{StatesRight, FilesRight}
 use Rattle.translator.specs.Stated.{stated}
-use Rattle.translator.specs.Translate.{translated, translate_outcome, translated_file}
+use Rattle.translator.specs.Translate.{Translated, translated, translate_outcome, translated_file}
 use Rattle.translator.proofs.Right.{check_fits, text_right}
 use Rattle.translator.proofs.CallLaws.{call_checked, call_signed, call_whole, call_overwritten}
 

@@ -9,8 +9,7 @@ use native.Mathlib.Nat.{add-zero}
 use lib.Dec.{eqb}
 use lib.ListN.{length, take, drop}
 use borrow.Author.Tests.{eqb-true}
-use Rattle.files.specs.declared.Outcome.{Outcome}
-use Rattle.files.specs.Outcome.{done, refusal, guard}
+use Rattle.files.specs.Outcome.{Outcome, done, refusal, guard}
 use Rattle.files.proofs.Logic.{split, or_split, clash}
 use Rattle.digits.specs.Decimal.{ascii}
 use Rattle.translator.specs.Fields.{flag, byte_at, is_flag, field_at, field_length, field_value}

@@ -1,37 +1,37 @@
 -- The first part of a text, from the code's own steps: the metric, the variables with their start values, and the groups.
 use Prim.Native.Nat.{ℕ, zero, suc, ◌+◌, ◌%◌, ◌≤◌}
 use mathlib.Core.Path.{◌≡◌, refl, sym, ap, ap₂, ◌∙◌}
-use mathlib.Core.Bool.{true, cond}
+use mathlib.Core.Bool.{true, false, cond}
 use mathlib.Core.List.{List, [], ◌∷◌}
 use native.Mathlib.Omega.{arith}
 use lib.Dec.{eqb}
 use lib.ListN.{length, get_or, take, drop, length-map}
 use lib.Seq.{take_at}
-use borrow.Author.Tests.{eq-eqb, ne_eqb}
-use Rattle.files.proofs.Logic.{split}
-use Rattle.files.specs.declared.Outcome.{Outcome}
+use borrow.Author.Tests.{ne_eqb, eqb-true, eqb-false}
+use Rattle.files.proofs.Logic.{split, clash}
+use Rattle.files.specs.Outcome.{Outcome, guard, overwrite, refused}
 use Rattle.files.specs.Below.{bit}
 use Rattle.files.specs.Bytes.{placed}
 use Rattle.files.proofs.Placed.{placed_overwrite}
-use Rattle.files.specs.Outcome.{guard, overwrite}
+use Rattle.files.specs.declared.refusals.Refusal.{Refusal}
 use Rattle.digits.specs.Decimal.{ascii}
-use Rattle.translator.specs.declared.fields.Cursor.{Cursor}
-use Rattle.translator.specs.declared.fields.ReadNumber.{ReadNumber}
-use Rattle.translator.specs.Clauses.{Inside, with_number, number_by, same}
+use Rattle.translator.specs.Cursors.{Cursor}
+use Rattle.translator.specs.Cursors.{ReadNumber}
+use Rattle.translator.specs.Clauses.{with_number, number_by, same}
 use Rattle.translator.specs.VariableContracts.{size_of, stored_sizes, stored_starts, DeclarationsRead, StartsStored, StartsRead, groups_after}
 use Rattle.translator.specs.Fields.{word, flag, number, byte_at, word_at, is_flag, field_at, field_length, field_value}
-use Rattle.translator.specs.Format.{field, repeat, cursor_at, is_open, cursor_by, field_after, cursor_after, value_after}
+use Rattle.translator.specs.Format.{field, repeat, cursor_at, cursor_refused, is_open, cursor_by, field_after, cursor_after, value_after}
 use Rattle.translator.specs.Parts.{Front, front, metric_after, FrontRead}
 use Rattle.translator.specs.Sas.{Declaration, Started, line_feed}
 use Rattle.translator.specs.Stated.{sizes_of}
 use Rattle.translator.specs.Text.{any, each, count, declaration, group, starts}
 use Rattle.translator.proofs.CountReading.{count_most}
-use Rattle.translator.proofs.NumberReading.{first_byte}
-use Rattle.translator.proofs.ReadingLaws.{open_before}
+use Rattle.translator.proofs.Calls.{closed, after_shut}
+use Rattle.translator.proofs.ReadingLaws.{field_closed, open_before}
 use Rattle.translator.proofs.RepeatReading.{each_more, each_value, each_length}
 use Rattle.translator.proofs.StepReading.{with_number_cursor, with_number_value, with_number_is}
 use Rattle.translator.proofs.TextParts.{at_metric, metric_in, behind_metric, at_count, count_in, at_variables, declarations_in, at_groups, behind_groups, at_starts, variables_in, behind_starts, front_after, front_value}
-use Rattle.translator.proofs.InsideReading.{after_inside, field_inside, with_number_inside, field_before, after_with_number}
+use Rattle.translator.proofs.InsideReading.{field_before, after_with_number}
 use Rattle.translator.proofs.VariableReading.{declaration_size}
 
 -- the metric is the word of its digit
@@ -47,35 +47,38 @@ flag_zero [] at d = refl
 flag_zero (b ∷ []) at d = split (eqb b 48) (λ e. rw e refl) (λ e. rw (e, ne_eqb b 49 d) refl)
 flag_zero (b ∷ x ∷ r) at d = split (eqb b 48) (λ e. rw e refl) (λ e. rw (e, ne_eqb b 49 d) refl)
 
-pub metric_one : (s : List ℕ) (c w : Cursor) (b : ℕ) (r : ReadNumber) → b ≡ get_or s c.at 0 → b ≡ 49 → w ≡ field_after (word (49 ∷ 10 ∷ [])) s c → r ≡ with_number w 1 → r ≡ metric_after s c
+pub metric_one : (s : List ℕ) (c w : Cursor) (r : ReadNumber) → true ≡ eqb (get_or (drop c.at s) 0 0) 49 → w ≡ field_after (word (49 ∷ 10 ∷ [])) s c → r ≡ with_number w 1 → r ≡ metric_after s c
 unfolding metric_after field_after field_length field_value
-metric_one s c w b r e z f q =
-    let first : get_or (drop c.at s) 0 0 ≡ 49 = first_byte s c.at ∙ sym e ∙ z in
+metric_one s c w r z f q =
+    let first : get_or (drop c.at s) 0 0 ≡ 49 = eqb-true (get_or (drop c.at s) 0 0) 49 (sym z) in
     q
     ∙ ap₂ with_number
     (f ∙ ap (λ (o : Outcome). cond (is_open c) (cursor_by o (c.at + 2)) c) (flag_one (drop c.at s) c.at first))
-    (sym (ap bit (eq-eqb (get_or (drop c.at s) 0 0) 49 first)))
+    (ap bit z)
 
-pub metric_zero : (s : List ℕ) (c w : Cursor) (b : ℕ) (r : ReadNumber) → b ≡ get_or s c.at 0 → (b ≡ 49 → ⊥) → w ≡ field_after (word (48 ∷ 10 ∷ [])) s c → r ≡ with_number w 0 → r ≡ metric_after s c
+pub metric_zero : (s : List ℕ) (c w : Cursor) (r : ReadNumber) → false ≡ eqb (get_or (drop c.at s) 0 0) 49 → w ≡ field_after (word (48 ∷ 10 ∷ [])) s c → r ≡ with_number w 0 → r ≡ metric_after s c
 unfolding metric_after field_after field_length field_value
-metric_zero s c w b r e d f q =
-    let other : get_or (drop c.at s) 0 0 ≡ 49 → ⊥ = λ z. d (e ∙ sym (first_byte s c.at) ∙ z) in
+metric_zero s c w r z f q =
     q
     ∙ ap₂ with_number
-    (f ∙ ap (λ (o : Outcome). cond (is_open c) (cursor_by o (c.at + 2)) c) (flag_zero (drop c.at s) c.at other))
-    (sym (ap bit (ne_eqb (get_or (drop c.at s) 0 0) 49 other)))
+    (f ∙ ap (λ (o : Outcome). cond (is_open c) (cursor_by o (c.at + 2)) c) (flag_zero (drop c.at s) c.at (eqb-false (get_or (drop c.at s) 0 0) 49 (sym z))))
+    (ap bit z)
 
--- cursors that stand in the text
-pub start_inside : (s : List ℕ) (c : Cursor) → length s ≤ 65536 → c ≡ cursor_at 0 → Inside s c.at
-start_inside s c h e = record { limited = h; within = omega (arith, ap (λ (x : Cursor). x.at) e) }
+-- nothing is read behind a refusal
+module _ (s : List ℕ) (e : Refusal) where
+  pub metric_shut : record { cursor = cursor_refused (refused e); value = 0 } ≡ metric_after s (cursor_refused (refused e))
+  unfolding metric_after with_number
+  metric_shut = rw (field_closed flag s (cursor_refused (refused e)) (closed e), closed e) refl
 
-pub metric_inside : (s : List ℕ) (c : Cursor) (r : ReadNumber) → Inside s c.at → r ≡ metric_after s c → Inside s r.cursor.at
-unfolding metric_after
-metric_inside s c r h e = with_number_inside s (field_after flag s c) _ r (field_inside flag s c _ h refl) e
+  pub groups_shut : cursor_refused (refused e) ≡ groups_after s (cursor_refused (refused e))
+  unfolding groups_after
+  groups_shut = after_shut s e (field (number line_feed) any (λ n. each group n))
 
-pub groups_inside : (s : List ℕ) (c r : Cursor) → Inside s c.at → r ≡ groups_after s c → Inside s r.at
-unfolding groups_after
-groups_inside s c r h e = after_inside (field (number line_feed) any (λ n. each group n)) s c r h e
+  pub declarations_shut : (count : ℕ) (before now : List ℕ) → DeclarationsRead s (cursor_refused (refused e)) count before (cursor_refused (refused e)) now
+  declarations_shut count before now = record { cursor = after_shut s e (each declaration count); stored = λ o. clash o (closed e) }
+
+  pub starts_shut : (count : ℕ) (sizes before now : List ℕ) → StartsRead s (cursor_refused (refused e)) count sizes before (cursor_refused (refused e)) now
+  starts_shut count sizes before now = record { is = λ ds h. record { cursor = after_shut s e (starts ds); stored = λ o. clash o (closed e) } }
 
 -- the front of an array behind what is placed there
 placed_front : (b xs : List ℕ) (n : ℕ) → length xs ≡ n → n ≤ length b → take n (placed b 0 xs) ≡ xs
@@ -190,3 +193,15 @@ module _ (s : List ℕ) (start begun : Cursor) (metric : ReadNumber) (measured :
     where
       all_open : is_open started ≡ true → is_open (at_groups s) ≡ true
       all_open o = groups_open (starts_open (sym (ap is_open started_is) ∙ o))
+
+pub front_up : (s : List ℕ) (e : Refusal) (sizes₀ starts₀ sizes starts_now : List ℕ) → cursor_refused (refused e) ≡ cursor_after front s (cursor_at 0) → FrontRead s sizes₀ starts₀ (record { cursor = cursor_refused (refused e); metric = 0; variables = 0 }) sizes starts_now
+front_up s e sizes₀ starts₀ sizes starts_now is =
+    record {
+      cursor = is;
+      few = omega arith;
+      metric = λ o. clash o (closed e);
+      counted = λ o. clash o (closed e);
+      sizes_held = λ o. clash o (closed e);
+      sizes_read = λ o. clash o (closed e);
+      starts_read = λ o. clash o (closed e);
+    }

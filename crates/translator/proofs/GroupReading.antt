@@ -8,11 +8,10 @@ use native.Mathlib.Omega.{arith}
 use lib.ListN.{length, drop}
 use Rattle.files.proofs.Guards.{done_number}
 use Rattle.files.proofs.Logic.{clash, split, split_le}
-use Rattle.files.specs.declared.Outcome.{Outcome}
-use Rattle.files.specs.Outcome.{is_done}
+use Rattle.files.specs.Outcome.{Outcome, is_done}
 use Rattle.digits.specs.Decimal.{ascii}
-use Rattle.translator.specs.declared.fields.Cursor.{Cursor}
-use Rattle.translator.specs.declared.fields.ReadNumber.{ReadNumber}
+use Rattle.translator.specs.Cursors.{Cursor}
+use Rattle.translator.specs.Cursors.{ReadNumber}
 use Rattle.translator.specs.Clauses.{Inside, capped, number_after}
 use Rattle.translator.specs.VariableContracts.{groups_after}
 use Rattle.translator.specs.Fields.{Field, Value, word, number, field_length, field_value}

@@ -1,18 +1,17 @@
 -- Cursors stand in the text, and formats are read behind a number where it was read.
-use Prim.Native.Nat.{ℕ, ◌≤◌}
+use Prim.Native.Nat.{ℕ}
 use mathlib.Core.Path.{◌≡◌, refl, sym, ap, subst, ◌∙◌}
-use mathlib.Core.Bool.{Bool, true, cond}
+use mathlib.Core.Bool.{true, cond}
 use mathlib.Core.List.{List}
 use native.Mathlib.Omega.{arith}
-use lib.ListN.{length}
-use Rattle.files.proofs.Logic.{split, cond_case}
-use Rattle.translator.specs.declared.fields.Cursor.{Cursor}
-use Rattle.translator.specs.declared.fields.ReadNumber.{ReadNumber}
-use Rattle.translator.specs.Clauses.{Inside, WordInside, with_number, number_after, judged, number_by}
+use Rattle.files.proofs.Logic.{split}
+use Rattle.translator.specs.Cursors.{Cursor}
+use Rattle.translator.specs.Cursors.{ReadNumber}
+use Rattle.translator.specs.Clauses.{Inside, with_number, number_by}
 use Rattle.translator.specs.VariableContracts.{layer_after}
-use Rattle.translator.specs.Fields.{Field, number, signed}
+use Rattle.translator.specs.Fields.{Field, signed}
 use Rattle.translator.specs.Format.{Format, gives, field, is_open, field_after, fault_after, step_after, cursor_after}
-use Rattle.translator.specs.Sas.{Separator, line_feed}
+use Rattle.translator.specs.Sas.{line_feed}
 use Rattle.translator.specs.Text.{any, layer_fault}
 use Rattle.translator.proofs.FieldLaws.{field_right}
 use Rattle.translator.proofs.ReadingLaws.{after_refused, open_before}
@@ -37,24 +36,9 @@ pub layer_inside : (s : List ℕ) (c r : Cursor) → Inside s c.at → r ≡ lay
 unfolding layer_after cursor_after
 layer_inside s c r h e = after_inside (field (signed line_feed) layer_fault gives) s c r h e
 
-pub judged_inside : (s : List ℕ) (c r : Cursor) (b : Bool) (fault place : ℕ) → Inside s c.at → r ≡ judged c b fault place → Inside s r.at
-unfolding judged
-judged_inside s c r b fault place h e =
-    record {
-      limited = h.limited;
-      within = subst (λ (x : Cursor). x.at ≤ length s) (sym e) (cond_case (λ (x : Cursor). x.at ≤ length s) (is_open c) _ c (λ o. cond_case (λ (x : Cursor). x.at ≤ length s) b c _ (λ t. h.within) (λ t. omega arith)) (λ o. h.within));
-    }
-
 pub with_number_inside : (s : List ℕ) (c : Cursor) (n : ℕ) (r : ReadNumber) → Inside s c.at → r ≡ with_number c n → Inside s r.cursor.at
 unfolding with_number
 with_number_inside s c n r h e = subst (λ (x : ReadNumber). Inside s x.cursor.at) (sym e) h
-
-pub read_inside : (separator : Separator) (s : List ℕ) (c : Cursor) (r : ReadNumber) → Inside s c.at → r ≡ number_after separator s c → Inside s r.cursor.at
-unfolding number_after
-read_inside separator s c r h e = with_number_inside s _ _ r (field_inside (number separator) s c _ h refl) e
-
-pub word_inside : (s w : List ℕ) (at : ℕ) → Inside s at → length w ≤ 64 → WordInside s at w
-word_inside s w at h l = record { inside = h; short = l }
 
 pub field_before : (f : Field) (s : List ℕ) (c : Cursor) → is_open (field_after f s c) ≡ true → is_open c ≡ true
 field_before f s c e = open_before (field f any gives) s c (sym (ap is_open (step_after_lem f s c)) ∙ e)
@@ -67,4 +51,4 @@ after_with_number F s c n r e =
     ∙ split (is_open c) (λ o. rw o refl) (λ o. after_refused (F (cond (is_open c) n 0)) s c o ∙ sym (after_refused (F n) s c o))
 
 -- cursors that stand in the text
-pub ruleset inside = (after_inside, field_inside, number_inside, layer_inside, word_inside)
+pub ruleset inside = (after_inside, field_inside, number_inside, layer_inside)

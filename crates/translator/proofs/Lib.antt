@@ -45,6 +45,7 @@ pub mod CallLaws
 pub mod FilesRight
 -- the code's steps: cursors and numbers
 pub mod CursorLaws
+pub mod Calls
 pub mod NumberReading
 pub mod StepReading
 pub mod CountReading

@@ -8,8 +8,7 @@ use lib.Dec.{eqb}
 use lib.ListN.{length, take, drop, length-append, take-append-drop}
 use lib.Seq.{length-take-le, take-append_seam, drop-append_seam, drop-drop}
 use Rattle.files.specs.Below.{all_of}
-use Rattle.files.specs.declared.Outcome.{Outcome}
-use Rattle.files.specs.Outcome.{done}
+use Rattle.files.specs.Outcome.{Outcome, done}
 use Rattle.files.proofs.Logic.{split}
 use Rattle.translator.specs.Fields.{byte_at, line_length}
 use Rattle.translator.specs.Sas.{name_line, is_name}

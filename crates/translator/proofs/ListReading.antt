@@ -6,15 +6,14 @@ use mathlib.Core.List.{List, ◌∷◌}
 use mathlib.Core.Option.{Option, none}
 use native.Mathlib.Omega.{arith}
 use lib.Dec.{eqb, ltb}
-use lib.ListN.{length, get_or, take, drop}
-use lib.Seq.{get_or-take, length-take-le}
+use lib.ListN.{length, get_or, drop}
 use borrow.Author.Tests.{ltb-true}
-use Rattle.files.proofs.Logic.{split}
+use Rattle.files.proofs.Logic.{split, clash}
 use Rattle.files.specs.Below.{any_of}
 use Rattle.files.specs.Rows.{stored, filled}
 use Rattle.files.specs.Task.{Pair, pair}
-use Rattle.translator.specs.declared.fields.Cursor.{Cursor}
-use Rattle.translator.specs.declared.fields.ReadNumber.{ReadNumber}
+use Rattle.translator.specs.Cursors.{Cursor}
+use Rattle.translator.specs.Cursors.{ReadNumber}
 use Rattle.translator.specs.Clauses.{number_by, same}
 use Rattle.translator.specs.ListContracts.{is_new, Given, variable_of, value_below, PairStored}
 use Rattle.translator.specs.Fields.{Field, Value, number, field_value}
@@ -57,42 +56,42 @@ value_below_lem size s c o =
     let v : ℕ = field_value (number line_feed) (drop c.at s) in
     ltb-true v size (unless_none (ltb v size) out_of_range none (step_fine (number line_feed) (λ n. unless (ltb n size) out_of_range none) s c o)).0
 
--- one pair
-module _ (s : List ℕ) (c : Cursor) (sizes : List ℕ) (variables : ℕ) (given row : List ℕ) (base : ℕ) (n d : ReadNumber) (size : ℕ)
-    (few : variables ≤ 64) (room : 64 ≤ length sizes) (long : base + 64 ≤ length row) (rows : is_open c ≡ true → Given row row base given)
-    (named : n ≡ number_by (variable_of (take variables sizes) given) same s c) (sized : size ≡ get_or sizes n.value 0) (small : size < 256)
-    (stated : d ≡ number_by (value_below size) same s n.cursor) where
-  sz : List ℕ
-  sz = take variables sizes
+-- nothing is stored behind a refusal
+pub pair_up : (s : List ℕ) (c : Cursor) (sizes given row : List ℕ) (base : ℕ) (r : Cursor) (now : List ℕ) → r ≡ cursor_after (condition sizes given) s c → is_open r ≡ false → PairStored s c sizes given row base r now
+pair_up s c sizes given row base r now e d = record { cursor = e; row = λ o. clash o d; gives = λ o. clash o d }
 
+-- one pair
+module _ (s : List ℕ) (c : Cursor) (sizes given row : List ℕ) (base : ℕ) (n d : ReadNumber) (size : ℕ)
+    (few : length sizes ≤ 64) (long : base + 64 ≤ length row) (rows : is_open c ≡ true → Given row row base given)
+    (named : n ≡ number_by (variable_of sizes given) same s c) (sized : size ≡ get_or sizes n.value 0) (small : size < 256)
+    (stated : d ≡ number_by (value_below size) same s n.cursor) where
   K : Cursor
-  K = cursor_after (variable_of sz given) s c
+  K = cursor_after (variable_of sizes given) s c
 
   w : ℕ
-  w = value_after (variable_of sz given) s c
+  w = value_after (variable_of sizes given) s c
 
   moved : n.cursor ≡ K
-  unfolding K sz
-  moved = number_cursor (variable_of sz given) same s c n named
+  unfolding K
+  moved = number_cursor (variable_of sizes given) same s c n named
 
   is : is_open K ≡ true → n.value ≡ w
-  unfolding K w sz
-  is = number_value (variable_of sz given) same s c n named
+  unfolding K w
+  is = number_value (variable_of sizes given) same s c n named
 
-  known : is_open K ≡ true → w < variables
-  unfolding K w sz
-  known o = let h = variable_known sz given s c o in omega (arith, length-take-le variables sizes (omega arith))
+  known : is_open K ≡ true → w < length sizes
+  unfolding K w
+  known o = variable_known sizes given s c o
 
-  size_is : is_open K ≡ true → size ≡ get_or sz w 0
-  unfolding sz
-  size_is o = sized ∙ ap (λ (v : ℕ). get_or sizes v 0) (is o) ∙ sym (get_or-take variables sizes w 0 (known o))
+  size_is : is_open K ≡ true → size ≡ get_or sizes w 0
+  size_is o = sized ∙ ap (λ (v : ℕ). get_or sizes v 0) (is o)
 
-  after_is : d.cursor ≡ cursor_after (condition sz given) s c
+  after_is : d.cursor ≡ cursor_after (condition sizes given) s c
   unfolding condition cursor_after value_after is_value K w
   after_is =
       number_cursor (value_below size) same s n.cursor d stated
       ∙ ap (cursor_after (value_below size) s) moved
-      ∙ step_same (number line_feed) (λ x. unless (ltb x size) out_of_range none) (value_fault sz w) s K
+      ∙ step_same (number line_feed) (λ x. unless (ltb x size) out_of_range none) (value_fault sizes w) s K
       (λ o. ap (λ (k : ℕ). unless (ltb (field_value (number line_feed) (drop K.at s)) k) out_of_range none) (size_is o))
 
   opened : is_open d.cursor ≡ true → is_open K ≡ true
@@ -100,9 +99,9 @@ module _ (s : List ℕ) (c : Cursor) (sizes : List ℕ) (variables : ℕ) (given
 
   begun : is_open d.cursor ≡ true → is_open c ≡ true
   unfolding K
-  begun o = open_before (variable_of sz given) s c (opened o)
+  begun o = open_before (variable_of sizes given) s c (opened o)
 
-  pair_is : is_open d.cursor ≡ true → pair n.value d.value ≡ value_after (condition sz given) s c
+  pair_is : is_open d.cursor ≡ true → pair n.value d.value ≡ value_after (condition sizes given) s c
   unfolding condition cursor_after value_after K w
   pair_is o =
       let here = is (opened o) in
@@ -116,8 +115,8 @@ module _ (s : List ℕ) (c : Cursor) (sizes : List ℕ) (variables : ℕ) (given
       let h = value_below_lem size s n.cursor e in
       omega (arith, number_value (value_below size) same s n.cursor d stated e)
 
-  pub pair_stored : (now : List ℕ) → now ≡ stored row base n.value d.value → PairStored s c (take variables sizes) given row base d.cursor now
-  unfolding sz filled
+  pub pair_stored : (now : List ℕ) → now ≡ stored row base n.value d.value → PairStored s c sizes given row base d.cursor now
+  unfolding filled
   pair_stored now e =
       record {
         cursor = after_is;

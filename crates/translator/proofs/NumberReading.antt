@@ -1,29 +1,27 @@
 -- How numbers are read, from the code's own tests: digit by digit, as far as a number is told from larger ones, then with
 -- their separators.
 use Prim.Native.Nat.{ℕ, suc, ◌+◌, ◌-◌, ◌*◌, ◌≤◌, ◌<◌}
-use mathlib.Core.Path.{◌≡◌, refl, sym, ap, ap₂, ◌∙◌}
-use mathlib.Core.Bool.{Bool, true, false, cond}
+use mathlib.Core.Path.{◌≡◌, refl, sym, ap, ap₂, subst, ◌∙◌}
+use mathlib.Core.Bool.{true, false}
 use mathlib.Core.List.{List, [], ◌∷◌}
-use mathlib.Core.Option.{none, some}
 use native.Mathlib.Nat.{add-zero}
 use native.Mathlib.Omega.{arith}
 use lib.Dec.{eqb, leb}
 use lib.ListN.{length, get_or, take, drop, length-drop, get_or-eq_default}
 use lib.Seq.{drop-drop, get_or-drop}
-use borrow.Author.Tests.{eq-eqb, ne_eqb, le-leb, lt-leb}
+use borrow.Author.Tests.{eq-eqb, le-leb, lt-leb, eqb-true}
 use Rattle.files.proofs.Guards.{is_done_lem, is_refused, guard_passes, guard_refuses}
-use Rattle.files.proofs.Logic.{split, split_le}
-use Rattle.files.specs.declared.Outcome.{Outcome}
-use Rattle.files.specs.Outcome.{refusal}
+use Rattle.files.proofs.Logic.{split, split_le, cond_case}
+use Rattle.files.specs.Outcome.{Outcome, refusal}
 use Rattle.digits.specs.Decimal.{ascii, number_from, number_of}
-use Rattle.translator.specs.declared.fields.Cursor.{Cursor}
+use Rattle.translator.specs.Cursors.{Cursor}
 use Rattle.translator.specs.declared.fields.Found.{Found}
-use Rattle.translator.specs.declared.fields.ReadNumber.{ReadNumber}
-use Rattle.translator.specs.Clauses.{capped, digits_found, numeral_found, with_number, number_after, signed_after, coded, judged}
-use Rattle.translator.specs.Fields.{number, signed, byte_at, word_at, is_digit, digits_length, numeral_length, numeral_at, is_minus, minus_one, signed_at, field_at, field_length, numeral_value, field_value}
-use Rattle.translator.specs.Format.{is_open, cursor_refused, cursor_by, field_after}
+use Rattle.translator.specs.Cursors.{ReadNumber}
+use Rattle.translator.specs.Clauses.{capped, digits_found, numeral_found, with_number, number_after, signed_after}
+use Rattle.translator.specs.Fields.{word, number, byte_at, is_digit, digits_length, numeral_length, numeral_at, is_minus, minus_one, signed_at, field_at, field_length, numeral_value, field_value}
+use Rattle.translator.specs.Format.{cursor_at, is_open, cursor_by, field_after}
 use Rattle.translator.specs.Sas.{Separator, byte_of}
-use Rattle.translator.proofs.CursorLaws.{rest_none, rest_more, field_cursor_by, field_refused}
+use Rattle.translator.proofs.CursorLaws.{rest_none, rest_more, field_cursor_by}
 use Rattle.translator.proofs.NumberLaws.{numeral_within}
 
 -- capping
@@ -128,20 +126,21 @@ module _ (s : List ℕ) (at value here : ℕ) (inv : DigitsFrom s at value here)
 pub first_byte : (s : List ℕ) (at : ℕ) → get_or (drop at s) 0 0 ≡ get_or s at 0
 first_byte s at = get_or-drop at s 0 0 ∙ ap (λ (n : ℕ). get_or s n 0) (add-zero at)
 
-pub numeral_zero : (s : List ℕ) (at b : ℕ) → b ≡ get_or s at 0 → b ≡ 48 → record { count = 1; value = 0 } ≡ numeral_found (drop at s)
+pub numeral_zero : (s : List ℕ) (at : ℕ) → true ≡ eqb (get_or (drop at s) 0 0) 48 → record { count = 1; value = 0 } ≡ numeral_found (drop at s)
 unfolding numeral_found numeral_length numeral_value number_of number_from
-numeral_zero s at b e z =
+numeral_zero s at z =
     let r : List ℕ = drop at s in
-    let first : get_or r 0 0 ≡ 48 = first_byte s at ∙ sym e ∙ z in
+    let first : get_or r 0 0 ≡ 48 = eqb-true (get_or r 0 0) 48 (sym z) in
+    let here : get_or s at 0 ≡ 48 = sym (first_byte s at) ∙ first in
     let there : at < length s = split_le (length s) at (λ h. absurd (let y : get_or s at 0 ≡ 0 = get_or-eq_default s 0 h in omega arith)) (λ h. h) in
     let one : numeral_length r ≡ 1 = rw (eq-eqb (get_or r 0 0) 48 first) refl in
-    let digit : take 1 r ≡ 48 ∷ [] = ap (take 1) (rest_more s at there) ∙ ap (λ (x : ℕ). x ∷ []) (sym e ∙ z) in
+    let digit : take 1 r ≡ 48 ∷ [] = ap (take 1) (rest_more s at there) ∙ ap (λ (x : ℕ). x ∷ []) here in
     let is : 0 ≡ capped (numeral_value r) = capped_small 0 (omega arith) ∙ ap capped (sym (ap (λ (n : ℕ). number_of (take n r)) one ∙ ap number_of digit)) in
     λ i. record { count = sym one i; value = is i }
 
-pub numeral_digits : (s : List ℕ) (at b : ℕ) (r : Found) → b ≡ get_or s at 0 → (b ≡ 48 → ⊥) → r ≡ digits_found (drop at s) → r ≡ numeral_found (drop at s)
+pub numeral_digits : (s : List ℕ) (at : ℕ) (r : Found) → false ≡ eqb (get_or (drop at s) 0 0) 48 → r ≡ digits_found (drop at s) → r ≡ numeral_found (drop at s)
 unfolding numeral_found digits_found numeral_length numeral_value
-numeral_digits s at b r e d q = rw (ne_eqb (get_or (drop at s) 0 0) 48 (λ z. d (e ∙ sym (first_byte s at) ∙ z))) q
+numeral_digits s at r d q = rw (sym d) q
 
 pub numeral_count : (r : List ℕ) (found : Found) → found ≡ numeral_found r → found.count ≡ numeral_length r
 unfolding numeral_found
@@ -171,54 +170,24 @@ pub with_number_refused : (c : Cursor) (value : ℕ) → (c.outcome.number ≡ 0
 unfolding with_number is_open
 with_number_refused c value d = rw (is_refused c.outcome d) refl
 
-pub number_refused : (s : List ℕ) (c : Cursor) (byte : ℕ) (r : ReadNumber) → (c.outcome.number ≡ 0 → ⊥) → r ≡ with_number c 0 → (separator : Separator) → byte_of separator ≡ byte → r ≡ number_after separator s c
-unfolding number_after
-number_refused s c byte r d q separator b =
-    q ∙ sym (with_number_refused c 0 d) ∙ with_number_refused c _ d ∙ ap (λ (x : Cursor). with_number x (capped (field_value (number separator) (drop c.at s)))) (field_refused (number separator) s c d)
-
-pub number_open : (s : List ℕ) (c : Cursor) (byte : ℕ) (r : ReadNumber) (found : Found) (o : Outcome) (moved : Cursor) → c.outcome.number ≡ 0 → found ≡ numeral_found (drop c.at s) → o ≡ numeral_at byte (drop c.at s) c.at
-    → moved ≡ cursor_by o (c.at + found.count + 1) → r ≡ with_number moved found.value → (separator : Separator) → byte_of separator ≡ byte → r ≡ number_after separator s c
+pub number_read : (separator : Separator) (s : List ℕ) (at : ℕ) (r : ReadNumber) (found : Found) (o : Outcome) (moved : Cursor) → found ≡ numeral_found (drop at s) → o ≡ numeral_at (byte_of separator) (drop at s) at
+    → moved ≡ cursor_by o (at + (found.count + 1)) → r ≡ with_number moved found.value → r ≡ number_after separator s (cursor_at at)
 unfolding number_after numeral_found field_at field_length field_value
-number_open s c byte r found o moved z f e m q separator b =
-    let rest : List ℕ = drop c.at s in
-    let ends : c.at + found.count + 1 ≡ c.at + (numeral_length rest + 1) = omega (arith, ap (λ (x : Found). x.count) f) in
-    let here : o ≡ numeral_at (byte_of separator) rest c.at = e ∙ ap (λ (n : ℕ). numeral_at n rest c.at) (sym b) in
-    q ∙ ap₂ with_number (m ∙ ap₂ cursor_by here ends ∙ field_cursor_by (number separator) s c z) (ap (λ (x : Found). x.value) f)
+number_read separator s at r found o moved f e m q =
+    let ends : at + (found.count + 1) ≡ at + (numeral_length (drop at s) + 1) = ap (λ (x : Found). at + (x.count + 1)) f in
+    q ∙ ap₂ with_number (m ∙ ap₂ cursor_by e ends ∙ field_cursor_by (number separator) s (cursor_at at) refl) (ap (λ (x : Found). x.value) f)
 
-pub signed_refused : (s : List ℕ) (c : Cursor) (byte : ℕ) (r : ReadNumber) → (c.outcome.number ≡ 0 → ⊥) → r ≡ with_number c 0 → (separator : Separator) → byte_of separator ≡ byte → r ≡ signed_after separator s c
-unfolding signed_after
-signed_refused s c byte r d q separator b =
-    q ∙ sym (with_number_refused c 0 d) ∙ with_number_refused c _ d ∙ ap (λ (x : Cursor). with_number x (coded (field_value (signed separator) (drop c.at s)))) (field_refused (signed separator) s c d)
+pub number_small : (separator : Separator) (s : List ℕ) (c : Cursor) (r : ReadNumber) → r ≡ number_after separator s c → r.value ≤ 1048576
+unfolding number_after with_number
+number_small separator s c r e =
+    subst (λ (x : ReadNumber). x.value ≤ 1048576) (sym e)
+    (cond_case (λ (n : ℕ). n ≤ 1048576) (is_open (field_after (number separator) s c)) _ 0 (λ o. capped_most _) (λ o. omega arith))
 
-pub signed_number : (s : List ℕ) (c : Cursor) (byte b : ℕ) (r : ReadNumber) → b ≡ get_or s c.at 0 → (b ≡ 45 → ⊥) → ((separator : Separator) → byte_of separator ≡ byte → r ≡ number_after separator s c)
-    → (separator : Separator) → byte_of separator ≡ byte → r ≡ signed_after separator s c
+pub signed_number : (separator : Separator) (s : List ℕ) (c : Cursor) (r : ReadNumber) → false ≡ eqb (get_or (drop c.at s) 0 0) 45 → r ≡ number_after separator s c → r ≡ signed_after separator s c
 unfolding number_after signed_after field_after field_at field_length field_value signed_at is_minus
-signed_number s c byte b r e d q separator w =
-    rw (ne_eqb (get_or (drop c.at s) 0 0) 45 (λ z. d (e ∙ sym (first_byte s c.at) ∙ z))) (q separator w)
+signed_number separator s c r d q = rw (sym d) q
 
-pub signed_minus : (s : List ℕ) (c : Cursor) (byte b : ℕ) (r : ReadNumber) (o : Outcome) (moved : Cursor) → c.outcome.number ≡ 0 → b ≡ get_or s c.at 0 → b ≡ 45
-    → o ≡ word_at (45 ∷ 49 ∷ byte ∷ []) (drop c.at s) c.at → moved ≡ cursor_by o (c.at + 3) → r ≡ with_number moved 1048577
-    → (separator : Separator) → byte_of separator ≡ byte → r ≡ signed_after separator s c
-unfolding signed_after field_at field_length field_value signed_at is_minus minus_one ascii
-signed_minus s c byte b r o moved z e m w q t separator x =
-    let first : eqb (get_or (drop c.at s) 0 0) 45 ≡ true = eq-eqb (get_or (drop c.at s) 0 0) 45 (first_byte s c.at ∙ sym e ∙ m) in
-    t
-    ∙ ap₂ with_number
-    (q ∙ ap₂ cursor_by (w ∙ ap (λ (n : ℕ). word_at (45 ∷ 49 ∷ n ∷ []) (drop c.at s) c.at) (sym x) ∙ sym (ap (λ (t : Bool). cond t (word_at (45 ∷ 49 ∷ byte_of separator ∷ []) (drop c.at s) c.at) (numeral_at (byte_of separator) (drop c.at s) c.at)) first))
-    (sym (ap (λ (t : Bool). c.at + cond t 3 (numeral_length (drop c.at s) + 1)) first))
-    ∙ field_cursor_by (signed separator) s c z)
-    (sym (ap (λ (t : Bool). coded (cond t none (some (numeral_value (drop c.at s))))) first))
-
--- a test
-module _ (c : Cursor) (passes : Bool) (fault place : ℕ) where
-  pub judged_refused : (c.outcome.number ≡ 0 → ⊥) → c ≡ judged c passes fault place
-  unfolding judged is_open
-  judged_refused d = rw (is_refused c.outcome d) refl
-
-  pub judged_passes : c.outcome.number ≡ 0 → passes ≡ true → c ≡ judged c passes fault place
-  unfolding judged is_open
-  judged_passes z p = rw (is_done_lem c.outcome z, p) refl
-
-  pub judged_fails : (o : Outcome) → c.outcome.number ≡ 0 → passes ≡ false → o ≡ refusal fault place → record { outcome = o; at = 0 } ≡ judged c passes fault place
-  unfolding judged is_open
-  judged_fails o z p e = rw (is_done_lem c.outcome z, p) (ap cursor_refused e)
+pub signed_minus : (separator : Separator) (s : List ℕ) (c w : Cursor) (r : ReadNumber) → true ≡ eqb (get_or (drop c.at s) 0 0) 45 → w ≡ field_after (word (45 ∷ 49 ∷ byte_of separator ∷ [])) s c → r ≡ with_number w 1048577
+    → r ≡ signed_after separator s c
+unfolding signed_after field_after field_at field_length field_value signed_at is_minus minus_one ascii
+signed_minus separator s c w r z e q = rw (sym z) (q ∙ ap (λ (x : Cursor). with_number x 1048577) e)

@@ -1,18 +1,18 @@
 -- An operator, from the code's own steps: its fields one behind another, its rows and its cost.
 use Prim.Native.Nat.{ℕ, ◌*◌, ◌≤◌}
 use mathlib.Core.Path.{◌≡◌, refl, sym, ap, ap₂, subst, ◌∙◌}
-use mathlib.Core.Bool.{true}
+use mathlib.Core.Bool.{true, false}
 use mathlib.Core.List.{List, [], ◌∷◌, ◌++◌}
 use native.Mathlib.Omega.{arith}
 use lib.Dec.{eqb, leb}
-use lib.ListN.{take, set}
+use lib.ListN.{set}
 use borrow.Author.Tests.{eq-eqb, ne_eqb}
-use Rattle.files.proofs.Logic.{split, cond_case}
+use Rattle.files.proofs.Logic.{split, clash, cond_case}
 use Rattle.files.specs.Rows.{cleared, filled, stored as row_stored}
 use Rattle.files.specs.Task.{Pair}
 use Rattle.digits.specs.Decimal.{ascii}
-use Rattle.translator.specs.declared.fields.Cursor.{Cursor}
-use Rattle.translator.specs.declared.fields.ReadNumber.{ReadNumber}
+use Rattle.translator.specs.Cursors.{Cursor}
+use Rattle.translator.specs.Cursors.{ReadNumber}
 use Rattle.translator.specs.Clauses.{with_number, number_after, judged, number_by, same}
 use Rattle.translator.specs.ListContracts.{Given, ListRead}
 use Rattle.translator.specs.OperatorContracts.{EffectsStored, EffectsRead, cost_by, conditions_of, effects_of, OperatorRead}
@@ -64,19 +64,16 @@ cost_most s c metric r e =
     (λ o. rw o (omega arith)))
 
 module _ (s : List ℕ) (c begun named : Cursor) (asked : ReadNumber) (prevail : Cursor) (setting : ReadNumber) (changed : Cursor) (cost : ReadNumber) (ended : Cursor)
-    (sizes : List ℕ) (variables metric a base : ℕ) (costs conditions₀ effects₀ conditions₁ conditions₂ effects₂ : List ℕ)
+    (sz : List ℕ) (metric a base : ℕ) (costs conditions₀ effects₀ conditions₁ conditions₂ effects₂ : List ℕ)
     (e₁ : begun ≡ field_after (word (ascii "begin_operator\n")) s c)
     (e₂ : named ≡ field_after name s begun)
     (e₃ : asked ≡ number_by (count 64) same s named)
-    (e₄ : ListRead s asked.cursor asked.value sizes variables conditions₀ base prevail conditions₁)
+    (e₄ : ListRead s asked.cursor asked.value sz conditions₀ base prevail conditions₁)
     (e₅ : setting ≡ number_by (count 64) same s prevail)
-    (e₆ : EffectsRead s setting.cursor setting.value sizes variables conditions₁ effects₀ base changed conditions₂ effects₂)
+    (e₆ : EffectsRead s setting.cursor setting.value sz conditions₁ effects₀ base changed conditions₂ effects₂)
     (e₇ : cost ≡ number_by (count 1000000) (cost_by metric) s changed)
     (e₈ : ended ≡ field_after (word (ascii "end_operator\n")) s cost.cursor)
     (at : base ≡ 64 * a) where
-  sz : List ℕ
-  sz = take variables sizes
-
   N : Cursor
   N = field_after name s (field_after (word (ascii "begin_operator\n")) s c)
 
@@ -115,7 +112,7 @@ module _ (s : List ℕ) (c begun named : Cursor) (asked : ReadNumber) (prevail :
   asked_is = e₃ ∙ ap (number_by (count 64) same s) (e₂ ∙ ap (field_after name s) e₁)
 
   prevail_is : prevail ≡ C₂
-  unfolding C₂ sz
+  unfolding C₂
   prevail_is = e₄.cursor ∙ after_with_number (conditions sz []) s C₁ n asked asked_is
 
   setting_is : setting ≡ with_number C₃ k
@@ -143,13 +140,12 @@ module _ (s : List ℕ) (c begun named : Cursor) (asked : ReadNumber) (prevail :
   listed o = ap (λ (r : ReadNumber). value_after (conditions sz [] r.value) s r.cursor) (with_number_is C₁ n asked asked_is (C₁_open o))
 
   given : is_open setting.cursor ≡ true → Given conditions₁ conditions₁ base (variables_of ps)
-  unfolding sz with_number
+  unfolding with_number
   given o v =
       let open' : is_open C₂ ≡ true = C₂_open (sym (ap (λ (r : ReadNumber). is_open r.cursor) setting_is) ∙ o) in
       subst (λ (l : List Pair). Given conditions₁ conditions₁ base (variables_of l)) (listed open') (e₄.gives (ap is_open prevail_is ∙ open')) v
 
   stored : EffectsStored s setting.cursor setting.value sz (variables_of ps) conditions₁ effects₀ base changed conditions₂ effects₂
-  unfolding sz
   stored = e₆.is (variables_of ps) given
 
   changed_is : changed ≡ C₄
@@ -183,8 +179,7 @@ module _ (s : List ℕ) (c begun named : Cursor) (asked : ReadNumber) (prevail :
       let whole = value_bind (count 64) _ s N ∙ value_bind (conditions sz [] n) _ s C₁ ∙ value_bind (count 64) _ s C₂ ∙ value_bind (effects sz (variables_of ps) k) _ s C₃ in
       (ap (λ (o : Operator). o.prevail) whole, ap (λ (o : Operator). o.effects) whole, ap (λ (o : Operator). o.cost) whole)
 
-  pub operator_read : OperatorRead s c (take variables sizes) metric costs conditions₀ effects₀ a ended (set costs a cost.value) conditions₂ effects₂
-  unfolding sz
+  pub operator_read : OperatorRead s c sz metric costs conditions₀ effects₀ a ended (set costs a cost.value) conditions₂ effects₂
   operator_read =
       record {
         cursor = after_is;
@@ -203,3 +198,8 @@ module _ (s : List ℕ) (c begun named : Cursor) (asked : ReadNumber) (prevail :
             ∙ ap (λ (x : List Effect). filled (cleared effects₀ base 64) base (new_pairs x)) (effects_are open' ∙ sym value_is.1)
             ∙ ap (λ (b : ℕ). filled (cleared effects₀ b 64) b (effects_of (value_after (operator sz) s c))) at;
       }
+
+-- nothing is stored behind a refusal
+pub operator_up : (s : List ℕ) (c : Cursor) (sizes : List ℕ) (metric : ℕ) (costs conditions effects : List ℕ) (a : ℕ) (r : Cursor) (costs_now conditions_now effects_now : List ℕ) → r ≡ cursor_after (operator sizes) s c → is_open r ≡ false
+    → OperatorRead s c sizes metric costs conditions effects a r costs_now conditions_now effects_now
+operator_up s c sizes metric costs conditions effects a r costs_now conditions_now effects_now e d = record { cursor = e; cost = λ o. clash o d; conditions_row = λ o. clash o d; effects_row = λ o. clash o d }

@@ -1,17 +1,22 @@
 -- The loop over the operators: what is left to be read and stored makes of the arrays what all operators make of them.
 use Prim.Native.Nat.{ℕ, suc, ◌+◌, ◌-◌, ◌*◌, ◌≤◌, ◌<◌}
-use mathlib.Core.Path.{◌≡◌, sym, ap, ap₂, ◌∙◌}
-use mathlib.Core.Bool.{true}
+use mathlib.Core.Path.{◌≡◌, refl, sym, ap, ap₂, ◌∙◌}
+use mathlib.Core.Bool.{true, false}
 use mathlib.Core.List.{List, [], ◌∷◌, map}
 use native.Mathlib.Omega.{arith}
+use Rattle.files.proofs.Logic.{clash}
+use Rattle.files.specs.declared.arrays.Arrays.{Arrays}
+use Rattle.files.specs.declared.refusals.Refusal.{Refusal}
 use Rattle.files.specs.Bytes.{placed}
+use Rattle.files.specs.Outcome.{refused}
+use Rattle.translator.proofs.Calls.{closed, after_shut}
 use Rattle.files.specs.Rows.{filled_rows}
-use Rattle.translator.specs.declared.fields.Cursor.{Cursor}
-use Rattle.translator.specs.OperatorContracts.{cost_by, conditions_of, effects_of, OperatorRead, OperatorsRead}
-use Rattle.translator.specs.Format.{repeat, is_open, cursor_after, value_after}
+use Rattle.translator.specs.Cursors.{Cursor}
+use Rattle.translator.specs.OperatorContracts.{cost_by, conditions_of, effects_of, OperatorRead, OperatorsRead, RowsOnly}
+use Rattle.translator.specs.Format.{repeat, cursor_refused, is_open, cursor_after, value_after}
 use Rattle.translator.specs.Sas.{Operator}
 use Rattle.translator.specs.Text.{each, operator}
-use Rattle.translator.proofs.ReadingLaws.{open_before}
+use Rattle.translator.proofs.ReadingLaws.{after_refused, open_before}
 use Rattle.translator.proofs.RepeatReading.{each_more, each_value}
 
 module _ (s : List ℕ) (c : Cursor) (count : ℕ) (sizes : List ℕ) (metric : ℕ) (costs₀ conditions₀ effects₀ : List ℕ) where
@@ -67,6 +72,9 @@ module _ (s : List ℕ) (c : Cursor) (count : ℕ) (sizes : List ℕ) (metric : 
               ∙ inv.effects_rest q;
         }
 
+    pub operators_stop : is_open here ≡ false → here ≡ cursor_after (each (operator sizes) count) s c
+    operators_stop d = sym (after_refused (each (operator sizes) (count - a)) s here d) ∙ inv.cursor
+
     pub operators_end : count ≤ a → OperatorsRead s c count sizes metric costs₀ conditions₀ effects₀ here costs conditions effects
     unfolding each repeat cursor_after value_after placed filled_rows
     operators_end h =
@@ -79,3 +87,20 @@ module _ (s : List ℕ) (c : Cursor) (count : ℕ) (sizes : List ℕ) (metric : 
           conditions_read = λ q. sym (ap (λ (l : List Operator). filled_rows conditions (64 * a) (map conditions_of l)) empty) ∙ inv.conditions_rest (sym (ap is_open moved) ∙ q);
           effects_read = λ q. sym (ap (λ (l : List Operator). filled_rows effects (64 * a) (map effects_of l)) empty) ∙ inv.effects_rest (sym (ap is_open moved) ∙ q);
         }
+
+  -- nothing is stored behind a refusal
+  pub operators_up : (r : Cursor) (costs conditions effects : List ℕ) → r ≡ cursor_after (each (operator sizes) count) s c → is_open r ≡ false → OperatorsRead s c count sizes metric costs₀ conditions₀ effects₀ r costs conditions effects
+  operators_up r costs conditions effects e d = record { cursor = e; costs_read = λ o. clash o d; conditions_read = λ o. clash o d; effects_read = λ o. clash o d }
+
+pub operators_shut : (s : List ℕ) (e : Refusal) (count : ℕ) (sizes : List ℕ) (metric : ℕ) (costs conditions effects costs_now conditions_now effects_now : List ℕ)
+    → OperatorsRead s (cursor_refused (refused e)) count sizes metric costs conditions effects (cursor_refused (refused e)) costs_now conditions_now effects_now
+operators_shut s e count sizes metric costs conditions effects costs_now conditions_now effects_now =
+    operators_up s _ count sizes metric costs conditions effects _ costs_now conditions_now effects_now (after_shut s e (each (operator sizes) count)) (closed e)
+
+-- the arrays of the actions, one change behind another
+pub rows_same : (a : Arrays) → RowsOnly a a
+rows_same a = record { variables = refl; actions = refl; sizes = refl; starts = refl; goal = refl }
+
+pub rows_then : (a b c : Arrays) → RowsOnly a b → RowsOnly b c → RowsOnly a c
+rows_then a b c p q =
+    record { variables = q.variables ∙ p.variables; actions = q.actions ∙ p.actions; sizes = q.sizes ∙ p.sizes; starts = q.starts ∙ p.starts; goal = q.goal ∙ p.goal }

@@ -6,7 +6,7 @@ use mathlib.Core.List.{List}
 use mathlib.Core.Option.{Option, none, some}
 use lib.ListN.{drop}
 use Rattle.files.proofs.Logic.{clash, split}
-use Rattle.translator.specs.declared.fields.Cursor.{Cursor}
+use Rattle.translator.specs.Cursors.{Cursor}
 use Rattle.translator.specs.Fields.{Field, Value, field_value}
 use Rattle.translator.specs.Format.{Fault, Format, gives, field, bind, is_open, field_after, fault_after, step_after, cursor_after, value_after}
 

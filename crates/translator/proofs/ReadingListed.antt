@@ -12,7 +12,7 @@ use Rattle.files.specs.Listed as files
 use Rattle.files.specs.Outcome.{done, refusal, is_done}
 use Rattle.files.proofs.Listed.{listed_done}
 use Rattle.files.proofs.Logic.{split}
-use Rattle.translator.specs.declared.fields.Cursor.{Cursor}
+use Rattle.translator.specs.Cursors.{Cursor}
 use Rattle.translator.specs.Fields.{Field, Value}
 use Rattle.translator.specs.Format.{Fault, unsupported, given_twice, outside_limits, out_of_range, fault_number, Format, gives, field, cursor_at, is_open, field_after, step_after, cursor_after}
 use Rattle.translator.specs.Translate.{text_refusals}

@@ -7,9 +7,8 @@ use mathlib.Core.Option.{Option, none}
 use native.Mathlib.Omega.{arith}
 use lib.ListN.{length, take, drop, length-append, take-append-drop}
 use lib.Seq.{drop-append_seam, take-append-le, take-append-add}
-use Rattle.files.specs.declared.Outcome.{Outcome}
-use Rattle.files.specs.Outcome.{refusal}
-use Rattle.translator.specs.declared.fields.Cursor.{Cursor}
+use Rattle.files.specs.Outcome.{Outcome, refusal}
+use Rattle.translator.specs.Cursors.{Cursor}
 use Rattle.translator.specs.Fields.{Field, word, name, flag, number, signed, Value, field_value}
 use Rattle.translator.specs.Format.{Fault, Format, gives, field, cursor_at, cursor_after}
 use Rattle.translator.specs.Sas.{is_name}

@@ -7,10 +7,9 @@ use mathlib.Core.Logic.{⊎_elim}
 use mathlib.Core.Option.{Option, none, some}
 use lib.ListN.{length, drop}
 use lib.Seq.{drop-drop, drop-append_seam}
-use Rattle.files.specs.declared.Outcome.{Outcome}
-use Rattle.files.specs.Outcome.{done, refusal, is_done}
+use Rattle.files.specs.Outcome.{Outcome, done, refusal, is_done}
 use Rattle.files.proofs.Logic.{split_option}
-use Rattle.translator.specs.declared.fields.Cursor.{Cursor}
+use Rattle.translator.specs.Cursors.{Cursor}
 use Rattle.translator.specs.Fields.{Field, Value, field_at, field_length, field_value}
 use Rattle.translator.specs.Format.{Fault, unsupported, given_twice, outside_limits, out_of_range, fault_number, Format, field, cursor_at, cursor_refused, is_open, cursor_by, field_after, fault_after, step_after, cursor_after, value_after}
 use Rattle.translator.proofs.Written.{written, writable, Unfinished, FieldRight}

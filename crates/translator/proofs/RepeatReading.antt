@@ -1,12 +1,11 @@
 -- Lists of elements that are read one behind another: each by a state, all by one format, and while a count goes down.
-use Prim.Native.Nat.{ℕ, zero, suc, ◌-◌, ◌≤◌, ◌<◌}
+use Prim.Native.Nat.{ℕ, zero, suc, ◌+◌, ◌-◌, ◌≤◌, ◌<◌}
 use mathlib.Core.Path.{◌≡◌, refl, sym, ap, ◌∙◌}
 use mathlib.Core.Bool.{false}
 use mathlib.Core.List.{List, [], ◌∷◌}
 use native.Mathlib.Omega.{arith}
 use lib.ListN.{length}
-use Rattle.files.proofs.Guards.{is_refused}
-use Rattle.translator.specs.declared.fields.Cursor.{Cursor}
+use Rattle.translator.specs.Cursors.{Cursor}
 use Rattle.translator.specs.Format.{Format, gives, bind, repeat, is_open, cursor_after, value_after}
 use Rattle.translator.specs.Text.{each}
 use Rattle.translator.proofs.ReadingLaws.{after_refused, after_bind, value_bind}
@@ -86,12 +85,18 @@ module _ {A : Type 0} (f : Format A) (s : List ℕ) (left : ℕ) (here whole : C
   unfolding each
   each_next next h e = repeat_next (λ state. f) (λ state a. state) s tt left here next h e ∙ is
 
-  -- what is left does not matter behind a refusal
-  each_refused : is_open here ≡ false → here ≡ whole
-  each_refused e = sym (after_refused (each f left) s here e) ∙ is
+-- a loop that counts up
+module _ {A : Type 0} (f : Format A) (s : List ℕ) (count i : ℕ) (here whole : Cursor) (is : cursor_after (each f (count - i)) s here ≡ whole) where
+  pub each_all : count ≤ i → here ≡ whole
+  each_all h = each_end f s (count - i) here whole is (omega arith)
 
--- and ends at a refusal
-pub each_stops : {A : Type 0} (f : Format A) (s : List ℕ) (left : ℕ) (here whole : Cursor) → cursor_after (each f left) s here ≡ whole
-    → (next : Cursor) → 0 < left → next ≡ cursor_after f s here → (next.outcome.number ≡ 0 → ⊥) → next ≡ whole
-unfolding is_open
-each_stops f s left here whole is next h e d = each_refused f s (left - 1) next whole (each_next f s left here whole is next h e) (is_refused next.outcome d)
+  pub each_on : (next : Cursor) → i < count → next ≡ cursor_after f s here → cursor_after (each f (count - (i + 1))) s next ≡ whole
+  each_on next h e =
+      let further : count - (i + 1) ≡ count - i - 1 = omega arith in
+      ap (λ (n : ℕ). cursor_after (each f n) s next) further ∙ each_next f s (count - i) here whole is next (omega arith) e
+
+  pub each_up : (next : Cursor) → i < count → next ≡ cursor_after f s here → is_open next ≡ false → next ≡ whole
+  each_up next h e d = sym (after_refused (each f (count - (i + 1))) s next d) ∙ each_on next h e
+
+pub each_from : {A : Type 0} (f : Format A) (s : List ℕ) (count : ℕ) (c : Cursor) → cursor_after (each f (count - 0)) s c ≡ cursor_after (each f count) s c
+each_from f s count c = let all : count - 0 ≡ count = omega arith in ap (λ (n : ℕ). cursor_after (each f n) s c) all

@@ -9,15 +9,14 @@ use lib.Dec.{leb}
 use lib.ListN.{length, take, drop, length-append, length-drop, drop_of_length-le}
 use lib.Seq.{length-take-le, take-length, take-append_seam}
 use borrow.Author.Tests.{le-leb, lt-leb}
-use Rattle.files.specs.declared.Outcome.{Outcome}
-use Rattle.files.specs.Outcome.{done, refusal, is_done, guard, and_then}
+use Rattle.files.specs.Outcome.{Outcome, done, refusal, is_done, guard, and_then}
 use Rattle.files.specs.Listed.{listed}
 use Rattle.files.specs.Records.{size_fits}
 use Rattle.files.proofs.Done.{facts}
 use Rattle.files.proofs.Guards.{guard_passes, guard_refuses}
 use Rattle.files.proofs.Listed.{listed_done, listed_guard, listed_both}
 use Rattle.files.proofs.Logic.{clash, split, split_le}
-use Rattle.translator.specs.declared.fields.Cursor.{Cursor}
+use Rattle.translator.specs.Cursors.{Cursor}
 use Rattle.translator.specs.Format.{outside_limits, cursor_at, is_open, cursor_after}
 use Rattle.translator.specs.Right.{States, TextsRight, PlaceRight, PlacesRight}
 use Rattle.translator.specs.Sas.{Sas, printed, well_named}

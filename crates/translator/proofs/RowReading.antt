@@ -12,8 +12,8 @@ use borrow.Author.Tests.{le-leb, lt-leb, lt-ltb, ne_eqb, eqb-true, eqb-false, lt
 use Rattle.files.proofs.Logic.{split, split_le}
 use Rattle.files.specs.Below.{any_of}
 use Rattle.files.specs.Rows.{stored}
-use Rattle.translator.specs.declared.fields.Cursor.{Cursor}
-use Rattle.translator.specs.declared.fields.ReadNumber.{ReadNumber}
+use Rattle.translator.specs.Cursors.{Cursor}
+use Rattle.translator.specs.Cursors.{ReadNumber}
 use Rattle.translator.specs.Clauses.{capped, with_number, number_after, judged, number_by, same}
 use Rattle.translator.specs.ListContracts.{is_new, Given, variable_of}
 use Rattle.translator.specs.Fields.{number, field_value}

@@ -9,9 +9,9 @@ use lib.ListN.{length, get_or, take, drop, set, length-map, length-set, drop_of_
 use lib.Seq.{length-take-le, drop-cons, get_or-take}
 use Rattle.files.specs.Bytes.{placed}
 use Rattle.files.proofs.Logic.{clash, split}
-use Rattle.translator.specs.declared.fields.Cursor.{Cursor}
-use Rattle.translator.specs.declared.fields.ReadNumber.{ReadNumber}
-use Rattle.translator.specs.Clauses.{Inside, with_number, number_by, same}
+use Rattle.translator.specs.Cursors.{Cursor}
+use Rattle.translator.specs.Cursors.{ReadNumber}
+use Rattle.translator.specs.Clauses.{with_number, number_by, same}
 use Rattle.translator.specs.VariableContracts.{size_of, DeclarationsRead, StartsStored, StartsRead}
 use Rattle.translator.specs.ListContracts.{value_below}
 use Rattle.translator.specs.Format.{Format, gives, is_open, cursor_after, value_after}
@@ -20,7 +20,6 @@ use Rattle.translator.specs.Stated.{sizes_of}
 use Rattle.translator.specs.Text.{each, declaration, start, starts}
 use Rattle.translator.proofs.ReadingLaws.{after_refused, open_before}
 use Rattle.translator.proofs.ListReading.{number_cursor}
-use Rattle.translator.proofs.InsideReading.{number_inside}
 use Rattle.translator.proofs.RepeatReading.{first, first_after, first_value, each_empty, each_first}
 use Rattle.translator.proofs.StepReading.{with_number_value}
 
@@ -60,6 +59,9 @@ module _ {A : Type 0} (cell : A → ℕ) (s : List ℕ) (all : Format (List A)) 
     unfolding cursor_after
     storing_cursor e = sym (ap (λ (x : Format (List A)). cursor_after x s here) e) ∙ inv.onward
 
+    storing_stop : is_open here ≡ false → here ≡ cursor_after all s from
+    storing_stop d = sym (after_refused left s here d) ∙ inv.onward
+
     storing_cells : left ≡ gives [] → is_open here ≡ true → cells ≡ placed before 0 (map (λ a. cell a % 256) (value_after all s from))
     unfolding value_after placed
     storing_cells e o =
@@ -70,21 +72,24 @@ module _ {A : Type 0} (cell : A → ℕ) (s : List ℕ) (all : Format (List A)) 
 abbrev pub DeclarationsFrom : List ℕ → Cursor → ℕ → List ℕ → Cursor → ℕ → List ℕ → Type 0
 DeclarationsFrom s c count before here v cells =
     Storing size_of s (each declaration count) c before (each declaration (count - v)) here v cells
-    × Inside s here.at
     × (length cells ≡ length before)
     × (v ≤ count)
 
-pub declarations_start : (s : List ℕ) (c : Cursor) (count : ℕ) (before : List ℕ) → Inside s c.at → DeclarationsFrom s c count before c 0 before
-declarations_start s c count before h = (storing_begin size_of s (each declaration count) c before _ (ap (each declaration) (omega arith)), h, refl, omega arith)
+pub declarations_start : (s : List ℕ) (c : Cursor) (count : ℕ) (before : List ℕ) → DeclarationsFrom s c count before c 0 before
+declarations_start s c count before = (storing_begin size_of s (each declaration count) c before _ (ap (each declaration) (omega arith)), refl, omega arith)
 
 module _ (s : List ℕ) (c : Cursor) (count : ℕ) (before : List ℕ) (here : Cursor) (v : ℕ) (cells : List ℕ) (inv : DeclarationsFrom s c count before here v cells) where
   pub declarations_next : (one : ReadNumber) → v < count → one ≡ number_by declaration size_of s here → DeclarationsFrom s c count before one.cursor (v + 1) (set cells v (one.value % 256))
   declarations_next one h q = (
     storing_next size_of s (each declaration count) c before _ here v cells inv.0 declaration (each declaration (count - (v + 1))) one (each_first declaration (count - v) (count - (v + 1)) (omega arith)) q,
-    number_inside declaration size_of s here one inv.1 q,
-    length-set cells v (one.value % 256) ∙ inv.2,
+    length-set cells v (one.value % 256) ∙ inv.1,
     omega arith,
   )
+
+  pub declarations_up : (one : ReadNumber) (now : List ℕ) → v < count → one ≡ number_by declaration size_of s here → is_open one.cursor ≡ false → DeclarationsRead s c count before one.cursor now
+  declarations_up one now h q d =
+      let on = declarations_next one h q in
+      record { cursor = storing_stop size_of s (each declaration count) c before _ one.cursor (v + 1) _ on.0 d; stored = λ o. clash o d }
 
   pub declarations_end : count ≤ v → DeclarationsRead s c count before here cells
   declarations_end h =
@@ -129,13 +134,12 @@ module _ (ds : List Declaration) (count : ℕ) (sizes : List ℕ) (is : sizes_of
 abbrev pub StartsFrom : List ℕ → Cursor → ℕ → List ℕ → List ℕ → Cursor → ℕ → List ℕ → Type 0
 StartsFrom s c count sizes before here v cells =
     ((ds : List Declaration) → sizes_of ds ≡ take count sizes → Storing (λ x. x.start) s (starts ds) c before (starts (drop v ds)) here v cells)
-    × Inside s here.at
     × (length cells ≡ length before)
     × (v ≤ count)
     × (is_open c ≡ false → here ≡ c)
 
-pub starts_start : (s : List ℕ) (c : Cursor) (count : ℕ) (sizes before : List ℕ) → Inside s c.at → StartsFrom s c count sizes before c 0 before
-starts_start s c count sizes before h = (λ ds e. storing_begin (λ x. x.start) s (starts ds) c before _ refl, h, refl, omega arith, λ o. refl)
+pub starts_start : (s : List ℕ) (c : Cursor) (count : ℕ) (sizes before : List ℕ) → StartsFrom s c count sizes before c 0 before
+starts_start s c count sizes before = (λ ds e. storing_begin (λ x. x.start) s (starts ds) c before _ refl, refl, omega arith, λ o. refl)
 
 module _ (s : List ℕ) (c : Cursor) (count : ℕ) (sizes before : List ℕ) (here : Cursor) (v : ℕ) (cells : List ℕ) (room : count ≤ length sizes) (inv : StartsFrom s c count sizes before here v cells) where
   pub starts_next : (one : ReadNumber) → v < count → one ≡ number_by (value_below (get_or sizes v 0)) same s here → StartsFrom s c count sizes before one.cursor (v + 1) (set cells v (one.value % 256))
@@ -145,11 +149,18 @@ module _ (s : List ℕ) (c : Cursor) (count : ℕ) (sizes before : List ℕ) (he
         storing_next (λ x. x.start) s (starts ds) c before _ here v cells (inv.0 ds e) (start d) (starts (drop (v + 1) ds)) one
         (starts_first (drop v ds) d (drop (v + 1) ds) (declared_first ds count sizes e room v h))
         (start_is d (get_or sizes v 0) s here one (declared_size ds count sizes e room v h) q),
-    number_inside (value_below (get_or sizes v 0)) same s here one inv.1 q,
-    length-set cells v (one.value % 256) ∙ inv.2,
+    length-set cells v (one.value % 256) ∙ inv.1,
     omega arith,
-    λ o. number_cursor (value_below (get_or sizes v 0)) same s here one q ∙ after_refused (value_below (get_or sizes v 0)) s here (ap is_open (inv.4 o) ∙ o) ∙ inv.4 o,
+    λ o. number_cursor (value_below (get_or sizes v 0)) same s here one q ∙ after_refused (value_below (get_or sizes v 0)) s here (ap is_open (inv.3 o) ∙ o) ∙ inv.3 o,
   )
+
+  pub starts_up : (one : ReadNumber) (now : List ℕ) → v < count → one ≡ number_by (value_below (get_or sizes v 0)) same s here → is_open c ≡ true → is_open one.cursor ≡ false → StartsRead s c count sizes before one.cursor now
+  starts_up one now h q p d =
+      let on = starts_next one h q in
+      record {
+        is = λ ds e.
+            record { cursor = storing_stop (λ x. x.start) s (starts ds) c before _ one.cursor (v + 1) _ (on.0 ds (e p)) d; stored = λ o. clash o d };
+      }
 
   starts_stored : count ≤ v → (ds : List Declaration) → sizes_of ds ≡ take count sizes → StartsStored s c ds before here cells
   starts_stored h ds e =
@@ -163,9 +174,8 @@ module _ (s : List ℕ) (c : Cursor) (count : ℕ) (sizes before : List ℕ) (he
   pub starts_end : count ≤ v → StartsRead s c count sizes before here cells
   starts_end h =
       record {
-        inside = inv.1;
         is = λ ds e.
             split (is_open c)
             (λ o. starts_stored h ds (e o))
-            (λ o. record { cursor = inv.4 o ∙ sym (after_refused (starts ds) s c o); stored = λ q. clash q (ap is_open (inv.4 o) ∙ o) });
+            (λ o. record { cursor = inv.3 o ∙ sym (after_refused (starts ds) s c o); stored = λ q. clash q (ap is_open (inv.3 o) ∙ o) });
       }

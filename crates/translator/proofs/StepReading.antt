@@ -10,8 +10,8 @@ use lib.ListN.{drop}
 use borrow.Author.Tests.{le-leb, lt-leb, le-ltb, ne_eqb}
 use Rattle.files.proofs.Logic.{clash, split, split_le}
 use Rattle.files.specs.Outcome.{refusal}
-use Rattle.translator.specs.declared.fields.Cursor.{Cursor}
-use Rattle.translator.specs.declared.fields.ReadNumber.{ReadNumber}
+use Rattle.translator.specs.Cursors.{Cursor}
+use Rattle.translator.specs.Cursors.{ReadNumber}
 use Rattle.translator.specs.Clauses.{capped, coded, with_number, number_after, signed_after, judged, number_by}
 use Rattle.translator.specs.Fields.{Field, Value, number, signed, field_value}
 use Rattle.translator.specs.Format.{Fault, fault_number, unless, gives, field, is_open, cursor_refused, field_after, fault_after, step_after, cursor_after, value_after}

@@ -6,7 +6,7 @@ use mathlib.Core.List.{List, [], ◌∷◌, map}
 use lib.ListN.{drop}
 use Rattle.files.specs.Task.{Pair}
 use Rattle.digits.specs.Decimal.{ascii}
-use Rattle.translator.specs.declared.fields.Cursor.{Cursor}
+use Rattle.translator.specs.Cursors.{Cursor}
 use Rattle.translator.specs.VariableContracts.{groups_after}
 use Rattle.translator.specs.Fields.{word, flag, number, field_value}
 use Rattle.translator.specs.Format.{field, cursor_at, field_after, fault_after, step_after, cursor_after, value_after}

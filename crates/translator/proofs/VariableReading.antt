@@ -1,5 +1,5 @@
 -- Layers, names and declarations, from the code's own steps.
-use Prim.Native.Nat.{ℕ, ◌-◌, ◌≤◌, ◌<◌}
+use Prim.Native.Nat.{ℕ, ◌≤◌}
 use mathlib.Core.Path.{◌≡◌, sym, ap, ap₂, ◌∙◌}
 use mathlib.Core.Bool.{true}
 use mathlib.Core.List.{List}
@@ -8,8 +8,8 @@ use native.Mathlib.Omega.{arith}
 use lib.Dec.{eqb}
 use lib.ListN.{drop}
 use Rattle.digits.specs.Decimal.{ascii}
-use Rattle.translator.specs.declared.fields.Cursor.{Cursor}
-use Rattle.translator.specs.declared.fields.ReadNumber.{ReadNumber}
+use Rattle.translator.specs.Cursors.{Cursor}
+use Rattle.translator.specs.Cursors.{ReadNumber}
 use Rattle.translator.specs.Clauses.{coded, with_number, signed_after, judged, number_by, same}
 use Rattle.translator.specs.VariableContracts.{size_of, layer_after}
 use Rattle.translator.specs.Fields.{word, name, signed, field_value}
@@ -20,8 +20,8 @@ use Rattle.translator.specs.Text.{any, says, size, name_lines, declaration}
 use Rattle.translator.proofs.ReadingLaws.{after_bind, value_bind, open_before}
 use Rattle.translator.proofs.CountReading.{size_most}
 use Rattle.translator.proofs.StepReading.{with_number_value, with_number_same, signed_is, none_coded, read_value, read_tested}
-use Rattle.translator.proofs.RepeatReading.{each_length, each_next, each_end}
-use Rattle.translator.proofs.InsideReading.{step_after_lem, field_before, after_with_number}
+use Rattle.translator.proofs.RepeatReading.{each_length}
+use Rattle.translator.proofs.InsideReading.{field_before, after_with_number}
 
 pub layer_read : (s : List ℕ) (c : Cursor) (n : ReadNumber) (j : Cursor) → n ≡ signed_after line_feed s c → j ≡ judged n.cursor (eqb n.value 1048577) 32 c.at → j ≡ layer_after s c
 unfolding layer_after
@@ -29,15 +29,6 @@ layer_read s c n j is e =
     let v : Option ℕ = field_value (signed line_feed) (drop c.at s) in
     read_tested (signed line_feed) s c n (coded v) (signed_is line_feed s c n is) unsupported is_none (eqb n.value 1048577) j
     (λ o. ap (λ (x : ℕ). eqb x 1048577) (read_value (signed line_feed) s c n (coded v) (signed_is line_feed s c n is) o) ∙ none_coded v) e
-
--- the names of values
-pub name_next : (s : List ℕ) (left : ℕ) (here next whole : Cursor) → cursor_after (name_lines left) s here ≡ whole → 0 < left → next ≡ field_after name s here → cursor_after (name_lines (left - 1)) s next ≡ whole
-unfolding name_lines
-name_next s left here next whole e h q = each_next (field name any gives) s left here whole e next h (q ∙ step_after_lem name s here)
-
-pub names_end : (s : List ℕ) (left : ℕ) (here whole : Cursor) → cursor_after (name_lines left) s here ≡ whole → left ≤ 0 → here ≡ whole
-unfolding name_lines
-names_end s left here whole e h = each_end (field name any gives) s left here whole e h
 
 -- a declaration: a size, then as many names
 module _ (s : List ℕ) (c : Cursor) where

@@ -9,8 +9,7 @@ use native.Mathlib.Nat.{add-zero}
 use lib.Dec.{eqb}
 use lib.ListN.{length, drop}
 use borrow.Author.Tests.{eq-eqb, eqb-true}
-use Rattle.files.specs.declared.Outcome.{Outcome}
-use Rattle.files.specs.Outcome.{done, refusal, guard}
+use Rattle.files.specs.Outcome.{Outcome, done, refusal, guard}
 use Rattle.files.proofs.Guards.{guard_passes, guard_refuses}
 use Rattle.files.proofs.Logic.{split}
 use Rattle.translator.specs.Fields.{byte_at, word_at}

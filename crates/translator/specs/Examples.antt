@@ -3,8 +3,7 @@ use Rattle.std.specs.Prelude.{ℕ, ◌+◌, List, [], ◌∷◌, ◌++◌, take,
 use Prim.Native.String.{String}
 use Rattle.files.specs.Examples.{used, outcome_parts, Case, case}
 use Rattle.digits.specs.Decimal.{ascii}
-use Rattle.translator.specs.declared.Translated.{Translated}
-use Rattle.translator.specs.Translate.{translate_answer, translated_file}
+use Rattle.translator.specs.Translate.{Translated, translate_answer, translated_file}
 
 -- no variable, no action
 abbrev pub text_m : List ℕ

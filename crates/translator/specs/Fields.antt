@@ -2,8 +2,7 @@
 -- from the rest of a text; `at` is the offset of that rest, for the place of a refusal.
 use Rattle.std.specs.Prelude.{ℕ, ◌+◌, Bool, cond, ◌&&◌, ◌||◌, List, [], ◌∷◌, ◌++◌, eqb, leb, length, get_or, take, drop}
 use Rattle.std.proofs.Math.Option.{Option, none, some}
-use Rattle.files.specs.declared.Outcome.{Outcome}
-use Rattle.files.specs.Outcome.{done, refusal, guard}
+use Rattle.files.specs.Outcome.{Outcome, done, refusal, guard}
 use Rattle.digits.specs.Decimal.{ascii, number_of}
 use Rattle.translator.specs.Sas.{Separator, byte_of}
 

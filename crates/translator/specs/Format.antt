@@ -1,9 +1,8 @@
 -- Formats: which field follows which, what refuses a field's value, and how a text is read by a format.
 use Rattle.std.specs.Prelude.{ℕ, zero, suc, ◌+◌, Bool, cond, List, [], ◌∷◌, drop}
 use Rattle.std.proofs.Math.Option.{Option, none, some}
-use Rattle.files.specs.declared.Outcome.{Outcome}
-use Rattle.files.specs.Outcome.{done, refusal, is_done}
-use Rattle.translator.specs.declared.fields.Cursor.{Cursor}
+use Rattle.files.specs.Outcome.{Outcome, done, refusal, is_done}
+use Rattle.translator.specs.Cursors.{Cursor}
 use Rattle.translator.specs.Fields.{Field, Value, field_at, field_length, field_value}
 
 -- what can be wrong with a value whose form is right

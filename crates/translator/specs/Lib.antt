@@ -2,7 +2,9 @@
 pub mod Sas
 pub mod Stated
 pub mod Fields
+pub mod Cursors
 pub mod Format
+pub mod Reads
 pub mod Text
 pub mod Clauses
 pub mod VariableContracts

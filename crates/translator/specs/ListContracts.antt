@@ -1,16 +1,16 @@
 -- Names for the parts of what the functions that read lists of pairs ask and ensure.
-use Rattle.std.specs.Prelude.{ℕ, ◌+◌, ◌≤◌, ◌≡◌, Bool, true, not, cond, ◌&&◌, List, [], ◌∷◌, eqb, leb, ltb, length, get_or, take}
+use Rattle.std.specs.Prelude.{ℕ, ◌+◌, ◌≤◌, ◌≡◌, Bool, true, not, cond, ◌&&◌, List, [], ◌∷◌, eqb, leb, ltb, length, get_or}
 use Rattle.std.proofs.Math.Option.{none}
 use Rattle.files.specs.Below.{any_of}
 use Rattle.files.specs.Rows.{cleared, filled}
-use Rattle.translator.specs.declared.fields.Cursor.{Cursor}
-use Rattle.translator.specs.declared.fields.ReadNumber.{ReadNumber}
+use Rattle.translator.specs.Cursors.{Cursor}
+use Rattle.translator.specs.Cursors.{ReadNumber}
 use Rattle.translator.specs.Fields.{number}
 use Rattle.translator.specs.Format.{out_of_range, unless, Format, gives, field, is_open, cursor_after, value_after}
 use Rattle.translator.specs.Sas.{blank, line_feed}
 use Rattle.translator.specs.Stated.{variables_of}
 use Rattle.translator.specs.Text.{variable_fault, condition, conditions}
-use Rattle.translator.specs.Clauses.{Inside, number_by, same}
+use Rattle.translator.specs.Clauses.{number_by, same}
 
 -- a row of 64 cells
 pub record RowInside (row : List ℕ) (base : ℕ) : Type 0 where
@@ -24,8 +24,7 @@ is_new row base v = cond (leb 64 v) true (eqb (get_or row (base + v) 0) 255)
 abbrev pub Given : List ℕ → List ℕ → ℕ → List ℕ → Type 0
 Given first second base given = (v : ℕ) → is_new first base v && is_new second base v ≡ not (any_of (eqb v) given)
 
-pub record VariableInside (s : List ℕ) (at : ℕ) (first second : List ℕ) (base variables : ℕ) : Type 0 where
-  pub inside : Inside s at
+pub record VariableInside (first second : List ℕ) (base variables : ℕ) : Type 0 where
   pub first_room : RowInside first base
   pub second_room : RowInside second base
   pub few : variables ≤ 64
@@ -35,17 +34,14 @@ abbrev pub variable_of : List ℕ → List ℕ → Format ℕ
 variable_of sizes given = field (number blank) (variable_fault sizes given) gives
 
 pub record VariableRead (s : List ℕ) (c : Cursor) (first second : List ℕ) (base variables : ℕ) (r : ReadNumber) : Type 0 where
-  pub inside : Inside s r.cursor.at
   pub is : (sizes given : List ℕ) → length sizes ≡ variables → (is_open c ≡ true → Given first second base given) → r ≡ number_by (variable_of sizes given) same s c
 
 -- a value of a domain
 abbrev pub value_below : ℕ → Format ℕ
 value_below size = field (number line_feed) (λ n. unless (ltb n size) out_of_range none) gives
 
-pub record PairInside (s : List ℕ) (at : ℕ) (sizes : List ℕ) (variables : ℕ) (row : List ℕ) (base : ℕ) : Type 0 where
-  pub inside : Inside s at
-  pub sizes_room : 64 ≤ length sizes
-  pub few : variables ≤ 64
+pub record PairInside (sizes row : List ℕ) (base : ℕ) : Type 0 where
+  pub few : length sizes ≤ 64
   pub room : RowInside row base
 
 -- a pair, and a row before and after it is stored, where nothing is refused
@@ -54,12 +50,12 @@ pub record PairStored (s : List ℕ) (c : Cursor) (sizes given before : List ℕ
   pub row : is_open r ≡ true → now ≡ filled before base (value_after (condition sizes given) s c ∷ [])
   pub gives : is_open r ≡ true → Given now now base ((value_after (condition sizes given) s c).variable ∷ given)
 
-abbrev pub PairRead : List ℕ → Cursor → List ℕ → ℕ → List ℕ → ℕ → Cursor → List ℕ → Type 0
-PairRead s c sizes variables before base r now =
-    (given : List ℕ) → (is_open c ≡ true → Given before before base given) → PairStored s c (take variables sizes) given before base r now
+abbrev pub PairRead : List ℕ → Cursor → List ℕ → List ℕ → ℕ → Cursor → List ℕ → Type 0
+PairRead s c sizes before base r now =
+    (given : List ℕ) → (is_open c ≡ true → Given before before base given) → PairStored s c sizes given before base r now
 
 -- pairs, in a row that is cleared first
-pub record ListRead (s : List ℕ) (c : Cursor) (count : ℕ) (sizes : List ℕ) (variables : ℕ) (before : List ℕ) (base : ℕ) (r : Cursor) (now : List ℕ) : Type 0 where
-  pub cursor : r ≡ cursor_after (conditions (take variables sizes) [] count) s c
-  pub row : is_open r ≡ true → now ≡ filled (cleared before base 64) base (value_after (conditions (take variables sizes) [] count) s c)
-  pub gives : is_open r ≡ true → Given now now base (variables_of (value_after (conditions (take variables sizes) [] count) s c))
+pub record ListRead (s : List ℕ) (c : Cursor) (count : ℕ) (sizes before : List ℕ) (base : ℕ) (r : Cursor) (now : List ℕ) : Type 0 where
+  pub cursor : r ≡ cursor_after (conditions sizes [] count) s c
+  pub row : is_open r ≡ true → now ≡ filled (cleared before base 64) base (value_after (conditions sizes [] count) s c)
+  pub gives : is_open r ≡ true → Given now now base (variables_of (value_after (conditions sizes [] count) s c))

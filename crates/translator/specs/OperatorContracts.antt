@@ -1,17 +1,18 @@
 -- Names for the parts of what the functions that read operators ask and ensure.
-use Rattle.std.specs.Prelude.{ℕ, ◌*◌, ◌≤◌, ◌<◌, ◌≡◌, Bool, true, cond, List, [], ◌∷◌, ◌++◌, map, eqb, ltb, length, take, set}
+use Rattle.std.specs.Prelude.{ℕ, ◌*◌, ◌≤◌, ◌<◌, ◌≡◌, Bool, true, cond, List, [], ◌∷◌, ◌++◌, map, eqb, ltb, length, take, set, Some, None}
+use Rattle.std.specs.Prelude as Std
 use Rattle.std.proofs.Math.Option.{Option, none, some}
+use Rattle.files.specs.declared.arrays.Arrays.{Arrays}
 use Rattle.files.specs.Bytes.{placed}
 use Rattle.files.specs.Rows.{cleared, stored, filled, filled_rows}
 use Rattle.files.specs.Task.{Pair}
-use Rattle.translator.specs.declared.fields.Cursor.{Cursor}
+use Rattle.translator.specs.Cursors.{Cursor}
 use Rattle.translator.specs.Fields.{number, signed}
 use Rattle.translator.specs.Format.{unsupported, out_of_range, unless, Format, gives, field, is_open, step_after, cursor_after, value_after}
 use Rattle.translator.specs.Sas.{Operator, blank}
 use Rattle.translator.specs.Stated.{old_pairs, new_pairs}
 use Rattle.translator.specs.Text.{each, effect, operator}
 use Rattle.translator.specs.Text as Text
-use Rattle.translator.specs.Clauses.{Inside}
 use Rattle.translator.specs.ListContracts.{RowInside, Given}
 
 -- a cursor behind the count of an effect's conditions
@@ -26,17 +27,13 @@ below_or_none size (some value) = ltb value size
 abbrev pub old_below : ℕ → Format (Option ℕ)
 old_below size = field (signed blank) (λ o. unless (below_or_none size o) out_of_range none) gives
 
--- the same of a coded one
-unfoldable pub is_old : ℕ → ℕ → Bool
-is_old value size = cond (eqb value 1048577) true (ltb value size)
+-- a row behind an old value
+abbrev pub stored_option : List ℕ → ℕ → ℕ → Std.Option ℕ → List ℕ
+stored_option row base v None = row
+stored_option row base v (Some value) = stored row base v value
 
-unfoldable pub stored_old : List ℕ → ℕ → ℕ → ℕ → List ℕ
-stored_old row base v value = cond (eqb value 1048577) row (stored row base v value)
-
-pub record EffectInside (s : List ℕ) (at : ℕ) (sizes : List ℕ) (variables : ℕ) (conditions effects : List ℕ) (base : ℕ) : Type 0 where
-  pub inside : Inside s at
-  pub sizes_room : 64 ≤ length sizes
-  pub few : variables ≤ 64
+pub record EffectInside (sizes conditions effects : List ℕ) (base : ℕ) : Type 0 where
+  pub few : length sizes ≤ 64
   pub conditions_room : RowInside conditions base
   pub effects_room : RowInside effects base
 
@@ -47,10 +44,9 @@ pub record EffectStored (s : List ℕ) (c : Cursor) (sizes given conditions effe
   pub effects_row : is_open r ≡ true → effects_now ≡ filled effects base (new_pairs (value_after (effect sizes given) s c ∷ []))
   pub gives : is_open r ≡ true → Given conditions_now effects_now base ((value_after (effect sizes given) s c).variable ∷ given)
 
-pub record EffectRead (s : List ℕ) (c : Cursor) (sizes : List ℕ) (variables : ℕ) (conditions effects : List ℕ) (base : ℕ) (r : Cursor) (conditions_now effects_now : List ℕ) : Type 0 where
-  pub inside : Inside s r.at
+pub record EffectRead (s : List ℕ) (c : Cursor) (sizes conditions effects : List ℕ) (base : ℕ) (r : Cursor) (conditions_now effects_now : List ℕ) : Type 0 where
   pub is : (given : List ℕ) → (is_open c ≡ true → Given conditions effects base given)
-      → EffectStored s c (take variables sizes) given conditions effects base r conditions_now effects_now
+      → EffectStored s c sizes given conditions effects base r conditions_now effects_now
 
 -- effects behind prevail conditions that gave variables: a row of effects that is cleared first
 pub record EffectsStored (s : List ℕ) (c : Cursor) (count : ℕ) (sizes given conditions effects : List ℕ) (base : ℕ) (r : Cursor) (conditions_now effects_now : List ℕ) : Type 0 where
@@ -58,33 +54,21 @@ pub record EffectsStored (s : List ℕ) (c : Cursor) (count : ℕ) (sizes given 
   pub conditions_row : is_open r ≡ true → conditions_now ≡ filled conditions base (old_pairs (value_after (Text.effects sizes given count) s c))
   pub effects_row : is_open r ≡ true → effects_now ≡ filled (cleared effects base 64) base (new_pairs (value_after (Text.effects sizes given count) s c))
 
-pub record EffectsRead (s : List ℕ) (c : Cursor) (count : ℕ) (sizes : List ℕ) (variables : ℕ) (conditions effects : List ℕ) (base : ℕ) (r : Cursor) (conditions_now effects_now : List ℕ) : Type 0 where
-  pub inside : Inside s r.at
+pub record EffectsRead (s : List ℕ) (c : Cursor) (count : ℕ) (sizes conditions effects : List ℕ) (base : ℕ) (r : Cursor) (conditions_now effects_now : List ℕ) : Type 0 where
   pub is : (given : List ℕ) → (is_open c ≡ true → Given conditions conditions base given)
-      → EffectsStored s c count (take variables sizes) given conditions effects base r conditions_now effects_now
+      → EffectsStored s c count sizes given conditions effects base r conditions_now effects_now
 
 -- metric 0: every operator costs 1
 unfoldable pub cost_by : ℕ → ℕ → ℕ
 cost_by metric cost = cond (eqb metric 0) 1 cost
 
--- rooms for action a, and for the first `count` actions
-pub record OperatorInside (s : List ℕ) (at : ℕ) (sizes : List ℕ) (variables : ℕ) (costs conditions effects : List ℕ) (a : ℕ) : Type 0 where
-  pub inside : Inside s at
-  pub sizes_room : 64 ≤ length sizes
-  pub few : variables ≤ 64
-  pub known : a < 512
-  pub costs_room : 512 ≤ length costs
-  pub conditions_room : 32768 ≤ length conditions
-  pub effects_room : 32768 ≤ length effects
-
-pub record OperatorsInside (s : List ℕ) (at count : ℕ) (sizes : List ℕ) (variables : ℕ) (costs conditions effects : List ℕ) : Type 0 where
-  pub inside : Inside s at
-  pub sizes_room : 64 ≤ length sizes
-  pub few : variables ≤ 64
-  pub few_actions : count ≤ 512
-  pub costs_room : 512 ≤ length costs
-  pub conditions_room : 32768 ≤ length conditions
-  pub effects_room : 32768 ≤ length effects
+-- of a task's arrays only the actions' change
+pub record RowsOnly (before now : Arrays) : Type 0 where
+  pub variables : now.variables ≡ before.variables
+  pub actions : now.actions ≡ before.actions
+  pub sizes : now.sizes ≡ before.sizes
+  pub starts : now.starts ≡ before.starts
+  pub goal : now.goal ≡ before.goal
 
 -- the conditions and effects of an operator, in the text's order
 abbrev pub conditions_of : Operator → List Pair

@@ -2,9 +2,8 @@
 use Rattle.std.specs.Prelude.{ℕ, not, List, [], ◌∷◌, eqb, leb, ltb, length}
 use Prim.Native.String.{String}
 use Rattle.std.proofs.Math.Option.{Option, none}
-use Rattle.files.specs.declared.Outcome.{Outcome}
+use Rattle.files.specs.Outcome.{Outcome, done, guard, and_then}
 use Rattle.files.specs.Below.{any_of}
-use Rattle.files.specs.Outcome.{done, guard, and_then}
 use Rattle.files.specs.Records.{size_fits}
 use Rattle.files.specs.Task.{Pair, Task, pair}
 use Rattle.digits.specs.Decimal.{ascii}

@@ -1,12 +1,16 @@
 -- The call: a text becomes the file of the task that it states, under the signer given.
-use Rattle.std.specs.Prelude.{ℕ, List, [], ◌∷◌, map, ◌++◌, leb, length}
-use Rattle.files.specs.declared.Outcome.{Outcome}
+use Rattle.std.specs.Prelude.{ℕ, List, [], ◌∷◌, map, ◌++◌, leb, length, Result, Ok, Err}
+use Rattle.files.specs.Outcome.{Outcome, done, guard, fits, overwrite, refused}
+use Rattle.files.specs.declared.refusals.Refusal as refusals
 use Rattle.files.specs.Listed.{Refusal, in_file, refused_at, short}
-use Rattle.files.specs.Outcome.{done, guard, fits, overwrite}
 use Rattle.files.specs.Stages.{Stage, stage, outcome_of, left_by, answer_by, ByStages, Answers}
 use Rattle.files.specs.TaskFile.{task_file}
-use Rattle.translator.specs.declared.Translated.{Translated}
 use Rattle.translator.specs.Text.{check_text, text_task}
+
+-- an outcome and the bytes of the file, 0 beside a refusal
+pub record Translated : Type 0 where
+  pub outcome : Outcome
+  pub file : ℕ
 
 -- the file that is written
 abbrev pub translated : List ℕ → ℕ → List ℕ
@@ -26,6 +30,11 @@ translate_whole text signer = record { outcome = done; file = length (translated
 -- beside a refusal the length is 0
 abbrev pub no_file : Outcome → Translated
 no_file o = record { outcome = o; file = 0 }
+
+-- what the call answers
+abbrev pub translated_of : Result ℕ refusals.Refusal → Translated
+translated_of (Ok n) = record { outcome = done; file = n }
+translated_of (Err r) = no_file (refused r)
 
 -- the call: what it answers, and what the file buffer holds now
 abbrev pub Translates : List ℕ → ℕ → List ℕ → Translated → List ℕ → Type 0

@@ -1,13 +1,12 @@
 -- Names for the parts of what the functions that read variables and mutex groups ask and ensure.
 use Rattle.std.specs.Prelude.{ℕ, ◌%◌, ◌≤◌, ◌≡◌, true, List, map, length, take}
 use Rattle.files.specs.Bytes.{placed}
-use Rattle.translator.specs.declared.fields.Cursor.{Cursor}
+use Rattle.translator.specs.Cursors.{Cursor}
 use Rattle.translator.specs.Fields.{number, signed}
 use Rattle.translator.specs.Format.{field, is_open, step_after, cursor_after, value_after}
 use Rattle.translator.specs.Sas.{Declaration, Started, line_feed}
 use Rattle.translator.specs.Stated.{sizes_of}
 use Rattle.translator.specs.Text.{any, each, layer_fault, declaration, group, starts}
-use Rattle.translator.specs.Clauses.{Inside}
 
 abbrev pub size_of : Declaration → ℕ
 size_of d = length d.values
@@ -17,13 +16,12 @@ unfoldable pub layer_after : List ℕ → Cursor → Cursor
 layer_after s c = step_after (signed line_feed) layer_fault s c
 
 -- arrays with a cell for each of `count` variables
-pub record VariablesInside (s : List ℕ) (at count : ℕ) (cells : List ℕ) : Type 0 where
-  pub inside : Inside s at
+pub record VariablesInside (count : ℕ) (cells : List ℕ) : Type 0 where
   pub few : count ≤ 64
   pub room : 64 ≤ length cells
 
-pub record StartsInside (s : List ℕ) (at count : ℕ) (sizes cells : List ℕ) : Type 0 where
-  pub inside : VariablesInside s at count cells
+pub record StartsInside (count : ℕ) (sizes cells : List ℕ) : Type 0 where
+  pub inside : VariablesInside count cells
   pub sizes_room : 64 ≤ length sizes
 
 -- domain sizes and start values as they are stored
@@ -44,7 +42,6 @@ pub record StartsStored (s : List ℕ) (c : Cursor) (declarations : List Declara
   pub stored : is_open r ≡ true → now ≡ placed before 0 (stored_starts (value_after (starts declarations) s c))
 
 pub record StartsRead (s : List ℕ) (c : Cursor) (count : ℕ) (sizes before : List ℕ) (r : Cursor) (now : List ℕ) : Type 0 where
-  pub inside : Inside s r.at
   pub is : (declarations : List Declaration) → (is_open c ≡ true → sizes_of declarations ≡ take count sizes) → StartsStored s c declarations before r now
 
 -- a cursor behind the mutex groups

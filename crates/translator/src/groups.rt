@@ -1,76 +1,63 @@
 // Mutex groups: read for form alone.
 ghost use Rattle.std.specs.Prelude.{◌≡◌};
-ghost use Rattle.translator.specs.Clauses.{Inside};
 ghost use Rattle.translator.specs.VariableContracts.{groups_after};
-ghost use Rattle.translator.specs.Format.{cursor_after};
+ghost use Rattle.translator.specs.Format.{cursor_at, cursor_after};
+ghost use Rattle.translator.specs.Reads.{cursor_of};
 ghost use Rattle.translator.specs.Sas.{line_feed};
 ghost use Rattle.translator.specs.Text.{each, free_pair, group};
 
-use crate::fields;
-use crate::fields::Cursor;
+use crate::fields::{Separator, Text};
+use files::refusals::Refusal;
 
 // A pair that nothing refuses.
-fn pair(s: &[u8], c: Cursor) -> Cursor
-    requires { Inside s.now c.at }
-    ensures { result ≡ cursor_after (free_pair line_feed) s.now c }
+fn pair(text: &mut Text) -> Result<(), Refusal>
+    ensures kept { text.new.bytes ≡ text.old.bytes }
+    ensures read { cursor_of result text.new.at ≡ cursor_after (free_pair line_feed) text.old.bytes.now (cursor_at text.old.at) }
 {
-    let variable = fields::number(s, c, fields::BLANK);
-    let value = fields::number(s, variable.cursor, fields::LINE_FEED);
-    value.cursor
+    text.number(Separator::Blank)?;
+    text.number(Separator::LineFeed)?;
+    Ok(())
 }
 
-// `count` pairs, up to the first that is refused.
-fn pairs(s: &[u8], c: Cursor, count: usize) -> Cursor
-    requires { Inside s.now c.at }
-    ensures { result ≡ cursor_after (each (free_pair line_feed) count) s.now c }
+// `count` pairs.
+// Kept: two loops of one form, here and in `groups_of`: a closure for what is repeated would be longer.
+fn pairs(text: &mut Text, count: usize) -> Result<(), Refusal>
+    ensures kept { text.new.bytes ≡ text.old.bytes }
+    ensures read { cursor_of result text.new.at ≡ cursor_after (each (free_pair line_feed) count) text.old.bytes.now (cursor_at text.old.at) }
 {
-    let mut here = c;
-    let mut left = count;
-    while 0 < left {
-        here = pair(s, here);
-        let outcome = here.outcome;
-        if outcome.number != 0 {
-            return here;
-        }
-        left -= 1;
+    for _ in 0..count {
+        pair(text)?;
     }
-    here
+    Ok(())
 }
 
 // A group. More pairs than the text has bytes are refused where it ends, however many they are.
-fn group(s: &[u8], c: Cursor) -> Cursor
-    requires { Inside s.now c.at }
-    ensures { result ≡ cursor_after group s.now c }
+fn group(text: &mut Text) -> Result<(), Refusal>
+    ensures kept { text.new.bytes ≡ text.old.bytes }
+    ensures read { cursor_of result text.new.at ≡ cursor_after group text.old.bytes.now (cursor_at text.old.at) }
 {
-    let begun = fields::word(s, c, b"begin_mutex_group\n");
-    let count = fields::number(s, begun, fields::LINE_FEED);
-    let read = pairs(s, count.cursor, count.value);
-    fields::word(s, read, b"end_mutex_group\n")
+    text.word(b"begin_mutex_group\n")?;
+    let count = text.number(Separator::LineFeed)?;
+    pairs(text, count)?;
+    text.word(b"end_mutex_group\n")
 }
 
-// `count` groups, up to the first that is refused.
-fn groups_of(s: &[u8], c: Cursor, count: usize) -> Cursor
-    requires { Inside s.now c.at }
-    ensures { result ≡ cursor_after (each group count) s.now c }
+// `count` groups.
+fn groups_of(text: &mut Text, count: usize) -> Result<(), Refusal>
+    ensures kept { text.new.bytes ≡ text.old.bytes }
+    ensures read { cursor_of result text.new.at ≡ cursor_after (each group count) text.old.bytes.now (cursor_at text.old.at) }
 {
-    let mut here = c;
-    let mut left = count;
-    while 0 < left {
-        here = group(s, here);
-        let outcome = here.outcome;
-        if outcome.number != 0 {
-            return here;
-        }
-        left -= 1;
+    for _ in 0..count {
+        group(text)?;
     }
-    here
+    Ok(())
 }
 
 // The count of groups, and the groups.
-pub fn groups(s: &[u8], c: Cursor) -> Cursor
-    requires { Inside s.now c.at }
-    ensures { result ≡ groups_after s.now c }
+pub fn groups(text: &mut Text) -> Result<(), Refusal>
+    ensures kept { text.new.bytes ≡ text.old.bytes }
+    ensures read { cursor_of result text.new.at ≡ groups_after text.old.bytes.now (cursor_at text.old.at) }
 {
-    let count = fields::number(s, c, fields::LINE_FEED);
-    groups_of(s, count.cursor, count.value)
+    let count = text.number(Separator::LineFeed)?;
+    groups_of(text, count)
 }

@@ -1,183 +1,152 @@
 // Operators: their costs, and their conditions and effects in rows of 64 cells.
-ghost use Rattle.std.specs.Prelude.{◌≡◌, take};
-ghost use Rattle.translator.specs.Clauses.{Inside, CountInside, coded, number_by};
+ghost use Rattle.std.specs.Prelude.{◌≡◌, ◌≤◌, ◌<◌, take};
+ghost use Rattle.files.specs.Below.{bit};
+ghost use Rattle.translator.specs.Clauses.{coded, number_by};
+ghost use Rattle.translator.specs.Format.{cursor_at};
 ghost use Rattle.translator.specs.ListContracts.{RowInside};
-ghost use Rattle.translator.specs.OperatorContracts.{plain_after, old_below, is_old, stored_old, EffectInside, EffectRead, EffectsRead, cost_by, OperatorInside, OperatorRead, OperatorsInside, OperatorsRead};
+ghost use Rattle.translator.specs.OperatorContracts.{plain_after, old_below, stored_option, EffectInside, EffectRead, EffectsRead, cost_by, OperatorRead, OperatorsRead, RowsOnly};
+ghost use Rattle.translator.specs.Reads.{cursor_of, read_of, coded_of, ToldRead};
 ghost use Rattle.translator.specs.Text.{count};
 
-use crate::fields::{Cursor, ReadNumber};
-use crate::{fields, lists};
-use files::{bytes, decode, limits, outcomes};
+use crate::fields::{Separator, Text, judged};
+use crate::lists;
+use files::arrays::Arrays;
+use files::refusals::{Reason, Refusal};
+use files::{bytes, decode, limits};
 
 // The count of an effect's conditions, which is to be 0.
-fn plain(s: &[u8], c: Cursor) -> Cursor
-    requires { Inside s.now c.at }
-    ensures { result ≡ plain_after s.now c }
+fn plain(text: &mut Text) -> Result<(), Refusal>
+    ensures kept { text.new.bytes ≡ text.old.bytes }
+    ensures read { cursor_of result text.new.at ≡ plain_after text.old.bytes.now (cursor_at text.old.at) }
 {
-    let n = fields::number(s, c, fields::BLANK);
-    let value = n.value;
-    let read = n.cursor;
-    fields::judged(read, value == 0, fields::UNSUPPORTED, c.at)
-}
-
-// Whether an old value is below a size, or none.
-fn is_old(value: usize, size: usize) -> bool
-    ensures { result ≡ is_old value size }
-{
-    if value == fields::NONE {
-        return true;
-    }
-    value < size
+    let place = text.at;
+    let count = text.number(Separator::Blank)?;
+    judged(count == 0, Reason::Unsupported, place)
 }
 
 // An old value of a variable, or none.
-fn old(s: &[u8], c: Cursor, size: usize) -> ReadNumber
-    requires { CountInside s.now c.at size }
-    ensures { result ≡ number_by (old_below size) coded s.now c }
+fn old(text: &mut Text, size: usize) -> Result<Option<usize>, Refusal>
+    requires { size < 1048576 }
+    ensures kept { text.new.bytes ≡ text.old.bytes }
+    ensures told { ToldRead result }
+    ensures read { coded_of result text.new.at ≡ number_by (old_below size) coded text.old.bytes.now (cursor_at text.old.at) }
 {
-    let n = fields::signed(s, c, fields::BLANK);
-    let value = n.value;
-    let read = n.cursor;
-    let within = fields::judged(read, is_old(value, size), outcomes::OUT_OF_RANGE, c.at);
-    fields::with_number(within, value)
+    let place = text.at;
+    let old = text.signed(Separator::Blank)?;
+    if let Some(value) = old {
+        judged(value < size, Reason::OutOfRange, place)?;
+    }
+    Ok(old)
 }
 
-// Stores an old value as a condition.
-fn store_old(row: &mut [u8], base: usize, variable: usize, value: usize)
+// Stores an old value, where there is one, as a condition.
+fn store_old(row: &mut [u8], base: usize, variable: usize, old: Option<usize>)
     requires { RowInside row.old base }
-    ensures { row.new ≡ stored_old row.old base variable value }
+    ensures { row.new ≡ stored_option row.old base variable old }
 {
-    if value != fields::NONE {
+    if let Some(value) = old {
         decode::store(row, base, variable, value);
     }
 }
 
 // An effect: its old value is stored as a condition, its new value as an effect.
 fn effect(
-    s: &[u8],
-    c: Cursor,
+    text: &mut Text,
     sizes: &[u8],
-    variables: usize,
     conditions: &mut [u8],
     effects: &mut [u8],
     base: usize,
-) -> Cursor
-    requires { EffectInside s.now c.at sizes.now variables conditions.old effects.old base }
-    ensures { EffectRead s.now c sizes.now variables conditions.old effects.old base result conditions.new effects.new }
+) -> Result<(), Refusal>
+    requires { EffectInside sizes.now conditions.old effects.old base }
+    ensures kept { text.new.bytes ≡ text.old.bytes }
+    ensures read { EffectRead text.old.bytes.now (cursor_at text.old.at) sizes.now conditions.old effects.old base (cursor_of result text.new.at) conditions.new effects.new }
 {
-    let begun = plain(s, c);
-    let given = lists::variable(s, begun, conditions, effects, base, variables);
-    let size = bytes::byte_at(sizes, given.value);
-    let before = old(s, given.cursor, size);
-    let new = lists::value(s, before.cursor, size);
-    store_old(conditions, base, given.value, before.value);
-    decode::store(effects, base, given.value, new.value);
-    new.cursor
+    plain(text)?;
+    let given = lists::variable(text, conditions, effects, base, sizes.len())?;
+    let size = bytes::byte_at(sizes, given);
+    let before = old(text, size)?;
+    let new = lists::value(text, size)?;
+    store_old(conditions, base, given, before);
+    decode::store(effects, base, given, new);
+    Ok(())
 }
 
 // `count` effects.
 fn effects_of(
-    s: &[u8],
-    c: Cursor,
+    text: &mut Text,
     count: usize,
     sizes: &[u8],
-    variables: usize,
     conditions: &mut [u8],
     effects: &mut [u8],
     base: usize,
-) -> Cursor
-    requires { EffectInside s.now c.at sizes.now variables conditions.old effects.old base }
-    ensures { EffectsRead s.now c count sizes.now variables conditions.old effects.old base result conditions.new effects.new }
+) -> Result<(), Refusal>
+    requires { EffectInside sizes.now conditions.old effects.old base }
+    ensures kept { text.new.bytes ≡ text.old.bytes }
+    ensures read { EffectsRead text.old.bytes.now (cursor_at text.old.at) count sizes.now conditions.old effects.old base (cursor_of result text.new.at) conditions.new effects.new }
 {
     decode::clear_row(effects, base);
-    let mut here = c;
-    let mut left = count;
-    while 0 < left {
-        here = effect(s, here, sizes, variables, conditions, effects, base);
-        left -= 1;
+    for _ in 0..count {
+        effect(text, sizes, conditions, effects, base)?;
     }
-    here
+    Ok(())
 }
 
 // What an operator costs: as written, or 1 where the metric is 0.
-fn cost_by(metric: usize, written: usize) -> usize
-    ensures { result ≡ cost_by metric written }
+fn cost_by(metric: bool, written: usize) -> usize
+    ensures { result ≡ cost_by (bit metric) written }
 {
-    if metric == 0 {
-        return 1;
-    }
-    written
+    if metric { written } else { 1 }
 }
 
 // The cost of an operator; it is within its limit as it is written, whatever the metric.
-fn cost(s: &[u8], c: Cursor, metric: usize) -> ReadNumber
-    requires { Inside s.now c.at }
-    ensures { result ≡ number_by (count 1000000) (cost_by metric) s.now c }
+fn cost(text: &mut Text, metric: bool) -> Result<usize, Refusal>
+    ensures kept { text.new.bytes ≡ text.old.bytes }
+    ensures read { read_of result text.new.at ≡ number_by (count 1000000) (cost_by (bit metric)) text.old.bytes.now (cursor_at text.old.at) }
 {
-    let n = fields::number(s, c, fields::LINE_FEED);
-    let written = n.value;
-    let read = n.cursor;
+    let place = text.at;
+    let written = text.number(Separator::LineFeed)?;
     let spent = cost_by(metric, written);
-    let within = fields::judged(
-        read,
-        written <= limits::MOST_COST,
-        outcomes::OUTSIDE_LIMITS,
-        c.at,
-    );
-    fields::with_number(within, spent)
+    judged(written <= limits::MOST_COST, Reason::OutsideLimits, place)?;
+    Ok(spent)
 }
 
 // An operator, as action `a`.
-fn operator(
-    s: &[u8],
-    c: Cursor,
-    sizes: &[u8],
-    variables: usize,
-    metric: usize,
-    costs: &mut [u32],
-    conditions: &mut [u8],
-    effects: &mut [u8],
-    a: usize,
-) -> Cursor
-    requires { OperatorInside s.now c.at sizes.now variables costs.old conditions.old effects.old a }
-    ensures { OperatorRead s.now c (take variables sizes.now) metric costs.old conditions.old effects.old a result costs.new conditions.new effects.new }
+fn operator(text: &mut Text, metric: bool, task: &mut Arrays, a: usize) -> Result<(), Refusal>
+    requires variables { task.old.variables ≤ 64 }
+    requires action { a < 512 }
+    ensures kept { text.new.bytes ≡ text.old.bytes }
+    ensures rows { RowsOnly task.old task.new }
+    ensures read { OperatorRead text.old.bytes.now (cursor_at text.old.at) (take task.old.variables task.old.sizes) (bit metric) task.old.costs task.old.conditions task.old.effects a (cursor_of result text.new.at) task.new.costs task.new.conditions task.new.effects }
 {
     let base = limits::ROW * a;
-    let begun = fields::word(s, c, b"begin_operator\n");
-    let named = fields::name(s, begun);
-    let n = fields::count(s, named, limits::MOST_PAIRS);
-    let prevail = lists::conditions(s, n.cursor, n.value, sizes, variables, conditions, base);
-    let set = fields::count(s, prevail, limits::MOST_PAIRS);
-    let changed = effects_of(
-        s, set.cursor, set.value, sizes, variables, conditions, effects, base,
-    );
-    let spent = cost(s, changed, metric);
-    costs[a] = spent.value as u32;
-    fields::word(s, spent.cursor, b"end_operator\n")
+    let sizes = &task.sizes[..task.variables];
+    text.word(b"begin_operator\n")?;
+    text.name()?;
+    let pairs = text.count(limits::MOST_PAIRS)?;
+    lists::conditions(text, pairs, sizes, &mut task.conditions, base)?;
+    let changes = text.count(limits::MOST_PAIRS)?;
+    effects_of(
+        text,
+        changes,
+        sizes,
+        &mut task.conditions,
+        &mut task.effects,
+        base,
+    )?;
+    task.costs[a] = cost(text, metric)? as u32;
+    text.word(b"end_operator\n")
 }
 
-// `count` operators, as the actions from 0 on.
-pub fn operators(
-    s: &[u8],
-    c: Cursor,
-    count: usize,
-    sizes: &[u8],
-    variables: usize,
-    metric: usize,
-    costs: &mut [u32],
-    conditions: &mut [u8],
-    effects: &mut [u8],
-) -> Cursor
-    requires { OperatorsInside s.now c.at count sizes.now variables costs.old conditions.old effects.old }
-    ensures { OperatorsRead s.now c count (take variables sizes.now) metric costs.old conditions.old effects.old result costs.new conditions.new effects.new }
+// As many operators as the task has actions.
+pub fn operators(text: &mut Text, metric: bool, task: &mut Arrays) -> Result<(), Refusal>
+    requires variables { task.old.variables ≤ 64 }
+    requires actions { task.old.actions ≤ 512 }
+    ensures kept { text.new.bytes ≡ text.old.bytes }
+    ensures rows { RowsOnly task.old task.new }
+    ensures read { OperatorsRead text.old.bytes.now (cursor_at text.old.at) task.old.actions (take task.old.variables task.old.sizes) (bit metric) task.old.costs task.old.conditions task.old.effects (cursor_of result text.new.at) task.new.costs task.new.conditions task.new.effects }
 {
-    let mut here = c;
-    let mut a: usize = 0;
-    while a < count {
-        here = operator(
-            s, here, sizes, variables, metric, costs, conditions, effects, a,
-        );
-        a += 1;
+    for a in 0..task.actions {
+        operator(text, metric, task, a)?;
     }
-    here
+    Ok(())
 }

@@ -1,100 +1,88 @@
 // The variables of a text: their declarations, of which the domain sizes are stored, and their start
 // values.
 ghost use Rattle.std.specs.Prelude.{◌≡◌};
-ghost use Rattle.translator.specs.Clauses.{Inside, same, number_by};
+ghost use Rattle.translator.specs.Clauses.{same, number_by};
 ghost use Rattle.translator.specs.VariableContracts.{size_of, layer_after, VariablesInside, DeclarationsRead, StartsInside, StartsRead};
-ghost use Rattle.translator.specs.Format.{cursor_after};
+ghost use Rattle.translator.specs.Format.{cursor_at, cursor_after};
+ghost use Rattle.translator.specs.Reads.{cursor_of, read_of};
 ghost use Rattle.translator.specs.Text.{name_lines, size, declaration};
 
-use crate::fields::{Cursor, ReadNumber};
-use crate::{fields, lists};
-use files::{limits, outcomes};
+use crate::fields::{Separator, Text, judged};
+use crate::lists;
+use files::limits;
+use files::refusals::{Reason, Refusal};
 
 // A domain size.
-fn size(s: &[u8], c: Cursor) -> ReadNumber
-    requires { Inside s.now c.at }
-    ensures { result ≡ number_by size same s.now c }
+fn size(text: &mut Text) -> Result<usize, Refusal>
+    ensures kept { text.new.bytes ≡ text.old.bytes }
+    ensures read { read_of result text.new.at ≡ number_by size same text.old.bytes.now (cursor_at text.old.at) }
 {
-    let n = fields::number(s, c, fields::LINE_FEED);
-    let value = n.value;
-    let counted = n.cursor;
-    let some = fields::judged(counted, 1 <= value, outcomes::OUTSIDE_LIMITS, c.at);
-    let within = fields::judged(
-        some,
-        value <= limits::MOST_VALUES,
-        outcomes::OUTSIDE_LIMITS,
-        c.at,
-    );
-    fields::with_number(within, value)
+    let place = text.at;
+    let size = text.number(Separator::LineFeed)?;
+    judged(1 <= size, Reason::OutsideLimits, place)?;
+    judged(size <= limits::MOST_VALUES, Reason::OutsideLimits, place)?;
+    Ok(size)
 }
 
 // The names of `count` values.
-fn names(s: &[u8], c: Cursor, count: usize) -> Cursor
-    requires { Inside s.now c.at }
-    ensures { result ≡ cursor_after (name_lines count) s.now c }
+fn names(text: &mut Text, count: usize) -> Result<(), Refusal>
+    ensures kept { text.new.bytes ≡ text.old.bytes }
+    ensures read { cursor_of result text.new.at ≡ cursor_after (name_lines count) text.old.bytes.now (cursor_at text.old.at) }
 {
-    let mut here = c;
-    let mut left = count;
-    while 0 < left {
-        here = fields::name(s, here);
-        left -= 1;
+    for _ in 0..count {
+        text.name()?;
     }
-    here
+    Ok(())
 }
 
 // An axiom layer, which is to be -1.
-fn layer(s: &[u8], c: Cursor) -> Cursor
-    requires { Inside s.now c.at }
-    ensures { result ≡ layer_after s.now c }
+fn layer(text: &mut Text) -> Result<(), Refusal>
+    ensures kept { text.new.bytes ≡ text.old.bytes }
+    ensures read { cursor_of result text.new.at ≡ layer_after text.old.bytes.now (cursor_at text.old.at) }
 {
-    let n = fields::signed(s, c, fields::LINE_FEED);
-    let value = n.value;
-    let read = n.cursor;
-    fields::judged(read, value == fields::NONE, fields::UNSUPPORTED, c.at)
+    let place = text.at;
+    let layer = text.signed(Separator::LineFeed)?;
+    judged(layer.is_none(), Reason::Unsupported, place)
 }
 
 // The declaration of a variable: its domain size.
-fn declaration(s: &[u8], c: Cursor) -> ReadNumber
-    requires { Inside s.now c.at }
-    ensures { result ≡ number_by declaration size_of s.now c }
+fn declaration(text: &mut Text) -> Result<usize, Refusal>
+    ensures kept { text.new.bytes ≡ text.old.bytes }
+    ensures read { read_of result text.new.at ≡ number_by declaration size_of text.old.bytes.now (cursor_at text.old.at) }
 {
-    let begun = fields::word(s, c, b"begin_variable\n");
-    let named = fields::name(s, begun);
-    let layered = layer(s, named);
-    let sized = size(s, layered);
-    let values = names(s, sized.cursor, sized.value);
-    let ended = fields::word(s, values, b"end_variable\n");
-    fields::with_number(ended, sized.value)
+    text.word(b"begin_variable\n")?;
+    text.name()?;
+    layer(text)?;
+    let size = size(text)?;
+    names(text, size)?;
+    text.word(b"end_variable\n")?;
+    Ok(size)
 }
 
 // The declarations of `count` variables, and their domain sizes in order.
-pub fn declarations(s: &[u8], c: Cursor, count: usize, sizes: &mut [u8]) -> Cursor
-    requires { VariablesInside s.now c.at count sizes.old }
-    ensures { DeclarationsRead s.now c count sizes.old result sizes.new }
+pub fn declarations(text: &mut Text, count: usize, sizes: &mut [u8]) -> Result<(), Refusal>
+    requires { VariablesInside count sizes.old }
+    ensures kept { text.new.bytes ≡ text.old.bytes }
+    ensures read { DeclarationsRead text.old.bytes.now (cursor_at text.old.at) count sizes.old (cursor_of result text.new.at) sizes.new }
 {
-    let mut here = c;
-    let mut v: usize = 0;
-    while v < count {
-        let one = declaration(s, here);
-        sizes[v] = (one.value % 256) as u8;
-        here = one.cursor;
-        v += 1;
+    for v in 0..count {
+        let size = declaration(text)?;
+        // Kept: a remainder, since `stored_sizes` says so of every number.
+        sizes[v] = (size % 256) as u8;
     }
-    here
+    Ok(())
 }
 
 // The start values of `count` variables.
-pub fn starts(s: &[u8], c: Cursor, count: usize, sizes: &[u8], starts: &mut [u8]) -> Cursor
-    requires { StartsInside s.now c.at count sizes.now starts.old }
-    ensures { StartsRead s.now c count sizes.now starts.old result starts.new }
+pub fn starts(text: &mut Text, count: usize, sizes: &[u8], starts: &mut [u8]) -> Result<(), Refusal>
+    requires { StartsInside count sizes.now starts.old }
+    ensures kept { text.new.bytes ≡ text.old.bytes }
+    ensures read { StartsRead text.old.bytes.now (cursor_at text.old.at) count sizes.now starts.old (cursor_of result text.new.at) starts.new }
 {
-    let mut here = c;
-    let mut v: usize = 0;
-    while v < count {
-        let one = lists::value(s, here, sizes[v] as usize);
-        starts[v] = (one.value % 256) as u8;
-        here = one.cursor;
-        v += 1;
+    for v in 0..count {
+        let start = lists::value(text, usize::from(sizes[v]))?;
+        // Kept: a remainder, since `stored_starts` says so of every number.
+        starts[v] = (start % 256) as u8;
     }
-    here
+    Ok(())
 }

@@ -1,12 +1,16 @@
--- A number, then as many groups.
-use mathlib.Core.Path.{refl}
-use Rattle.translator.specs.Sas.{line_feed}
-use Rattle.translator.proofs.InsideReading.{read_inside}
+-- A count, and as many groups.
+use Rattle.translator.specs.Text.{each, group}
+use Rattle.translator.proofs.Calls.{handed, texts, after_shut}
 use Rattle.translator.proofs.GroupReading.{groups_read}
 use Rattle.translator.proofs.groups.groups.Goals as goal
 
-pub groups_of-requires : goal.groups_of-requires
-groups_of-requires c = read_inside line_feed _ _ _ c.requires (c.number-count.ensures line_feed refl)
+pub returns-in_err-count-clause-read : goal.returns-in_err-count-clause-read
+returns-in_err-count-clause-read c =
+    let text = c.args.text.now in
+    rw (handed _ _ c.from_residual.ensures.1)
+    (groups_read text.bytes.now _ _ _ (record { limited = text.limited; within = text.within }) c.in_err-count.ensures.read (after_shut _ c.in_err-count.field-0.0 (each group 0)))
 
-pub returns : goal.returns
-returns c = groups_read _ _ _ _ c.requires (c.number-count.ensures line_feed refl) c.groups_of.ensures
+pub returns-clause-read : goal.returns-clause-read
+returns-clause-read c =
+    let text = c.args.text.now in
+    groups_read text.bytes.now _ _ _ (record { limited = text.limited; within = text.within }) c.in_ok-count.ensures.read (rw (texts c.number.ensures.kept) at c.groups_of.ensures.read)

@@ -1,19 +1,25 @@
-use mathlib.Core.Path.{refl}
-use Rattle.translator.proofs.InsideReading.{after_inside}
-use Rattle.translator.proofs.RepeatReading.{each_next, each_end, each_stops}
+use mathlib.Core.Path.{refl, ◌∙◌}
+use Rattle.translator.specs.Text.{group}
+use Rattle.translator.proofs.Calls.{handed, texts, closed}
+use Rattle.translator.proofs.RepeatReading.{each_from, each_all, each_on, each_up}
 use Rattle.translator.proofs.groups.groups_of.Goals as goal
 
-pub loop-left-init : goal.loop-left-init
-loop-left-init c = (refl, c.requires)
+pub loop-init : goal.loop-init
+loop-init c = (refl, each_from (group) _ _ _)
 
-pub group-here-requires : goal.group-here-requires
-group-here-requires c = c.loop-left.invariant.1
+pub returns-in_err-group-clause-kept : goal.returns-in_err-group-clause-kept
+returns-in_err-group-clause-kept c = c.group.ensures.kept ∙ c.loop.invariant.0
 
-pub returns-then-outcome-ne0 : goal.returns-then-outcome-ne0
-returns-then-outcome-ne0 c = each_stops _ _ _ _ _ c.loop-left.invariant.0 _ c.loop-left-test.true c.group-here.ensures c.if-outcome-ne0.true
+pub returns-in_err-group-clause-read : goal.returns-in_err-group-clause-read
+returns-in_err-group-clause-read c =
+    rw (handed _ _ c.from_residual.ensures.1)
+    (each_up (group) _ _ _ _ _ c.loop.invariant.1 _ c.loop-test.true (rw (texts c.loop.invariant.0) at c.in_err-group.ensures.read) (closed c.in_err-group.field-0.0))
 
-pub loop-left-preserved : goal.loop-left-preserved
-loop-left-preserved c = (each_next _ _ _ _ _ c.loop-left.invariant.0 _ c.loop-left-test.true c.group-here.ensures, after_inside _ _ _ _ c.loop-left.invariant.1 c.group-here.ensures)
+pub loop-preserved : goal.loop-preserved
+loop-preserved c = (c.group.ensures.kept ∙ c.loop.invariant.0, each_on (group) _ _ _ _ _ c.loop.invariant.1 _ c.loop-test.true (rw (texts c.loop.invariant.0) at c.in_ok-group.ensures.read))
 
-pub returns : goal.returns
-returns c = each_end _ _ _ _ _ c.loop-left.invariant.0 c.loop-left-test.false
+pub returns-clause-kept : goal.returns-clause-kept
+returns-clause-kept c = c.loop.invariant.0
+
+pub returns-clause-read : goal.returns-clause-read
+returns-clause-read c = each_all (group) _ _ _ _ _ c.loop.invariant.1 c.loop-test.false

@@ -1,19 +1,26 @@
-use mathlib.Core.Path.{refl}
-use Rattle.translator.proofs.InsideReading.{after_inside}
-use Rattle.translator.proofs.RepeatReading.{each_next, each_end, each_stops}
+use mathlib.Core.Path.{refl, ◌∙◌}
+use Rattle.translator.specs.Sas.{line_feed}
+use Rattle.translator.specs.Text.{free_pair}
+use Rattle.translator.proofs.Calls.{handed, texts, closed}
+use Rattle.translator.proofs.RepeatReading.{each_from, each_all, each_on, each_up}
 use Rattle.translator.proofs.groups.pairs.Goals as goal
 
-pub loop-left-init : goal.loop-left-init
-loop-left-init c = (refl, c.requires)
+pub loop-init : goal.loop-init
+loop-init c = (refl, each_from (free_pair line_feed) _ _ _)
 
-pub pair-here-requires : goal.pair-here-requires
-pair-here-requires c = c.loop-left.invariant.1
+pub returns-in_err-pair-clause-kept : goal.returns-in_err-pair-clause-kept
+returns-in_err-pair-clause-kept c = c.pair.ensures.kept ∙ c.loop.invariant.0
 
-pub returns-then-outcome-ne0 : goal.returns-then-outcome-ne0
-returns-then-outcome-ne0 c = each_stops _ _ _ _ _ c.loop-left.invariant.0 _ c.loop-left-test.true c.pair-here.ensures c.if-outcome-ne0.true
+pub returns-in_err-pair-clause-read : goal.returns-in_err-pair-clause-read
+returns-in_err-pair-clause-read c =
+    rw (handed _ _ c.from_residual.ensures.1)
+    (each_up (free_pair line_feed) _ _ _ _ _ c.loop.invariant.1 _ c.loop-test.true (rw (texts c.loop.invariant.0) at c.in_err-pair.ensures.read) (closed c.in_err-pair.field-0.0))
 
-pub loop-left-preserved : goal.loop-left-preserved
-loop-left-preserved c = (each_next _ _ _ _ _ c.loop-left.invariant.0 _ c.loop-left-test.true c.pair-here.ensures, after_inside _ _ _ _ c.loop-left.invariant.1 c.pair-here.ensures)
+pub loop-preserved : goal.loop-preserved
+loop-preserved c = (c.pair.ensures.kept ∙ c.loop.invariant.0, each_on (free_pair line_feed) _ _ _ _ _ c.loop.invariant.1 _ c.loop-test.true (rw (texts c.loop.invariant.0) at c.in_ok-pair.ensures.read))
 
-pub returns : goal.returns
-returns c = each_end _ _ _ _ _ c.loop-left.invariant.0 c.loop-left-test.false
+pub returns-clause-kept : goal.returns-clause-kept
+returns-clause-kept c = c.loop.invariant.0
+
+pub returns-clause-read : goal.returns-clause-read
+returns-clause-read c = each_all (free_pair line_feed) _ _ _ _ _ c.loop.invariant.1 c.loop-test.false

@@ -1,9 +1,11 @@
--- A variable beyond the row has no pair in it.
+-- No variable past the row has a pair.
+use mathlib.Core.Path.{refl, ◌∙◌}
+use borrow.Author.Tests.{le-leb}
 use Rattle.translator.proofs.RowReading.{new_beyond, new_cell}
 use Rattle.translator.proofs.lists.is_new.Goals as goal
 
 pub returns-then-variable-ge-ROW : goal.returns-then-variable-ge-ROW
-returns-then-variable-ge-ROW c = new_beyond _ _ _ c.if-variable-ge-ROW.true
+returns-then-variable-ge-ROW c = le-leb _ _ c.if-variable-ge-ROW.true ∙ new_beyond _ _ _ c.if-variable-ge-ROW.true
 
-pub returns : goal.returns
-returns c = new_cell _ _ _ _ c.if-variable-ge-ROW.false c.byte_at.ensures.is
+pub returns-else-variable-ge-ROW : goal.returns-else-variable-ge-ROW
+returns-else-variable-ge-ROW c = new_cell _ _ _ _ c.if-variable-ge-ROW.false refl

@@ -1,13 +1,15 @@
 -- The operators that are left make of the arrays what all make of them.
-use Prim.Native.Nat.{◌-◌, ◌≤◌}
 use mathlib.Core.Path.{◌≡◌}
-use lib.ListN.{length, take}
-use Rattle.translator.specs.Clauses.{Inside}
+use lib.ListN.{take}
+use Rattle.files.specs.Below.{bit}
+use Rattle.translator.specs.Format.{cursor_at}
+use Rattle.translator.specs.OperatorContracts.{RowsOnly}
 use Rattle.translator.proofs.OperatorsReading.{OperatorsLeft}
 use Rattle.translator.proofs.operators.operators.Given as goal
 
 abbrev pub invariant-loop-a : goal.invariant-loop-a
-invariant-loop-a l = OperatorsLeft l.s l.initial.here l.count (take l.variables l.sizes) l.metric l.initial.costs l.initial.conditions l.initial.effects l.here l.a l.costs l.conditions l.effects × Inside l.s l.here.at × (l.a ≤ l.count) × (length l.costs ≡ length l.initial.costs) × (length l.conditions ≡ length l.initial.conditions) × (length l.effects ≡ length l.initial.effects)
-
-abbrev pub decreases-loop-a : goal.decreases-loop-a
-decreases-loop-a l = l.count - l.a
+invariant-loop-a l =
+    let task = l.fn.task in
+    (l.text.bytes ≡ l.fn.text.bytes)
+    × RowsOnly task l.task
+    × OperatorsLeft l.fn.text.bytes.now (cursor_at l.fn.text.at) task.actions (take task.variables task.sizes) (bit l.metric) task.costs task.conditions task.effects (cursor_at l.text.at) l.a l.task.costs l.task.conditions l.task.effects
