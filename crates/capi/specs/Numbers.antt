@@ -1,12 +1,12 @@
 -- Each kind of answer as the eighteen numbers that a C caller gets, at the places that include/shortest.h gives them.
 use Rattle.std.specs.Prelude.{ℕ, List, [], ◌∷◌, replicate, set}
-use Rattle.files.specs.declared.Outcome.{Outcome}
-use Rattle.plans.specs.declared.Checked.{Checked}
-use Rattle.marking.specs.declared.Marked.{Marked}
-use Rattle.reduction.specs.declared.Reduced.{Reduced}
-use Rattle.search.specs.declared.Planned.{Planned}
-use Rattle.sheets.specs.declared.Laid.{Laid}
-use Rattle.translator.specs.declared.Translated.{Translated}
+use Rattle.files.specs.Outcome.{Outcome}
+use Rattle.plans.specs.Check.{Checked}
+use Rattle.marking.specs.Mark.{Marked}
+use Rattle.reduction.specs.Reduce.{Reduced}
+use Rattle.search.specs.Planner.{Planned}
+use Rattle.sheets.specs.Sheet.{Laid}
+use Rattle.translator.specs.Translate.{Translated}
 use Rattle.capi.specs.declared.numbers.Numbers.{Numbers}
 
 -- a number put at its place
@@ -47,6 +47,6 @@ translated_numbers t = at 13 t.file (outcome_numbers t.outcome)
 -- the numbers that the code has by name, each at its place
 unfoldable pub listed : Numbers → List ℕ
 listed n =
-    n.outcome.number ∷ n.outcome.file ∷ n.outcome.place ∷ n.rounds ∷ n.cost ∷ n.steps
+    n.number ∷ n.file ∷ n.place ∷ n.rounds ∷ n.cost ∷ n.steps
     ∷ n.action_marks ∷ n.fact_marks ∷ n.reduced ∷ n.origin ∷ n.table ∷ n.plan
     ∷ n.page ∷ n.task ∷ n.turns ∷ n.list ∷ n.goal ∷ n.entries ∷ []

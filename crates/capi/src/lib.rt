@@ -19,7 +19,7 @@ ghost use Rattle.capi.specs.Calls.{MarksNumbers, ReducesNumbers, PlansNumbers, L
 pub extern "C" fn shortest_check_task(file: &[u8], out: &mut [u64; 18])
     ensures { out.new ≡ outcome_numbers (check_task file.now) }
 {
-    numbers::write_outcome(files::check_task(file), out);
+    numbers::write(files::check_task(file), out);
 }
 
 // Whether a file is an origin file.
@@ -27,7 +27,7 @@ pub extern "C" fn shortest_check_task(file: &[u8], out: &mut [u64; 18])
 pub extern "C" fn shortest_check_origin(file: &[u8], out: &mut [u64; 18])
     ensures { out.new ≡ outcome_numbers (check_origin file.now) }
 {
-    numbers::write_outcome(files::check_origin(file), out);
+    numbers::write(files::check_origin(file), out);
 }
 
 // Whether a plan file holds a plan of a task file's task, and its cost and steps.
@@ -35,7 +35,7 @@ pub extern "C" fn shortest_check_origin(file: &[u8], out: &mut [u64; 18])
 pub extern "C" fn shortest_check_plan(task: &[u8], plan: &[u8], out: &mut [u64; 18])
     ensures { out.new ≡ checked_numbers (check_plan task.now plan.now) }
 {
-    numbers::write_checked(plans::check_plan(task, plan), out);
+    numbers::write(plans::check_plan(task, plan), out);
 }
 
 // Marks the kept actions and the relevant facts of a task file's task at a level, a byte each.
@@ -49,7 +49,7 @@ pub extern "C" fn shortest_mark(
 )
     ensures { MarksNumbers task.now level (mark_buffers actions.old facts.old) out.new (mark_buffers actions.new facts.new) }
 {
-    numbers::write_marked(marking::mark(task, level, actions, facts), out);
+    numbers::write(marking::mark(task, level, actions, facts), out);
 }
 
 // Marks the task of a task file at a level, and writes the files of its reduced task and of its
@@ -68,7 +68,7 @@ pub extern "C" fn shortest_reduce(
     ensures { ReducesNumbers task.now level signer (buffers actions.old facts.old reduced.old origin.old) out.new (buffers actions.new facts.new reduced.new origin.new) }
 {
     let answer = reduction::reduce(task, level, signer, actions, facts, reduced, origin);
-    numbers::write_reduced(answer, out);
+    numbers::write(answer, out);
 }
 
 // Plans the task of a task file: marks and reduces it at a level, searches its states, and writes
@@ -91,7 +91,7 @@ pub extern "C" fn shortest_plan(
     let answer = search::plan(
         task, level, signer, actions, facts, reduced, origin, table, plan,
     );
-    numbers::write_planned(answer, out);
+    numbers::write(answer, out);
 }
 
 // Lays out the plan of a plan file that is a plan of a task file's task as text: a line a step, and
@@ -100,7 +100,7 @@ pub extern "C" fn shortest_plan(
 pub extern "C" fn shortest_sheet(task: &[u8], plan: &[u8], page: &mut [u8], out: &mut [u64; 18])
     ensures { LaysNumbers task.now plan.now page.old out.new page.new }
 {
-    numbers::write_laid(sheets::sheet(task, plan, page), out);
+    numbers::write(sheets::sheet(task, plan, page), out);
 }
 
 // Writes the task that a text of the Fast Downward translator states as a task file, under a signer.
@@ -108,5 +108,5 @@ pub extern "C" fn shortest_sheet(task: &[u8], plan: &[u8], page: &mut [u8], out:
 pub extern "C" fn shortest_translate(text: &[u8], signer: u32, file: &mut [u8], out: &mut [u64; 18])
     ensures { TranslatesNumbers text.now signer file.old out.new file.new }
 {
-    numbers::write_translated(translator::translate(text, signer, file), out);
+    numbers::write(translator::translate(text, signer, file), out);
 }

@@ -1,13 +1,28 @@
 // Each kind of answer as the eighteen numbers that a C caller gets.
-ghost use Rattle.std.specs.Prelude.{◌≡◌};
+#![tactic(auto, unfolding(crate::specs::Numbers::at, crate::specs::Numbers::listed, crate::specs::Numbers::outcome_numbers, crate::specs::Numbers::checked_numbers, crate::specs::Numbers::marked_numbers, crate::specs::Numbers::reduced_numbers, crate::specs::Numbers::planned_numbers, crate::specs::Numbers::laid_numbers, crate::specs::Numbers::translated_numbers))]
+
+ghost use Rattle.std.specs.Prelude.{◌≡◌, Ok, MatchResult};
+ghost use Rattle.files.specs.Outcome.{done, refused};
 ghost use Rattle.capi.specs.Numbers.{listed, outcome_numbers, checked_numbers, marked_numbers, reduced_numbers, planned_numbers, laid_numbers, translated_numbers};
+ghost use Rattle.plans.specs.Check.{checked_of};
+ghost use Rattle.marking.specs.Mark.{marked_of};
+ghost use Rattle.reduction.specs.Reduce.{reduced_of};
+ghost use Rattle.search.specs.Planner.{planned_of};
+ghost use Rattle.sheets.specs.Sheet.{laid_of};
+ghost use Rattle.translator.specs.Translate.{translated_of};
+
+use files::refusals::Refusal;
+use plans::PlanTotal;
+use sheets::LaidPage;
 
 // The numbers of an answer by name, in the order of their places: the outcome's three, rounds, cost,
 // steps; the elements written: action marks, fact marks, reduced file, origin file, table, plan file,
 // page, task file; turns. The three behind, from place 15 on, are for calls to come.
-#[derive(Clone, Copy)]
-struct Numbers {
-    outcome: files::Outcome,
+#[derive(Clone, Copy, Default)]
+pub struct Numbers {
+    number: u32,
+    file: u32,
+    place: usize,
     rounds: usize,
     cost: u64,
     steps: u16,
@@ -25,38 +40,134 @@ struct Numbers {
     entries: usize,
 }
 
-// Done, and no number.
-const NONE: Numbers = Numbers {
-    outcome: files::Outcome {
-        number: 0,
-        file: 0,
-        place: 0,
-    },
-    rounds: 0,
-    cost: 0,
-    steps: 0,
-    action_marks: 0,
-    fact_marks: 0,
-    reduced: 0,
-    origin: 0,
-    table: 0,
-    plan: 0,
-    page: 0,
-    task: 0,
-    turns: 0,
-    list: 0,
-    goal: 0,
-    entries: 0,
-};
+// The numbers of a refusal.
+impl From<Refusal> for Numbers {
+    ghost from_gives = { λ refusal n. listed n ≡ outcome_numbers (refused refusal) };
 
-fn write(numbers: Numbers, out: &mut [u64; 18])
+    fn from(refusal: Refusal) -> Numbers {
+        Numbers {
+            number: refusal.reason.number(),
+            file: refusal.in_second as u32,
+            place: refusal.place,
+            ..Numbers::default()
+        }
+    }
+}
+
+// A file that is accepted has no number.
+impl From<()> for Numbers {
+    ghost from_gives = { λ _ n. listed n ≡ outcome_numbers done };
+
+    fn from(_accepted: ()) -> Numbers {
+        Numbers::default()
+    }
+}
+
+impl From<PlanTotal> for Numbers {
+    ghost from_gives = { λ total n. listed n ≡ checked_numbers (checked_of (Ok total)) };
+
+    fn from(total: PlanTotal) -> Numbers {
+        Numbers {
+            cost: total.cost.0,
+            steps: total.steps.0,
+            ..Numbers::default()
+        }
+    }
+}
+
+impl From<marking::Counts> for Numbers {
+    ghost from_gives = { λ marked n. listed n ≡ marked_numbers (marked_of (Ok marked)) };
+
+    fn from(marked: marking::Counts) -> Numbers {
+        Numbers {
+            rounds: marked.rounds,
+            action_marks: marked.action_marks,
+            fact_marks: marked.fact_marks,
+            ..Numbers::default()
+        }
+    }
+}
+
+impl From<LaidPage> for Numbers {
+    ghost from_gives = { λ laid n. listed n ≡ laid_numbers (laid_of (Ok laid)) };
+
+    fn from(laid: LaidPage) -> Numbers {
+        Numbers {
+            cost: laid.cost.0,
+            steps: laid.steps.0,
+            page: laid.length,
+            ..Numbers::default()
+        }
+    }
+}
+
+impl From<reduction::Counts> for Numbers {
+    ghost from_gives = { λ counts n. listed n ≡ reduced_numbers (reduced_of (Ok counts)) };
+
+    fn from(counts: reduction::Counts) -> Numbers {
+        Numbers {
+            rounds: counts.rounds,
+            action_marks: counts.action_marks,
+            fact_marks: counts.fact_marks,
+            reduced: counts.reduced,
+            origin: counts.origin,
+            turns: counts.turns,
+            ..Numbers::default()
+        }
+    }
+}
+
+impl From<search::Counts> for Numbers {
+    ghost from_gives = { λ counts n. listed n ≡ planned_numbers (planned_of (Ok counts)) };
+
+    fn from(counts: search::Counts) -> Numbers {
+        Numbers {
+            rounds: counts.rounds,
+            cost: counts.cost.0,
+            steps: counts.steps.0,
+            action_marks: counts.action_marks,
+            fact_marks: counts.fact_marks,
+            reduced: counts.reduced,
+            origin: counts.origin,
+            table: counts.table,
+            plan: counts.plan,
+            turns: counts.turns,
+            ..Numbers::default()
+        }
+    }
+}
+
+// The bytes of the task file of a text.
+impl From<usize> for Numbers {
+    ghost from_gives = { λ length n. listed n ≡ translated_numbers (translated_of (Ok length)) };
+
+    fn from(length: usize) -> Numbers {
+        Numbers {
+            task: length,
+            ..Numbers::default()
+        }
+    }
+}
+
+// Writes the numbers of an answer, or those of the refusal.
+pub fn write<A: Into<Numbers>>(answer: Result<A, Refusal>, out: &mut [u64; 18])
+    ensures { MatchResult answer (λ x. (n : Numbers) × A.converts x n × (out.new ≡ listed n)) (λ r. out.new ≡ outcome_numbers (refused r)) }
+{
+    let numbers = match answer {
+        Ok(answer) => answer.into(),
+        Err(refusal) => Numbers::from(refusal),
+    };
+    write_numbers(numbers, out);
+}
+
+// Writes each number at its place.
+pub fn write_numbers(numbers: Numbers, out: &mut [u64; 18])
     ensures { out.new ≡ listed numbers }
 {
-    let outcome = numbers.outcome;
     *out = [
-        outcome.number as u64,
-        outcome.file as u64,
-        outcome.place as u64,
+        numbers.number as u64,
+        numbers.file as u64,
+        numbers.place as u64,
         numbers.rounds as u64,
         numbers.cost,
         numbers.steps as u64,
@@ -73,91 +184,4 @@ fn write(numbers: Numbers, out: &mut [u64; 18])
         numbers.goal,
         numbers.entries as u64,
     ];
-}
-
-pub fn write_outcome(outcome: files::Outcome, out: &mut [u64; 18])
-    ensures { out.new ≡ outcome_numbers outcome }
-{
-    let mut numbers = NONE;
-    numbers.outcome = outcome;
-    write(numbers, out);
-}
-
-pub fn write_checked(checked: plans::Checked, out: &mut [u64; 18])
-    ensures { out.new ≡ checked_numbers checked }
-{
-    let outcome = checked.outcome;
-    let mut numbers = NONE;
-    numbers.outcome = outcome;
-    numbers.cost = checked.cost.0;
-    numbers.steps = checked.steps.0;
-    write(numbers, out);
-}
-
-pub fn write_marked(marked: marking::Marked, out: &mut [u64; 18])
-    ensures { out.new ≡ marked_numbers marked }
-{
-    let outcome = marked.outcome;
-    let mut numbers = NONE;
-    numbers.outcome = outcome;
-    numbers.rounds = marked.rounds;
-    numbers.action_marks = marked.action_marks;
-    numbers.fact_marks = marked.fact_marks;
-    write(numbers, out);
-}
-
-pub fn write_reduced(reduced: reduction::Reduced, out: &mut [u64; 18])
-    ensures { out.new ≡ reduced_numbers reduced }
-{
-    let outcome = reduced.outcome;
-    let mut numbers = NONE;
-    numbers.outcome = outcome;
-    numbers.rounds = reduced.rounds;
-    numbers.turns = reduced.turns;
-    numbers.action_marks = reduced.action_marks;
-    numbers.fact_marks = reduced.fact_marks;
-    numbers.reduced = reduced.reduced;
-    numbers.origin = reduced.origin;
-    write(numbers, out);
-}
-
-pub fn write_planned(planned: search::Planned, out: &mut [u64; 18])
-    ensures { out.new ≡ planned_numbers planned }
-{
-    let outcome = planned.outcome;
-    let mut numbers = NONE;
-    numbers.outcome = outcome;
-    numbers.rounds = planned.rounds;
-    numbers.turns = planned.turns;
-    numbers.cost = planned.cost.0;
-    numbers.steps = planned.steps.0;
-    numbers.action_marks = planned.action_marks;
-    numbers.fact_marks = planned.fact_marks;
-    numbers.reduced = planned.reduced;
-    numbers.origin = planned.origin;
-    numbers.table = planned.table;
-    numbers.plan = planned.plan;
-    write(numbers, out);
-}
-
-pub fn write_laid(laid: sheets::Laid, out: &mut [u64; 18])
-    ensures { out.new ≡ laid_numbers laid }
-{
-    let outcome = laid.outcome;
-    let mut numbers = NONE;
-    numbers.outcome = outcome;
-    numbers.cost = laid.cost.0;
-    numbers.steps = laid.steps.0;
-    numbers.page = laid.page;
-    write(numbers, out);
-}
-
-pub fn write_translated(translated: translator::Translated, out: &mut [u64; 18])
-    ensures { out.new ≡ translated_numbers translated }
-{
-    let outcome = translated.outcome;
-    let mut numbers = NONE;
-    numbers.outcome = outcome;
-    numbers.task = translated.file;
-    write(numbers, out);
 }

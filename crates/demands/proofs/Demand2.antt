@@ -7,10 +7,9 @@ use native.Mathlib.Omega.{arith}
 use lib.Dec.{eqb}
 use lib.ListN.{length}
 use borrow.Author.Tests.{ne_eqb}
-use Rattle.files.specs.declared.Outcome.{Outcome}
+use Rattle.files.specs.Outcome.{Outcome, done}
 use Rattle.files.specs.Accepted.{valid_signer, accepted_task}
 use Rattle.files.specs.Bytes.{Octets}
-use Rattle.files.specs.Outcome.{done}
 use Rattle.files.specs.Task.{Task, action_count, fact_count}
 use Rattle.files.specs.TaskFile.{check_task, task_of}
 use Rattle.files.proofs.KindsRight.{tasks_right, origins_right, plans_right}

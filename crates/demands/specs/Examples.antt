@@ -7,15 +7,12 @@ use Rattle.files.specs.Task.{pair, variable, action}
 use Rattle.files.specs.Records.{record_bytes}
 use Rattle.files.specs.TaskFile.{task_file, check_task}
 use Rattle.files.specs.PlanFile.{plan_file}
-use Rattle.plans.specs.declared.Checked.{Checked}
-use Rattle.plans.specs.Check.{check_plan}
+use Rattle.plans.specs.Check.{Checked, check_plan}
 use Rattle.marking.specs.Examples.{task_e1}
 use Rattle.marking.specs.Mark.{mark_buffers, mark, mark_after}
-use Rattle.reduction.specs.declared.Reduced.{Reduced}
-use Rattle.reduction.specs.Reduce.{Buffers, buffers, reduce, reduce_after}
-use Rattle.search.specs.Planner.{Lent, lent_of, plan_answer, plan_after}
+use Rattle.reduction.specs.Reduce.{Reduced, Buffers, buffers, reduce, reduce_after}
+use Rattle.search.specs.Planner.{Lent, lent_of, plan_answer, plan_after, Planned}
 use Rattle.distances.specs.Table.{entry, minutes_of, steps_of}
-use Rattle.search.specs.declared.Planned.{Planned}
 use Rattle.digits.specs.Decimal.{ascii}
 use Rattle.demands.specs.Listing.{listing}
 

@@ -5,9 +5,8 @@ use Rattle.files.specs.Outcome.{is_done}
 use Rattle.files.specs.Records.{signer_of}
 use Rattle.files.specs.Task.{variable_count, action_count}
 use Rattle.files.specs.TaskFile.{task_of}
-use Rattle.search.specs.Planner.{Lent, lent_of, searched, plan_made, plan_answer}
+use Rattle.search.specs.Planner.{Lent, lent_of, searched, plan_made, plan_answer, Planned}
 use Rattle.distances.specs.Table.{entry}
-use Rattle.search.specs.declared.Planned.{Planned}
 use Rattle.digits.specs.Decimal.{ascii, decimal}
 
 -- a line of two words with a number behind each

@@ -1,0 +1,2 @@
+-- Laws of the calls' answers as numbers.
+pub mod Written
