@@ -4,47 +4,74 @@
 // themselves and / for a line feed, up to the next | or the end of the line.
 #![tactic(auto)]
 
+mod buffers;
+mod bytes;
+mod calls;
 mod hex;
-mod lines;
 mod numbers;
 mod planner;
 mod reduced;
-mod run;
-mod sheet;
-mod translated;
+mod show;
+mod single;
 
-ghost use Rattle.std.specs.Prelude.{◌≤◌, length};
-
+use calls::Call;
+use std::alloc::{AllocError, Global};
 use std::io;
-use std::io::{Read, Write};
+use std::io::{BufWriter, Read, Write};
 
 // At most so many bytes of the input are read.
 const MOST: u64 = 655360;
 
 fn main(rt: HostRuntime) -> io::Result<()> {
     let mut text = Vec::new(rt.alloc());
-    let read = rt.reader().take(MOST).read_to_end(&mut text)?;
-    let mut file = [0u8; 70000];
-    let mut written = [0u8; 70000];
-    let mut out = io::writer(&rt);
-    run_all(&mut out, text.as_slice(), read, &mut file, &mut written)
+    rt.reader().take(MOST).read_to_end(&mut text)?;
+    let mut out = BufWriter::new(rt.alloc(), io::writer(&rt))?;
+    for line in text.as_slice().split_inclusive(|byte| *byte == b'\n') {
+        run_line(
+            rt.alloc(),
+            &mut out,
+            line.strip_suffix(b"\n").unwrap_or(line),
+        )?;
+        out.write_all(b"\n")?;
+    }
+    out.flush()
 }
 
-// The lines of the first `read` bytes.
-fn run_all<W: Write>(
-    out: &mut W,
-    text: &[u8],
-    read: usize,
-    file: &mut [u8],
-    written: &mut [u8; 70000],
-) -> io::Result<()>
-    requires { read ≤ length text.now }
-{
-    let mut at: usize = 0;
-    while at < read {
-        let end = lines::line_end(text, at, read);
-        run::run_line(out, text, at, end, file, written)?;
-        at = end + 1;
+// Prints a comment as it stands, or what a case's call answers; nothing where the line is no case.
+fn run_line(alloc: Global, out: &mut impl Write, line: &[u8]) -> io::Result<()> {
+    match line {
+        [] => Ok(()),
+        [b'#', ..] => out.write_all(line),
+        [letter, ..] => match run_case(alloc, out, *letter, line) {
+            Ok(()) | Err(Stop::NoCase) => Ok(()),
+            Err(Stop::Output(error)) => Err(error),
+        },
     }
-    Ok(())
+}
+
+fn run_case(alloc: Global, out: &mut impl Write, letter: u8, line: &[u8]) -> Result<(), Stop> {
+    let call = Call::try_from(letter)?;
+    let bytes = hex::read(alloc, line)?;
+    call.run(alloc, out, bytes.as_slice())
+}
+
+// Why a case prints nothing more.
+#[derive(Debug, Drop)]
+pub enum Stop {
+    // The line is none: its letter names no call, its bytes are too few, or a buffer would be too long.
+    NoCase,
+    // No more can be written, or there is no memory.
+    Output(io::Error),
+}
+
+impl From<io::Error> for Stop {
+    fn from(error: io::Error) -> Stop {
+        Stop::Output(error)
+    }
+}
+
+impl From<AllocError> for Stop {
+    fn from(error: AllocError) -> Stop {
+        Stop::Output(io::Error::from(error))
+    }
 }

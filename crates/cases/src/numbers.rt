@@ -1,31 +1,27 @@
 // Numbers as text, and the table of digits.
-use crate::lines;
-use std::io;
+use crate::bytes::padded;
+use crate::{Stop, buffers, show};
 use std::io::Write;
 
 // Prints a number of eight bytes in decimal, how many digits that are, and how many bytes behind them
-// are as they were, in a buffer that held 9s.
-pub fn show_decimal<W: Write>(out: &mut W, file: &[u8]) -> io::Result<()> {
-    let low = files::bytes::u32_at(file, 0);
-    let high = files::bytes::u32_at(file, 4);
-    let mut text = [9u8; 20];
+// are as they were.
+pub fn decimal(out: &mut impl Write, bytes: &[u8]) -> Result<(), Stop> {
+    let number = u64::from_le_bytes(padded(bytes));
+    let mut text = [buffers::BEFORE; 20];
     let table = digits::table::whole();
-    let count = digits::lent::decimal((low + high * 4294967296) as u64, &mut text, &table);
-    print_digits(out, &text, count)
-}
-
-fn print_digits<W: Write>(out: &mut W, text: &[u8; 20], count: usize) -> io::Result<()> {
-    lines::print_part(out, text, 0, count)?;
-    lines::print_next(out, count)?;
-    lines::print_next(out, lines::untouched(text, count))
+    let count = digits::lent::decimal(number, &mut text, &table);
+    let (digits, behind) = text.split_at(count);
+    out.write_all(digits)?;
+    write!(out, " {count} {}", show::untouched(behind))?;
+    Ok(())
 }
 
 // Prints the entry of the table of digits at a place of two bytes.
-pub fn show_entry<W: Write>(out: &mut W, file: &[u8]) -> io::Result<()> {
-    let place = files::bytes::u16_at(file, 0);
+pub fn entry(out: &mut impl Write, bytes: &[u8]) -> Result<(), Stop> {
+    let place = u16::from_le_bytes(padded(bytes));
     let table = digits::table::whole();
-    if place < 1000 {
-        lines::print_number(out, table[place] as usize)?;
+    if let Some(entry) = table.get(usize::from(place)) {
+        write!(out, "{entry}")?;
     }
     Ok(())
 }

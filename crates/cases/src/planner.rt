@@ -1,80 +1,83 @@
-// The planner, with a table of its own.
-use crate::lines;
-use std::io;
+// The planner, with a table of its own, and the sheet of a plan.
+use crate::bytes::Bytes;
+use crate::show::{Ended, Hex, Marks, Turns};
+use crate::{Stop, buffers, show};
+use files::refusals::Refusal;
+use std::alloc::Global;
 use std::io::Write;
 
-// Lends buffers of the lengths that the case names, which hold 9s.
-pub fn plan_file<W: Write>(out: &mut W, file: &[u8]) -> io::Result<()> {
-    let mut actions = [9u8; 600];
-    let mut facts = [9u8; 2100];
-    let mut reduced = [9u8; 1000];
-    let mut origin = [9u8; 1000];
-    let mut plan = [9u8; 1000];
-    plan_into(
-        out,
-        file,
-        lines::part(&mut actions, files::bytes::u16_at(file, 5)),
-        lines::part(&mut facts, files::bytes::u16_at(file, 7)),
-        lines::part(&mut reduced, files::bytes::u16_at(file, 9)),
-        lines::part(&mut origin, files::bytes::u16_at(file, 11)),
-        lines::part(&mut plan, files::bytes::u16_at(file, 13)),
-    )
-}
+// The most bytes of a page that are lent.
+const PAGE: usize = 140000;
 
-// Plans a task, and prints the answer and the five buffers.
-fn plan_into<W: Write>(
-    out: &mut W,
-    file: &[u8],
-    actions: &mut [u8],
-    facts: &mut [u8],
-    reduced: &mut [u8],
-    origin: &mut [u8],
-    plan: &mut [u8],
-) -> io::Result<()> {
-    if file.len() < 15 {
-        return Ok(());
-    }
-    let level = files::bytes::byte_at(file, 0) as u32;
-    let signer = files::bytes::u32_at(file, 1) as u32;
+// Prints the answer and the five buffers.
+pub fn plan(alloc: Global, out: &mut impl Write, case: &mut Bytes<'_>) -> Result<(), Stop> {
+    let level = case.number1()?;
+    let signer = case.number4()?;
+    let mut actions = buffers::shortened(alloc, usize::from(case.number2()?), buffers::ACTIONS)?;
+    let mut facts = buffers::shortened(alloc, usize::from(case.number2()?), buffers::FACTS)?;
+    let mut reduced = buffers::shortened(alloc, usize::from(case.number2()?), buffers::FILE)?;
+    let mut origin = buffers::shortened(alloc, usize::from(case.number2()?), buffers::FILE)?;
+    let mut plan = buffers::shortened(alloc, usize::from(case.number2()?), buffers::FILE)?;
     let answer = search::own_table::plan(
-        &file[15..],
-        level,
+        case.0,
+        u32::from(level),
         signer,
-        actions,
-        facts,
-        reduced,
-        origin,
-        plan,
+        actions.as_mut_slice(),
+        facts.as_mut_slice(),
+        reduced.as_mut_slice(),
+        origin.as_mut_slice(),
+        plan.as_mut_slice(),
     );
-    print_answer(out, answer)?;
-    lines::print_byte(out, b' ')?;
-    lines::print_marks(out, actions, actions.len())?;
-    lines::print_byte(out, b' ')?;
-    lines::print_marks(out, facts, facts.len())?;
-    lines::print_byte(out, b' ')?;
-    lines::print_hex(out, reduced)?;
-    lines::print_byte(out, b' ')?;
-    lines::print_hex(out, origin)?;
-    lines::print_byte(out, b' ')?;
-    lines::print_hex(out, plan)
+    print_planned(out, answer)?;
+    let (actions, facts) = (Marks(actions.as_slice()), Marks(facts.as_slice()));
+    let (reduced, origin) = (Hex(reduced.as_slice()), Hex(origin.as_slice()));
+    let plan = Hex(plan.as_slice());
+    write!(out, " {actions} {facts} {reduced} {origin} {plan}")?;
+    Ok(())
 }
 
 // Prints the outcome, the six lengths, the rounds, the turns if there are any, the cost and the
 // steps.
-fn print_answer<W: Write>(out: &mut W, answer: search::Planned) -> io::Result<()> {
-    let outcome = answer.outcome;
-    let cost = answer.cost;
-    let steps = answer.steps;
-    lines::print_outcome(out, outcome)?;
-    lines::print_next(out, answer.action_marks)?;
-    lines::print_next(out, answer.fact_marks)?;
-    lines::print_next(out, answer.reduced)?;
-    lines::print_next(out, answer.origin)?;
-    lines::print_next(out, answer.table)?;
-    lines::print_next(out, answer.plan)?;
-    lines::print_next(out, answer.rounds)?;
-    lines::print_turns(out, answer.turns)?;
-    lines::print_byte(out, b' ')?;
-    lines::print_minutes(out, cost)?;
-    lines::print_next(out, steps.0 as usize)
+fn print_planned(
+    out: &mut impl Write,
+    answer: Result<search::Counts, Refusal>,
+) -> Result<(), Stop> {
+    match answer {
+        Ok(counts) => write!(
+            out,
+            "{} {} {} {} {} {} {} {}{} {} {}",
+            Ended(None),
+            counts.action_marks,
+            counts.fact_marks,
+            counts.reduced,
+            counts.origin,
+            counts.table,
+            counts.plan,
+            counts.rounds,
+            Turns(counts.turns),
+            counts.cost.0,
+            counts.steps.0
+        )?,
+        Err(refusal) => write!(out, "{} 0 0 0 0 0 0 0 0 0", Ended(Some(refusal)))?,
+    }
+    Ok(())
+}
+
+// Prints the outcome, the bytes of the page, the cost and the steps, then the page, and how many bytes
+// behind it are as they were.
+pub fn sheet(alloc: Global, out: &mut impl Write, case: &mut Bytes<'_>) -> Result<(), Stop> {
+    let room = case.number4()? as usize;
+    let length = case.number4()? as usize;
+    let task = case.part(length)?;
+    let mut page = buffers::shortened(alloc, room, PAGE)?;
+    let answer = sheets::sheet(task, case.0, page.as_mut_slice());
+    let (written, cost, steps) = match answer {
+        Ok(laid) => (laid.length, laid.cost.0, laid.steps.0),
+        Err(_) => (0, 0, 0),
+    };
+    writeln!(out, "{} {written} {cost} {steps}", Ended(answer.err()))?;
+    let (lines, behind) = page.as_slice().split_at(written.min(page.len()));
+    out.write_all(lines)?;
+    write!(out, "{}", show::untouched(behind))?;
+    Ok(())
 }

@@ -1,60 +1,43 @@
 // What marking finds, as lines.
-use crate::printer::Printer;
+// Kept: each number as a `Decimal`, since listings have their digits from the crate `digits`, a rule of the project.
+use digits::printed::Decimal;
 use marking::marks;
+use std::io;
+use std::io::Write;
 
 // The kept actions of a task file.
-pub fn put_kept(out: Printer, file: &[u8], actions: &[u8]) -> Printer {
+pub fn put_kept(out: &mut impl Write, file: &[u8], actions: &[u8]) -> io::Result<()> {
     let count = files::task::actions_in(file);
-    let mut next = out;
-    let mut a: usize = 0;
-    while a < count && a < actions.len() {
-        if actions[a] == marks::KEPT {
-            next = next.labelled(b"kept ", a).end();
+    for (a, mark) in actions.iter().enumerate().take(count) {
+        if *mark == marks::KEPT {
+            writeln!(out, "kept {}", Decimal(a as u64))?;
         }
-        a += 1;
     }
-    next
+    Ok(())
 }
 
-// The relevant facts of a task file.
-pub fn put_relevant(out: Printer, file: &[u8], facts: &[u8]) -> Printer {
-    let variables = files::task::variables_in(file);
-    let mut next = out;
-    let mut at: usize = 0;
-    let mut v: usize = 0;
-    while v < variables {
+// The relevant facts of a task file; their marks stand by variables.
+pub fn put_relevant(out: &mut impl Write, file: &[u8], facts: &[u8]) -> io::Result<()> {
+    let mut left = facts;
+    for v in 0..files::task::variables_in(file) {
         let size = files::task::size_of(file, v);
-        next = put_values(next, v, part(facts, at, size));
-        at += size;
-        v += 1;
+        let (values, others) = left.split_at(size.min(left.len()));
+        put_values(out, v, values)?;
+        left = others;
     }
-    next
-}
-
-// So many bytes from `at` on; none where there are fewer.
-fn part<'a>(facts: &'a [u8], at: usize, size: usize) -> &'a [u8] {
-    if facts.len() < at {
-        return &facts[..0];
-    }
-    if facts.len() - at < size {
-        return &facts[..0];
-    }
-    let end = at + size;
-    &facts[at..end]
+    Ok(())
 }
 
 // The relevant facts of a variable, by the marks of its values.
-fn put_values(out: Printer, variable: usize, facts: &[u8]) -> Printer {
-    let mut next = out;
-    let mut d: usize = 0;
-    while d < facts.len() {
-        if facts[d] == marks::RELEVANT {
-            next = next.text(b"relevant").fact(variable, d).end();
+fn put_values(out: &mut impl Write, variable: usize, facts: &[u8]) -> io::Result<()> {
+    let variable = Decimal(variable as u64);
+    for (value, mark) in facts.iter().enumerate() {
+        let value = Decimal(value as u64);
+        match *mark {
+            marks::RELEVANT => writeln!(out, "relevant {variable}={value}")?,
+            marks::LINKED => writeln!(out, "relevant {variable}={value} linked")?,
+            _ => {}
         }
-        if facts[d] == marks::LINKED {
-            next = next.text(b"relevant").fact(variable, d).text(b" linked\n");
-        }
-        d += 1;
     }
-    next
+    Ok(())
 }

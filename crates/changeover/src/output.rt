@@ -1,134 +1,116 @@
 // Files written under another name and then put in place, so that a name always has a whole file.
-ghost use Rattle.std.specs.Prelude.{◌≡◌, ◌≤◌, length, take};
-
-use crate::{system, words};
+use crate::failure::Failure;
+use crate::system;
 use std::fs::{File, OpenFile, OpenOptions};
 use std::io::{ErrorKind, Write};
 use std::rt::Files;
 use std::{fs, io};
 
-// Room for a name with its ending.
-const ROOM: usize = words::LINE + 4;
-
-// How far two files have come.
-#[derive(Clone, Copy)]
-pub enum Written {
-    Both,
-    NotFirst,
-    NotSecond,
+// Writes a file.
+pub fn write<'a>(
+    rt: &(impl Files + Eprint + AllocGlobal),
+    name: &'a [u8],
+    bytes: &[u8],
+) -> Result<(), Failure<'a>> {
+    Prepared::write(rt, name, bytes)?.place(rt)
 }
 
-// Writes the first `count` bytes to a file.
-pub fn write(rt: &(impl Files + Eprint), name: &[u8], bytes: &[u8], count: usize) -> bool {
-    prepare(rt, name, bytes, count) && place(rt, name)
-}
-
-// Writes two files, both of them whole before the first gets its name.
-pub fn write_two(
-    rt: &(impl Files + Eprint),
-    first: &[u8],
-    first_bytes: &[u8],
-    first_count: usize,
-    second: &[u8],
-    second_bytes: &[u8],
-    second_count: usize,
-) -> Written {
-    if !prepare(rt, first, first_bytes, first_count) {
-        return Written::NotFirst;
-    }
-    if !prepare_apart(rt, second, second_bytes, second_count, first) {
-        withdraw(rt, first);
-        return Written::NotSecond;
-    }
-    if !place(rt, first) {
-        withdraw(rt, second);
-        return Written::NotFirst;
-    }
-    if !place(rt, second) {
-        return Written::NotSecond;
-    }
-    Written::Both
-}
-
-// Writes the first `count` bytes, which are there, to a file NAME.new, which is not. Where the system
-// refuses, it says why, and the file is not left behind.
-fn prepare(rt: &(impl Files + Eprint), name: &[u8], bytes: &[u8], count: usize) -> bool {
-    if bytes.len() < count {
-        return false;
-    }
-    let mut path = [0u8; ROOM];
-    let length = new_name(name, &mut path);
-    if !is_for_files(rt, name) {
-        return false;
-    }
-    let file = match create(rt, &path[..length]) {
-        Ok(file) => file,
-        Err(error) => {
-            system::fail(rt, &path[..length], &error);
-            return false;
+// Writes two files by their names and bytes, both of them whole before the first gets its name.
+pub fn write_two<'a>(
+    rt: &(impl Files + Eprint + AllocGlobal),
+    first: (&'a [u8], &[u8]),
+    second: (&'a [u8], &[u8]),
+) -> Result<(), Failure<'a>> {
+    let one = Prepared::write(rt, first.0, first.1)?;
+    let other = match Prepared::write_apart(rt, second.0, second.1, first.0) {
+        Ok(other) => other,
+        Err(failure) => {
+            one.withdraw(rt);
+            return Err(failure);
         }
     };
-    let is_written = write_whole(rt, file, &bytes[0..count], &path[..length]);
-    if !is_written {
-        remove(rt, &path[..length]);
+    if let Err(failure) = one.place(rt) {
+        other.withdraw(rt);
+        return Err(failure);
     }
-    is_written
+    other.place(rt)
 }
 
-// The same for a second file, where the first does not take the name under which this one is written.
-fn prepare_apart(
-    rt: &(impl Files + Eprint),
-    name: &[u8],
-    bytes: &[u8],
-    count: usize,
-    first: &[u8],
-) -> bool {
-    let was_there = is_there(rt, first);
-    if !prepare(rt, name, bytes, count) {
-        return false;
-    }
-    if was_there || !is_there(rt, first) {
-        return true;
-    }
-    withdraw(rt, name);
-    system::say(rt, first, "the other file is written here");
-    false
+// A file that stands under another name, and has still to take its own.
+#[derive(Drop)]
+struct Prepared<'a> {
+    name: &'a [u8],
+    path: Vec<u8>,
 }
 
-// Gives a file that is prepared its name. Where the system refuses, it says why, and the file is not
-// left behind.
-fn place(rt: &(impl Files + Eprint), name: &[u8]) -> bool {
-    let mut path = [0u8; ROOM];
-    let length = new_name(name, &mut path);
-    match rename(rt, &path[..length], name) {
-        Ok(()) => true,
-        Err(error) => {
-            system::fail(rt, name, &error);
-            remove(rt, &path[..length]);
-            false
+impl<'a> Prepared<'a> {
+    // Writes a file NAME.new, which is not there. Where the system refuses, it says why, and the file is not left
+    // behind.
+    fn write(
+        rt: &(impl Files + Eprint + AllocGlobal),
+        name: &'a [u8],
+        bytes: &[u8],
+    ) -> Result<Prepared<'a>, Failure<'a>> {
+        let mut path = name.to_vec(rt.alloc())?;
+        path.extend_from_slice(b".new")?;
+        if let Err(error) = is_for_files(rt, name) {
+            return Err(system::fail(rt, name, name, &error));
+        }
+        let file = match create(rt, path.as_slice()) {
+            Ok(file) => file,
+            Err(error) => return Err(system::fail(rt, name, path.as_slice(), &error)),
+        };
+        if let Err(error) = write_to_device(file, bytes) {
+            let failure = system::fail(rt, name, path.as_slice(), &error);
+            remove(rt, path.as_slice());
+            return Err(failure);
+        }
+        Ok(Prepared { name, path })
+    }
+
+    // The same for a second file, where the first does not take the name under which this one is written.
+    fn write_apart(
+        rt: &(impl Files + Eprint + AllocGlobal),
+        name: &'a [u8],
+        bytes: &[u8],
+        first: &[u8],
+    ) -> Result<Prepared<'a>, Failure<'a>> {
+        let was_there = is_there(rt, first);
+        let prepared = Prepared::write(rt, name, bytes)?;
+        if was_there || !is_there(rt, first) {
+            return Ok(prepared);
+        }
+        prepared.withdraw(rt);
+        system::say(rt, first, "the other file is written here");
+        Err(Failure::File(name))
+    }
+
+    // Gives the file its name. Where the system refuses, it says why, and the file is not left behind.
+    fn place(self, rt: &(impl Files + Eprint + AllocGlobal)) -> Result<(), Failure<'a>> {
+        match rename(rt, self.path.as_slice(), self.name) {
+            Ok(()) => Ok(()),
+            Err(error) => {
+                let failure = system::fail(rt, self.name, self.name, &error);
+                self.withdraw(rt);
+                Err(failure)
+            }
         }
     }
-}
 
-// Removes a file that is prepared.
-fn withdraw(rt: &impl Files, name: &[u8]) {
-    let mut path = [0u8; ROOM];
-    let length = new_name(name, &mut path);
-    remove(rt, &path[..length]);
+    // Removes the file.
+    fn withdraw(self, rt: &impl Files) {
+        remove(rt, self.path.as_slice());
+    }
 }
 
 // Whether a file may take the name: it is not that of a folder, a pipe or a terminal. The last two cannot
-// be written up to a device. Where a file may not, it says why.
-fn is_for_files(rt: &(impl Files + Eprint), name: &[u8]) -> bool {
-    let synced = match open_update(rt, name) {
+// be written up to a device.
+fn is_for_files(rt: &impl Files, name: &[u8]) -> io::Result<()> {
+    match open_update(rt, name) {
         Ok(file) => file.sync_all(),
         Err(error) if error.kind() == ErrorKind::IsADirectory => Err(error),
         Err(_) => Ok(()),
-    };
-    if let Err(error) = &synced {
-        system::fail(rt, name, error);
     }
-    synced.is_ok()
 }
 
 // Whether the name can be read, as that of a file that this run has made can.
@@ -166,60 +148,8 @@ fn remove(rt: &impl Files, path: &[u8]) {
     }
 }
 
-// Writes to a file up to its device, and closes it. Where the system refuses, it says why.
-fn write_whole<F: Write + OpenFile + Drop>(
-    rt: &impl Eprint,
-    file: F,
-    bytes: &[u8],
-    path: &[u8],
-) -> bool {
-    let mut file = file;
-    let written = write_to_device(&mut file, bytes);
-    if let Err(error) = &written {
-        system::fail(rt, path, error);
-    }
-    written.is_ok()
-}
-
-fn write_to_device(file: &mut (impl Write + OpenFile), bytes: &[u8]) -> io::Result<()> {
+// Writes to a file up to its device, and closes it.
+fn write_to_device<F: Write + OpenFile + Drop>(mut file: F, bytes: &[u8]) -> io::Result<()> {
     file.write_all(bytes)?;
     file.sync_all()
-}
-
-// Puts a name with its ending into `path`, and answers its length; 0, which no file's name has, where there is no
-// room.
-fn new_name(name: &[u8], path: &mut [u8]) -> usize
-    ensures in_bounds { result ≤ length path.new }
-    ensures front { result ≡ length (take result path.new) }
-{
-    let length = name.len();
-    if path.len() < 4 {
-        return 0;
-    }
-    if path.len() - 4 < length {
-        return 0;
-    }
-    copy(name, path);
-    copy(b".new", &mut path[length..]);
-    within(path, length + 4)
-}
-
-// So many bytes, or 0 where there are fewer.
-fn within(bytes: &[u8], count: usize) -> usize
-    ensures in_bounds { result ≤ length bytes.now }
-    ensures front { result ≡ length (take result bytes.now) }
-{
-    if bytes.len() < count {
-        return 0;
-    }
-    count
-}
-
-// Copies bytes, as far as there is room.
-fn copy(from: &[u8], to: &mut [u8]) {
-    let mut i: usize = 0;
-    while i < from.len() && i < to.len() {
-        to[i] = from[i];
-        i += 1;
-    }
 }

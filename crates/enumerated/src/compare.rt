@@ -1,52 +1,35 @@
 // Compares what the library answers and writes with what the enumerator finds.
-use crate::bytes::{number, same};
-use crate::enumerate::Found;
-use crate::generate::size_in;
+use crate::enumerate::Best;
+use crate::task::Task;
+use files::refusals::{Reason, Refusal};
+use plans::{Minutes, Steps};
+use std::alloc::{AllocError, Global};
 
-// The first `count` bytes of a buffer, or all where it has fewer.
-pub fn part(buffer: &[u8], count: usize) -> &[u8] {
-    if buffer.len() < count {
-        return buffer;
-    }
-    &buffer[..count]
-}
+// How many bytes are lent for a file, more than any here has, and what they hold before.
+const ROOM: usize = 512;
 
-// Whether an outcome has a number, and nothing beside it.
-fn is_outcome(outcome: files::Outcome, number: u32) -> bool {
-    if outcome.number != number {
-        return false;
-    }
-    if outcome.file != 0 {
-        return false;
-    }
-    outcome.place == 0
+const BEFORE: u8 = 171;
+
+// Whether a refusal says that there is no plan, at no place.
+fn is_no_plan(refusal: Refusal) -> bool {
+    refusal.reason == Reason::NoPlan && !refusal.in_second && refusal.place == 0
 }
 
 // Whether a cost and a number of steps are those that are found.
-fn is_found(cost: plans::Minutes, steps: plans::Steps, found: Found) -> bool {
-    if cost.0 != found.cost as u64 {
-        return false;
-    }
-    steps.0 as usize == found.steps
+fn is_total(cost: Minutes, steps: Steps, best: &Best) -> bool {
+    cost.0 == best.cost && usize::from(steps.0) == best.actions.len()
 }
 
-// Whether the planner at a level gives another answer for the first bytes of a file than is found, or
-// leaves another byte anywhere in the plan buffer.
-pub fn planner_differs(
-    file: &[u8; 512],
-    count: usize,
-    level: u32,
-    signer: u32,
-    found: Found,
-    plan: &[u8; 512],
-) -> bool {
+// Whether the planner at a level answers for a file what is found, and writes the plan file and no other
+// byte.
+pub fn plans_so(file: &[u8], level: u32, signer: u32, found: Option<&Best>, plan: &[u8]) -> bool {
     let mut actions = [0u8; 10];
     let mut facts = [0u8; 16];
-    let mut reduced = [0u8; 512];
-    let mut origin = [0u8; 512];
-    let mut lent = [171u8; 512];
+    let mut reduced = [0u8; ROOM];
+    let mut origin = [0u8; ROOM];
+    let mut lent = [BEFORE; ROOM];
     let answer = search::own_table::plan(
-        part(file, count),
+        file,
         level,
         signer,
         &mut actions,
@@ -55,83 +38,69 @@ pub fn planner_differs(
         &mut origin,
         &mut lent,
     );
-    if !is_outcome(answer.outcome, found.number) {
-        return true;
-    }
-    if !is_found(answer.cost, answer.steps, found) {
-        return true;
-    }
-    if answer.plan != found.length {
-        return true;
-    }
-    !same(&lent, plan)
+    let (written, behind) = lent.split_at(plan.len().min(ROOM));
+    let is_found = match (answer, found) {
+        (Ok(counts), Some(best)) => {
+            is_total(counts.cost, counts.steps, best) && counts.plan == plan.len()
+        }
+        (Err(refusal), None) => is_no_plan(refusal) && plan.is_empty(),
+        _ => false,
+    };
+    is_found && written == plan && behind.iter().all(|byte| *byte == BEFORE)
 }
 
-// Whether the plan checker gives another answer for a plan file than is found.
-pub fn checker_differs(file: &[u8; 512], count: usize, found: Found, plan: &[u8; 512]) -> bool {
-    let answer = plans::check_plan(part(file, count), part(plan, found.length));
-    if !is_outcome(answer.outcome, 0) {
-        return true;
-    }
-    !is_found(answer.cost, answer.steps, found)
+// Whether the plan checker answers for a plan file what is found.
+pub fn checks_so(file: &[u8], plan: &[u8], best: &Best) -> bool {
+    plans::check_plan(file, plan).is_ok_and(|total| is_total(total.cost, total.steps, best))
 }
 
-// Reduces a file at a level.
-pub fn reduce(
-    file: &[u8; 512],
-    count: usize,
-    level: u32,
-    signer: u32,
-    reduced: &mut [u8; 512],
-) -> reduction::Reduced {
+// A file reduced at a level: the bytes of the reduced file, and the turns, of which level 5 alone has any.
+#[derive(Drop)]
+pub struct Reduced {
+    pub file: Vec<u8>,
+    pub turns: usize,
+    // Whether it is reduced, and has turns at level 5 alone.
+    pub is_right: bool,
+}
+
+pub fn reduce(alloc: Global, file: &[u8], level: u32, signer: u32) -> Result<Reduced, AllocError> {
     let mut actions = [0u8; 10];
     let mut facts = [0u8; 16];
-    let mut origin = [0u8; 512];
-    reduction::reduce(
-        part(file, count),
+    let mut origin = [0u8; ROOM];
+    let mut reduced = vec![in alloc; 0u8; ROOM]?;
+    let answer = reduction::reduce(
+        file,
         level,
         signer,
         &mut actions,
         &mut facts,
-        reduced,
+        reduced.as_mut_slice(),
         &mut origin,
-    )
+    );
+    let is_right = answer.is_ok_and(|counts| (counts.turns != 0) == (level == 5));
+    let counts = answer.unwrap_or_default();
+    reduced.truncate(counts.reduced);
+    Ok(Reduced {
+        file: reduced,
+        turns: counts.turns,
+        is_right,
+    })
 }
 
-// Whether a file is not reduced at a level, or has turns at another level than 5.
-pub fn reducer_differs(answer: reduction::Reduced, level: u32) -> bool {
-    let turns = answer.turns;
-    if !is_outcome(answer.outcome, 0) {
-        return true;
-    }
-    (0 < turns) != (level == 5)
+// Whether two tasks have as many variables, values of each and actions.
+pub fn same_counts(one: &Task, other: &Task) -> bool {
+    let sizes = one.variables.iter().map(|variable| variable.size);
+    let others = other.variables.iter().map(|variable| variable.size);
+    sizes.eq(others) && one.actions.len() == other.actions.len()
 }
 
-// Whether the tasks of two files have as many variables, values of each and actions.
-pub fn same_counts(one: &[u8; 512], other: &[u8; 512]) -> bool {
-    if number(one, 4) != number(other, 4) {
-        return false;
+// Whether the same is found in two tasks: no plan, or the cost and the number of steps.
+pub fn same_found(one: Option<&Best>, other: Option<&Best>) -> bool {
+    match (one, other) {
+        (Some(one), Some(other)) => {
+            one.cost == other.cost && one.actions.len() == other.actions.len()
+        }
+        (None, None) => true,
+        _ => false,
     }
-    if number(one, 6) != number(other, 6) {
-        return false;
-    }
-    same_size(one, other, 0)
-        && same_size(one, other, 1)
-        && same_size(one, other, 2)
-        && same_size(one, other, 3)
-}
-
-fn same_size(one: &[u8; 512], other: &[u8; 512], variable: usize) -> bool {
-    size_in(one, variable) == size_in(other, variable)
-}
-
-// Whether what is found in two tasks has another number, cost or number of steps.
-pub fn found_differ(one: Found, other: Found) -> bool {
-    if one.number != other.number {
-        return true;
-    }
-    if one.cost != other.cost {
-        return true;
-    }
-    one.steps != other.steps
 }

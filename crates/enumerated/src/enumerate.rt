@@ -1,305 +1,153 @@
 // The enumerator. For each number of steps and each state it has the least cost of reaching the goal in
 // exactly so many steps. A cheapest plan of fewest steps visits no state twice, and no task here has
 // more than 64 states, so that up to 63 steps are enough.
-//
-// The graph of a task has at 256 * action + state the state after the action, 256 where it is not
-// applicable, and at 2560 + action its cost. Costs have at 256 * steps + state that least cost.
-ghost use Rattle.std.specs.Prelude.{◌≤◌};
+use crate::state::{State, states_of};
+use crate::task::{Action, Task};
+use std::alloc::{AllocError, Global};
 
-use crate::bytes::{number, put, put_number, put_sign_off};
-use crate::states;
+// Plans of up to so many steps are looked at.
+const STEPS: usize = 63;
 
-// The cost where the goal is not reached.
-const NEVER: usize = 1000000000000;
+// No task here has more actions.
+const ACTIONS: u16 = 10;
 
-// What there is to find: 0 with the cost and the steps of a best plan, the length of its file, and whether
-// there are several; or 24 where there is no plan.
-#[derive(Clone, Copy)]
-pub struct Found {
-    pub number: u32,
-    pub cost: usize,
-    pub steps: usize,
-    pub length: usize,
-    pub tied: bool,
+// A cheapest plan of fewest steps: at each step the first action that leaves the least cost in the steps
+// that are left.
+#[derive(Drop)]
+pub struct Best {
+    pub cost: u64,
+    pub actions: Vec<u16>,
+    // Whether a later action would have done as well at some step.
+    pub is_tied: bool,
 }
 
-// An action to go on with, the cost by it, and whether a later one does as well.
+// An action to go on with, the state after it, the cost by it, and whether a later one does as well.
 #[derive(Clone, Copy)]
 struct Choice {
-    action: usize,
-    cost: usize,
-    tied: bool,
+    action: u16,
+    after: usize,
+    cost: u64,
+    is_tied: bool,
 }
 
-// The least cost from the start state, and the fewest steps at that cost.
-#[derive(Clone, Copy)]
-struct Least {
-    cost: usize,
-    steps: usize,
+// The least costs of reaching the goal from each state in some number of steps.
+type Costs = Vec<Option<u64>>;
+
+// An action by numbers of states: the state after it, where it is applicable.
+#[derive(Drop)]
+struct Moves {
+    cost: u64,
+    next: Vec<Option<usize>>,
 }
 
-// The length of a plan file, and whether another plan is as good.
-#[derive(Clone, Copy)]
-struct Written {
-    length: usize,
-    tied: bool,
-}
-
-// Where the goal stands in a file.
-fn goal_place(file: &[u8; 512]) -> usize
-    ensures { result ≤ 524288 }
-{
-    8 + 8 * number(file, 4)
-}
-
-// Where the record after a record stands.
-fn next_place(file: &[u8; 512], at: usize) -> usize {
-    if 512 < at {
-        return at;
-    }
-    at + 4 + number(file, at)
-}
-
-// Where each action stands in a file, 1000 where there is none.
-pub fn places(file: &[u8; 512]) -> [usize; 10] {
-    let actions = number(file, 6);
-    let mut places = [1000usize; 10];
-    let mut at = next_place(file, goal_place(file));
-    let mut action: usize = 0;
-    while action < 10 {
-        if action < actions {
-            places[action] = at;
+impl Moves {
+    fn of(alloc: Global, action: &Action, states: usize) -> Result<Moves, AllocError> {
+        let mut next = Vec::new(alloc);
+        for number in 0..states {
+            let state = State::of(number);
+            let after = state.after(action.effects.as_slice()).number();
+            let is_applicable = state.holds(action.conditions.as_slice());
+            next.push(is_applicable.then_some(after))?;
         }
-        at = next_place(file, at);
-        action += 1;
+        let cost = u64::from(action.cost);
+        Ok(Moves { cost, next })
     }
-    places
-}
 
-// Where the effects of the action at a place begin.
-pub fn effects_place(file: &[u8; 512], place: usize) -> usize
-    requires { place ≤ 512 }
-    ensures { result ≤ 300000 }
-{
-    place + 12 + 4 * number(file, place + 8)
-}
-
-// Where the effects of the action at a place end.
-pub fn effects_end(file: &[u8; 512], place: usize) -> usize
-    requires { place ≤ 512 }
-{
-    effects_place(file, place) + 4 * number(file, place + 10)
-}
-
-// The cost of the action at a place.
-pub fn cost_in(file: &[u8; 512], place: usize) -> usize
-    requires { place ≤ 512 }
-{
-    number(file, place + 4) + 65536 * number(file, place + 6)
-}
-
-// The state after an action.
-fn successor(file: &[u8; 512], place: usize, state: usize) -> usize
-    ensures { result ≤ 256 }
-{
-    if 512 < place {
-        return 256;
-    }
-    if states::limit(file) <= state {
-        return 256;
-    }
-    let middle = effects_place(file, place);
-    if !states::hold(file, place + 12, middle, state) {
-        return 256;
-    }
-    states::after(file, middle, effects_end(file, place), state)
-}
-
-// The number at a place of the graph.
-fn edge(file: &[u8; 512], places: &[usize; 10], at: usize) -> usize {
-    if at < 2560 {
-        return successor(file, places[at / 256], at % 256);
-    }
-    let place = places[at % 10];
-    if 512 < place {
-        return 0;
-    }
-    cost_in(file, place)
-}
-
-fn fill_graph(file: &[u8; 512], graph: &mut [usize; 2570]) {
-    let places = places(file);
-    let mut at: usize = 0;
-    while at < 2570 {
-        graph[at] = edge(file, &places, at);
-        at += 1;
+    // The state after the action, and the least cost by it and then by those costs.
+    fn go_on(&self, rest: &[Option<u64>], state: usize) -> Option<(usize, u64)> {
+        let after = self.next.as_slice().get(state).copied().flatten()?;
+        let left = rest.get(after).copied().flatten()?;
+        Some((after, self.cost.checked_add(left)?))
     }
 }
 
-// The state after an action, by the graph.
-fn step(graph: &[usize; 2570], action: usize, state: usize) -> usize {
-    if 10 <= action {
-        return 256;
-    }
-    if 256 <= state {
-        return 256;
-    }
-    graph[256 * action + state]
-}
-
-// The least cost from a state in one step more than `steps`, of which the first is an action.
-fn cost_by(
-    graph: &[usize; 2570],
-    costs: &[usize; 16384],
-    steps: usize,
-    state: usize,
-    action: usize,
-) -> usize {
-    let next = step(graph, action, state);
-    if 256 <= next {
-        return NEVER;
-    }
-    if 64 <= steps {
-        return NEVER;
-    }
-    if 10 <= action {
-        return NEVER;
-    }
-    let rest = costs[256 * steps + next];
-    let cost = graph[2560 + action];
-    if NEVER <= rest {
-        return NEVER;
-    }
-    if NEVER <= cost {
-        return NEVER;
-    }
-    cost + rest
-}
-
-// The first action by which a state has its least cost in one step more than `steps`.
-fn choose(graph: &[usize; 2570], costs: &[usize; 16384], steps: usize, state: usize) -> Choice {
-    let mut first: usize = 0;
-    let mut least = NEVER;
-    let mut tied = false;
-    let mut action: usize = 0;
-    while action < 10 {
-        let cost = cost_by(graph, costs, steps, state, action);
-        if cost < least {
-            first = action;
-            least = cost;
-            tied = false;
-        } else {
-            tied = tied || cost == least;
-        }
-        action += 1;
-    }
-    Choice {
-        action: first,
-        cost: least,
-        tied: tied,
-    }
-}
-
-// The least cost from a state in exactly `steps` steps.
-fn least_cost(
-    file: &[u8; 512],
-    graph: &[usize; 2570],
-    costs: &[usize; 16384],
-    steps: usize,
-    state: usize,
-) -> usize {
-    if 0 < steps {
-        return choose(graph, costs, steps - 1, state).cost;
-    }
-    let at = goal_place(file);
-    if states::hold(file, at + 4, next_place(file, at), state) {
-        return 0;
-    }
-    NEVER
-}
-
-// Fills in the least costs, first those of the goal in no steps.
-fn fill_costs(file: &[u8; 512], graph: &[usize; 2570], costs: &mut [usize; 16384]) {
-    let limit = states::limit(file);
-    let mut at: usize = 0;
-    while at < 16384 {
-        if at % 256 < limit {
-            costs[at] = least_cost(file, graph, costs, at / 256, at % 256);
-        }
-        at += 1;
-    }
-}
-
-// The least cost from the start state, and the least number of steps at that cost.
-fn least_steps(file: &[u8; 512], costs: &[usize; 16384]) -> Least {
-    let start = states::start(file);
-    let mut least = NEVER;
-    let mut fewest: usize = 0;
-    let mut steps: usize = 0;
-    while steps < 64 {
-        let cost = costs[256 * steps + start];
-        if cost < least {
-            least = cost;
-            fewest = steps;
-        }
-        steps += 1;
-    }
-    Least {
-        cost: least,
-        steps: fewest,
-    }
-}
-
-// Writes the file of a plan of so many steps: at each the first action that leaves the least cost in the
-// steps that are left. Answers its length, and whether a later action would have done as well at some
-// step.
-fn put_plan(
-    file: &[u8; 512],
-    graph: &[usize; 2570],
-    costs: &[usize; 16384],
-    steps: usize,
-    signer: usize,
-    plan: &mut [u8; 512],
-) -> Written {
-    let mut left = steps;
-    let mut at = put(plan, 0, 2 * (steps % 64), 8);
-    let mut state = states::start(file);
-    let mut tied = false;
-    while 0 < left {
-        left -= 1;
-        let choice = choose(graph, costs, left, state);
-        at = put_number(plan, at, choice.action);
-        state = step(graph, choice.action, state);
-        tied = tied || choice.tied;
-    }
-    Written {
-        length: put_sign_off(plan, at, signer),
-        tied: tied,
-    }
-}
-
-// What there is to find in the task of a file; writes the plan file under a signer.
-pub fn find(file: &[u8; 512], signer: usize, plan: &mut [u8; 512]) -> Found {
-    let mut graph = [0usize; 2570];
-    fill_graph(file, &mut graph);
-    let mut costs = [NEVER; 16384];
-    fill_costs(file, &graph, &mut costs);
-    let least = least_steps(file, &costs);
-    if NEVER <= least.cost {
-        return Found {
-            number: 24,
-            cost: 0,
-            steps: 0,
-            length: 0,
-            tied: false,
+// The first action by which a state has its least cost in one step more than those of `rest`.
+fn choose(moves: &[Moves], rest: &[Option<u64>], state: usize) -> Option<Choice> {
+    let mut best: Option<Choice> = None;
+    for (action, each) in (0..ACTIONS).zip(moves.iter()) {
+        let Some((after, cost)) = each.go_on(rest, state) else {
+            continue;
         };
+        match &mut best {
+            Some(choice) if choice.cost < cost => {}
+            Some(choice) if choice.cost == cost => choice.is_tied = true,
+            _ => {
+                best = Some(Choice {
+                    action,
+                    after,
+                    cost,
+                    is_tied: false,
+                });
+            }
+        }
     }
-    let written = put_plan(file, &graph, &costs, least.steps, signer, plan);
-    Found {
-        number: 0,
-        cost: least.cost,
-        steps: least.steps,
-        length: written.length,
-        tied: written.tied,
+    best
+}
+
+// What there is to find in a task: a best plan, or none.
+pub fn find(alloc: Global, task: &Task) -> Result<Option<Best>, AllocError> {
+    let states = states_of(task);
+    let mut moves = Vec::new(alloc);
+    for action in task.actions.iter() {
+        moves.push(Moves::of(alloc, action, states)?)?;
     }
+    let tables = costs(alloc, task, moves.as_slice(), states)?;
+    let mut state = State::start_of(task).number();
+    let Some((steps, cost)) = fewest(tables.as_slice(), state) else {
+        return Ok(None);
+    };
+    let mut best = Best {
+        cost,
+        actions: Vec::new(alloc),
+        is_tied: false,
+    };
+    for rest in tables.iter().take(steps).rev() {
+        let Some(choice) = choose(moves.as_slice(), rest.as_slice(), state) else {
+            break;
+        };
+        best.actions.push(choice.action)?;
+        best.is_tied = best.is_tied || choice.is_tied;
+        state = choice.after;
+    }
+    Ok(Some(best))
+}
+
+// The least costs by the number of steps, first those of the goal in none.
+fn costs(
+    alloc: Global,
+    task: &Task,
+    moves: &[Moves],
+    states: usize,
+) -> Result<Vec<Costs>, AllocError> {
+    let mut costs = Vec::new(alloc);
+    for number in 0..states {
+        let is_goal = State::of(number).holds(task.goal.as_slice());
+        costs.push(is_goal.then_some(0))?;
+    }
+    let mut tables = Vec::new(alloc);
+    for _ in 0..STEPS {
+        let mut more = Vec::new(alloc);
+        for state in 0..states {
+            let choice = choose(moves, costs.as_slice(), state);
+            more.push(choice.map(|choice| choice.cost))?;
+        }
+        tables.push(costs)?;
+        costs = more;
+    }
+    tables.push(costs)?;
+    Ok(tables)
+}
+
+// The fewest steps in which a state has its least cost, and that cost.
+fn fewest(tables: &[Costs], state: usize) -> Option<(usize, u64)> {
+    let mut best: Option<(usize, u64)> = None;
+    for (steps, costs) in tables.iter().enumerate() {
+        let Some(cost) = costs.as_slice().get(state).copied().flatten() else {
+            continue;
+        };
+        if best.is_none_or(|(_, least)| cost < least) {
+            best = Some((steps, cost));
+        }
+    }
+    best
 }

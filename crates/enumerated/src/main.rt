@@ -4,204 +4,148 @@
 // prints a line for each difference, and lines of totals.
 #![tactic(auto)]
 
-mod bytes;
 mod compare;
 mod covering;
 mod enumerate;
 mod generate;
 mod random;
-mod states;
+mod state;
+mod task;
+mod totals;
 
-use crate::enumerate::Found;
-use std::io;
-use std::io::Write;
+use enumerate::Best;
+use random::Random;
+use std::alloc::Global;
+use std::{fmt, io};
+use task::{Task, Unreadable};
+use totals::{Totals, count};
 
 const TASKS: usize = 4000;
 
-// The places of totals: differences; tasks without a plan, with an empty plan, with several best plans;
-// the steps of all plans, and the most of one; at 6 and a level, the tasks with actions struck; the
-// actions that only a cheaper one covers; the tasks with fewer actions at level 5 than at level 4, with
-// at least 4 turns, and with turns of which all but the last only give values new numbers.
-const DIFFERENCES: usize = 0;
-
-const NONE: usize = 1;
-
-const EMPTY: usize = 2;
-
-const TIED: usize = 3;
-
-const STEPS: usize = 4;
-
-const MOST: usize = 5;
-
-const STRUCK: usize = 6;
-
-const COVERED: usize = 12;
-
-const FEWER: usize = 13;
-
-const TURNED: usize = 14;
-
-const RENUMBERED: usize = 15;
+// The signers of the tasks' files and of the reduced files.
+const SIGNER: u32 = 7;
 
 fn main(rt: HostRuntime) -> io::Result<()> {
-    let mut out = io::writer(&rt);
-    let mut state: u64 = 20240608;
-    let mut sums = [0usize; 16];
-    let mut task: usize = 0;
-    while task < TASKS {
-        run_task(&mut out, task, &mut state, &mut sums)?;
-        task += 1;
+    let mut random = Random(20240608);
+    let mut run = Run {
+        rt: &rt,
+        alloc: rt.alloc(),
+        totals: Totals::default(),
+        place: 0,
+    };
+    for place in 0..TASKS {
+        run.place = place;
+        let task = generate::task(run.alloc, place, &mut random)?;
+        run.compare(&task)?;
     }
-    print_totals(&mut out, &sums)
+    print!(rt; "{}", run.totals)
 }
 
-// Adds a number to the total of a place. A total stays far below the bound.
-fn add(sums: &mut [usize; 16], place: usize, number: usize) {
-    if 16 <= place {
-        return;
-    }
-    if 10000 <= number {
-        return;
-    }
-    let sum = sums[place];
-    if sum < 1000000000 {
-        sums[place] = sum + number;
-    }
+// In what the library differs from the enumerator.
+#[derive(Clone, Copy, Debug)]
+enum Difference {
+    Planned { level: u32 },
+    Checked,
+    Reduced,
 }
 
-// One task: generated, enumerated, planned and reduced.
-fn run_task<W: Write>(
-    out: &mut W,
-    task: usize,
-    state: &mut u64,
-    sums: &mut [usize; 16],
-) -> io::Result<()> {
-    let mut file = [0u8; 512];
-    let count = generate::put_task(&mut file, task, state);
-    let signer = 1 + task % 4096 * 1048573;
-    let mut plan = [171u8; 512];
-    let found = enumerate::find(&file, signer, &mut plan);
-    add_found(sums, found);
-    let differs = compare::planner_differs(&file, count, 4, signer as u32, found, &plan);
-    add_difference(
-        out,
-        sums,
-        task,
-        b"planned otherwise at level 4: task ",
-        differs,
-    )?;
-    let differs = compare::planner_differs(&file, count, 5, signer as u32, found, &plan);
-    add_difference(
-        out,
-        sums,
-        task,
-        b"planned otherwise at level 5: task ",
-        differs,
-    )?;
-    if found.number == 0 {
-        let differs = compare::checker_differs(&file, count, found, &plan);
-        add_difference(out, sums, task, b"checked otherwise: task ", differs)?;
-    }
-    run_level(out, &file, count, 1, found, task, sums)?;
-    run_level(out, &file, count, 2, found, task, sums)?;
-    run_level(out, &file, count, 3, found, task, sums)?;
-    let kept = run_level(out, &file, count, 4, found, task, sums)?;
-    let left = run_level(out, &file, count, 5, found, task, sums)?;
-    add(sums, FEWER, (left < kept) as usize);
-    add(sums, COVERED, covering::by_cheaper_alone(&file, count));
-    Ok(())
-}
-
-// One task reduced at a level: what is found in the reduced task is the same. Answers how many actions
-// are left.
-fn run_level<W: Write>(
-    out: &mut W,
-    file: &[u8; 512],
-    count: usize,
-    level: u32,
-    found: Found,
-    task: usize,
-    sums: &mut [usize; 16],
-) -> io::Result<usize> {
-    let mut reduced = [0u8; 512];
-    let mut plan = [0u8; 512];
-    let answer = compare::reduce(file, count, level, 7, &mut reduced);
-    let turns = answer.turns;
-    let differs = compare::reducer_differs(answer, level);
-    let again = enumerate::find(&reduced, 7, &mut plan);
-    let differs = differs || compare::found_differ(again, found);
-    add_difference(out, sums, task, b"other when reduced: task ", differs)?;
-    let left = bytes::number(&reduced, 6);
-    add(
-        sums,
-        STRUCK + level as usize % 6,
-        (left < bytes::number(file, 6)) as usize,
-    );
-    add(sums, TURNED, (3 < turns) as usize);
-    add(
-        sums,
-        RENUMBERED,
-        (1 < turns && compare::same_counts(file, &reduced)) as usize,
-    );
-    Ok(left)
-}
-
-fn add_found(sums: &mut [usize; 16], found: Found) {
-    let steps = found.steps;
-    add(sums, NONE, (found.number != 0) as usize);
-    add(sums, EMPTY, (found.number == 0 && steps == 0) as usize);
-    add(sums, TIED, found.tied as usize);
-    add(sums, STEPS, steps);
-    if sums[MOST] < steps {
-        sums[MOST] = steps;
+impl fmt::Display for Difference {
+    fn fmt<W: fmt::Write>(&self, f: &mut fmt::Formatter<W>) -> fmt::Result {
+        match self {
+            Difference::Planned { level } => write!(f, "planned otherwise at level {level}"),
+            Difference::Checked => write!(f, "checked otherwise"),
+            Difference::Reduced => write!(f, "other when reduced"),
+        }
     }
 }
 
-// Counts and prints a difference.
-fn add_difference<W: Write>(
-    out: &mut W,
-    sums: &mut [usize; 16],
-    task: usize,
-    label: &[u8],
-    differs: bool,
-) -> io::Result<()> {
-    if !differs {
-        return Ok(());
+// The run so far: what is counted, and the place of the task that is looked at.
+#[derive(Drop)]
+struct Run<'a, R: Print> {
+    rt: &'a R,
+    alloc: Global,
+    totals: Totals,
+    place: usize,
+}
+
+impl<R: Print> Run<'_, R> {
+    // Compares all that the library answers for a task with what is found in it.
+    fn compare(&mut self, task: &Task) -> io::Result<()> {
+        let file = task.file(self.alloc, SIGNER)?;
+        let file = file.as_slice();
+        let found = enumerate::find(self.alloc, task)?;
+        let found = found.as_ref();
+        self.totals.add(found);
+        self.compare_plans(file, found)?;
+        let mut left = [0; 5];
+        for (level, left) in (1..6).zip(left.iter_mut()) {
+            *left = self.compare_reduced(file, task, level, found)?;
+        }
+        count(&mut self.totals.fewer, left[4] < left[3]);
+        let covered = covering::by_cheaper_alone(self.alloc, file, task)?;
+        self.totals.covered = self.totals.covered.saturating_add(covered);
+        Ok(())
     }
-    add(sums, DIFFERENCES, 1);
-    print_line(out, label, task)
-}
 
-// Prints a line: a label and a number.
-fn print_line<W: Write>(out: &mut W, label: &[u8], number: usize) -> io::Result<()> {
-    out.write_all(label)?;
-    writeln!(out, "{number}")
-}
+    // The planner at both levels, and the plan checker.
+    fn compare_plans(&mut self, file: &[u8], found: Option<&Best>) -> io::Result<()> {
+        let signer = 1 + (self.place % 4096) as u32 * 1048573;
+        let plan = match found {
+            Some(best) => task::plan_file(self.alloc, best.actions.as_slice(), signer)?,
+            None => Vec::new(self.alloc),
+        };
+        let plan = plan.as_slice();
+        for level in [4, 5] {
+            if !compare::plans_so(file, level, signer, found, plan) {
+                self.print(Difference::Planned { level })?;
+            }
+        }
+        if let Some(best) = found
+            && !compare::checks_so(file, plan, best)
+        {
+            self.print(Difference::Checked)?;
+        }
+        Ok(())
+    }
 
-fn print_totals<W: Write>(out: &mut W, sums: &[usize; 16]) -> io::Result<()> {
-    print_line(out, b"tasks ", TASKS)?;
-    print_line(out, b"without a plan ", sums[NONE])?;
-    print_line(out, b"with an empty plan ", sums[EMPTY])?;
-    print_line(out, b"with several best plans ", sums[TIED])?;
-    print_line(out, b"steps ", sums[STEPS])?;
-    print_line(out, b"most steps of a plan ", sums[MOST])?;
-    print_line(out, b"with actions struck at level 1: ", sums[7])?;
-    print_line(out, b"with actions struck at level 2: ", sums[8])?;
-    print_line(out, b"with actions struck at level 3: ", sums[9])?;
-    print_line(out, b"with actions struck at level 4: ", sums[10])?;
-    print_line(out, b"with actions struck at level 5: ", sums[11])?;
-    print_line(
-        out,
-        b"with fewer actions at level 5 than at level 4: ",
-        sums[FEWER],
-    )?;
-    print_line(out, b"with 4 turns or more at level 5: ", sums[TURNED])?;
-    print_line(out, b"with turns that only renumber: ", sums[RENUMBERED])?;
-    print_line(
-        out,
-        b"actions that only a cheaper one covers: ",
-        sums[COVERED],
-    )?;
-    print_line(out, b"differences ", sums[DIFFERENCES])
+    // The task reduced at a level, in which the same is to be found. Answers how many actions are left.
+    fn compare_reduced(
+        &mut self,
+        file: &[u8],
+        task: &Task,
+        level: u32,
+        found: Option<&Best>,
+    ) -> io::Result<usize> {
+        let reduced = compare::reduce(self.alloc, file, level, SIGNER)?;
+        let left = match Task::read(self.alloc, reduced.file.as_slice()) {
+            Ok(left) => left,
+            Err(Unreadable::Memory(error)) => return Err(io::Error::from(error)),
+            Err(Unreadable::NoTask) => {
+                self.print(Difference::Reduced)?;
+                return Ok(0);
+            }
+        };
+        let again = enumerate::find(self.alloc, &left)?;
+        if !reduced.is_right || !compare::same_found(again.as_ref(), found) {
+            self.print(Difference::Reduced)?;
+        }
+        self.count_reduced(task, &left, level, reduced.turns);
+        Ok(left.actions.len())
+    }
+
+    fn count_reduced(&mut self, task: &Task, left: &Task, level: u32, turns: usize) {
+        let is_struck = left.actions.len() < task.actions.len();
+        for (each, struck) in (1..6).zip(self.totals.struck.iter_mut()) {
+            count(struck, is_struck && each == level);
+        }
+        count(&mut self.totals.turned, 3 < turns);
+        let only_renumbers = 1 < turns && compare::same_counts(task, left);
+        count(&mut self.totals.renumbered, only_renumbers);
+    }
+
+    // Counts and prints a difference.
+    fn print(&mut self, difference: Difference) -> io::Result<()> {
+        count(&mut self.totals.differences, true);
+        println!(self.rt; "{difference}: task {}", self.place)
+    }
 }

@@ -1,48 +1,66 @@
 // The lines that the program prints.
-use crate::printer::Printer;
-use std::io;
-use std::io::Write;
+// Kept: each number as a `Decimal`, since listings have their digits from the crate `digits`, a rule of the project.
+use digits::printed::Decimal;
+use files::refusals::Refusal;
+use plans::{Minutes, Steps};
+use std::fmt;
 
-pub fn put_refusal<W: Write + Drop>(
-    out: Printer<W>,
-    outcome: files::Outcome,
-) -> io::Result<Printer<W>> {
-    out.labelled(b"refused ", outcome.number as u64)?
-        .labelled(b" at ", outcome.place as u64)?
-        .end()
-}
+// A refusal and its place.
+#[derive(Clone, Copy)]
+pub struct Refused(pub Refusal);
 
-// The counts of variables and actions of an accepted task file.
-pub fn put_counts<W: Write + Drop>(
-    out: Printer<W>,
-    label: &[u8],
-    file: &[u8],
-) -> io::Result<Printer<W>> {
-    out.labelled(label, files::task::variables_in(file) as u64)?
-        .labelled(b" ", files::task::actions_in(file) as u64)?
-        .end()
-}
-
-// A line for each step of a plan file, with its action number.
-pub fn put_steps<W: Write + Drop>(out: Printer<W>, plan: &[u8]) -> io::Result<Printer<W>> {
-    let steps = files::plan::steps(plan);
-    let count = steps.0 as usize;
-    let mut next = out;
-    let mut i: usize = 0;
-    while i < count {
-        let action = files::plan::step(plan, i);
-        next = next.labelled(b"step ", action.0 as u64)?.end()?;
-        i += 1;
+impl fmt::Display for Refused {
+    fn fmt<W: fmt::Write>(&self, f: &mut fmt::Formatter<W>) -> fmt::Result {
+        let number = Decimal(u64::from(self.0.reason.number()));
+        let place = Decimal(self.0.place as u64);
+        writeln!(f, "refused {number} at {place}")
     }
-    Ok(next)
 }
 
-pub fn put_total<W: Write + Drop>(
-    out: Printer<W>,
-    cost: plans::Minutes,
-    steps: plans::Steps,
-) -> io::Result<Printer<W>> {
-    out.labelled(b"cost ", cost.0)?
-        .labelled(b" steps ", steps.0 as u64)?
-        .end()
+// A plan: the task file, the file of the reduced task, the plan file, and its total.
+#[derive(Clone, Copy)]
+pub struct Listing<'a> {
+    pub task: &'a [u8],
+    pub kept: &'a [u8],
+    pub plan: &'a [u8],
+    pub cost: Minutes,
+    pub steps: Steps,
+}
+
+impl fmt::Display for Listing<'_> {
+    fn fmt<W: fmt::Write>(&self, f: &mut fmt::Formatter<W>) -> fmt::Result {
+        writeln!(f, "task {}", Counts::of(self.task))?;
+        writeln!(f, "kept {}", Counts::of(self.kept))?;
+        for i in 0..usize::from(files::plan::steps(self.plan).0) {
+            let action = files::plan::step(self.plan, i);
+            writeln!(f, "step {}", Decimal(u64::from(action.0)))?;
+        }
+        let cost = Decimal(self.cost.0);
+        let steps = Decimal(u64::from(self.steps.0));
+        writeln!(f, "cost {cost} steps {steps}")
+    }
+}
+
+// How many variables and actions the task of an accepted file has.
+#[derive(Clone, Copy)]
+struct Counts {
+    variables: usize,
+    actions: usize,
+}
+
+impl Counts {
+    fn of(file: &[u8]) -> Counts {
+        Counts {
+            variables: files::task::variables_in(file),
+            actions: files::task::actions_in(file),
+        }
+    }
+}
+
+impl fmt::Display for Counts {
+    fn fmt<W: fmt::Write>(&self, f: &mut fmt::Formatter<W>) -> fmt::Result {
+        let variables = Decimal(self.variables as u64);
+        let actions = Decimal(self.actions as u64);
+        write!(f, "{variables} {actions}")
+    }
 }

@@ -3,47 +3,37 @@
 #![tactic(auto)]
 
 mod listing;
-mod printer;
 
-ghost use Rattle.std.specs.Io.{ReadsAtMost};
-
-use printer::Printer;
+use files::limits;
+use listing::{Listing, Refused};
 use std::io;
-use std::io::Read;
+use std::io::{BufWriter, Read, Write};
 
 // It plans at this level.
 const LEVEL: u32 = 4;
 
-fn main(rt: HostRuntime) -> io::Result<()> {
-    // one byte more than a file may have, so that a file over the limit is told from one at it
-    let mut input = [0u8; 65537];
-    let read = read_full(&mut rt.reader(), &mut input)?;
-    print_plan(&rt, &input[..read])
-}
+// One byte more than a file may have, so that a file over the limit is told from one at it.
+const MOST: u64 = limits::MOST_BYTES as u64 + 1;
 
-// Reads until the buffer is full or the input ends, and answers how much was read.
-fn read_full(source: &mut impl Read, buffer: &mut [u8]) -> io::Result<usize>
-    ensures { ReadsAtMost result buffer.new }
-{
-    let mut length: usize = 0;
-    while length < buffer.len() {
-        let count = source.read(&mut buffer[length..])?;
-        if count == 0 {
-            break;
-        }
-        length += count;
-    }
-    Ok(length)
+// How many bytes of the output may wait.
+const WAITING: usize = 512;
+
+fn main(rt: HostRuntime) -> io::Result<()> {
+    let mut file = Vec::new(rt.alloc());
+    rt.reader().take(MOST).read_to_end(&mut file)?;
+    let mut out = BufWriter::with_capacity(rt.alloc(), WAITING, io::writer(&rt))?;
+    print_plan(&mut out, file.as_slice())?;
+    out.flush()
 }
 
 // Plans with buffers that are long enough for every task.
-fn print_plan(rt: &impl Print, file: &[u8]) -> io::Result<()> {
-    let mut actions = [0u8; 512];
-    let mut facts = [0u8; 2048];
-    let mut reduced = [0u8; 65536];
-    let mut origin = [0u8; 5520];
-    let mut plan = [0u8; 8206];
-    let planned = search::own_table::plan(
+fn print_plan(out: &mut impl Write, file: &[u8]) -> io::Result<()> {
+    let mut actions = [0u8; limits::MOST_ACTIONS];
+    let mut facts = [0u8; limits::MOST_FACTS];
+    let mut reduced = [0u8; limits::MOST_BYTES];
+    let mut origin = [0u8; limits::MOST_ORIGIN_BYTES];
+    let mut plan = [0u8; limits::MOST_PLAN_BYTES];
+    let answer = search::own_table::plan(
         file,
         LEVEL,
         signer(file),
@@ -53,22 +43,24 @@ fn print_plan(rt: &impl Print, file: &[u8]) -> io::Result<()> {
         &mut origin,
         &mut plan,
     );
-    let outcome = planned.outcome;
-    let out = Printer::new(io::writer(rt));
-    if outcome.number != 0 {
-        listing::put_refusal(out, outcome)?.flush()?;
-        return Ok(());
+    match answer {
+        Ok(planned) => {
+            let listing = Listing {
+                task: file,
+                kept: &reduced,
+                plan: &plan,
+                cost: planned.cost,
+                steps: planned.steps,
+            };
+            write!(out, "{listing}")
+        }
+        Err(refusal) => write!(out, "{}", Refused(refusal)),
     }
-    let out = listing::put_counts(out, b"task ", file)?;
-    let out = listing::put_counts(out, b"kept ", &reduced)?;
-    let out = listing::put_steps(out, &plan)?;
-    listing::put_total(out, planned.cost, planned.steps)?.flush()?;
-    Ok(())
 }
 
 // The signer of the file; of a file over the limit, which is refused under any signer, 0.
 fn signer(file: &[u8]) -> u32 {
-    if 65536 < file.len() {
+    if limits::MOST_BYTES < file.len() {
         return 0;
     }
     files::records::signer(file) as u32

@@ -1,9 +1,0 @@
--- The steps are printed up to one of them.
-use Rattle.std.proofs.Common.{◌-◌, ◌≤◌}
-use Rattle.shortest.proofs.listing.put_steps.Given as goal
-
-abbrev pub invariant-loop-i : goal.invariant-loop-i
-invariant-loop-i g l = l.i ≤ l.count
-
-abbrev pub decreases-loop-i : goal.decreases-loop-i
-decreases-loop-i g l = l.count - l.i
