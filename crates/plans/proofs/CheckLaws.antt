@@ -16,6 +16,8 @@ use Rattle.files.specs.Task.{Task, action_count}
 use Rattle.files.specs.TaskFile.{check_task, task_of, actions_in}
 use Rattle.files.specs.PlanFile.{check_plan_file, plan_of}
 use Rattle.files.specs.Accepted.{accepted_plan}
+use Rattle.files.specs.Clauses.{TaskRead}
+use Rattle.files.specs.declared.arrays.Arrays.{Arrays}
 use Rattle.files.proofs.Guards.{refused_stands, stops_refused, goes_done}
 use Rattle.files.proofs.Logic.{and_split}
 use Rattle.files.proofs.TaskChecked.{action_count_lem}
@@ -77,3 +79,9 @@ second_file (Err e) mapped m f = let p = err_from_is_err_and mapped m in rw p.1 
 pub second_done : (o : Outcome) → done ≡ in_second o → o.number ≡ 0
 unfolding in_second
 second_done o e = ap (λ (x : Outcome). x.number) (sym e)
+
+-- a refusal of the plan file, after a task that was read, is the answer
+pub second_refused : (task plan : List ℕ) (before after : Arrays) (o : Outcome) (r : Refusal) → TaskRead task before after done
+    → o ≡ check_plan_file after.actions plan → refused r ≡ in_second o → checked_of (Err r) ≡ check_plan task plan
+second_refused task plan before after o r read listed second =
+    check_second task plan read.outcome after.actions (read.actions refl) r (second ∙ ap in_second listed)

@@ -21,6 +21,7 @@ pub struct PlanTotal {
 }
 
 // Whether a plan file holds a plan of a task file's task, and its cost and steps.
+#[tactic(auto, using(crate::proofs::CheckLaws::second_refused))]
 pub fn check_plan(task: &[u8], plan: &[u8]) -> Result<PlanTotal, Refusal>
     ensures { checked_of result ≡ check_plan task.now plan.now }
 {

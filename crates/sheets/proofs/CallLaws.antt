@@ -15,6 +15,7 @@ use Rattle.std.specs.Result.{IsErrAnd}
 use Rattle.std.proofs.lemmas.Result.{err_from_is_err_and}
 use Rattle.files.specs.PlanFile.{check_plan_file, plan_of}
 use Rattle.files.specs.Records.{signer_of}
+use Rattle.files.specs.Stages.{answer_by, left_by}
 use Rattle.files.specs.Task.{action_count, action_of}
 use Rattle.files.specs.TaskFile.{check_task, task_of}
 use Rattle.files.proofs.Guards.{stops_le, is_done_lem, refused_stands}
@@ -24,24 +25,34 @@ use Rattle.files.proofs.TaskChecked.{task_accepted}
 use Rattle.files.proofs.Valid.{task_valid}
 use Rattle.plans.specs.declared.PlanTotal.{PlanTotal}
 use Rattle.plans.specs.Check.{Checked, with_total, checked_of, check_plan}
-use Rattle.plans.specs.Plan.{step_of}
+use Rattle.plans.specs.Plan.{step_of, no_steps}
 use Rattle.plans.proofs.CheckLaws.{file_steps_few, file_steps_known}
 use Rattle.plans.proofs.PlanChecker.{checker_right}
 use Rattle.sheets.specs.declared.LaidPage.{LaidPage}
 use Rattle.sheets.specs.Clauses.{StepsFit}
-use Rattle.sheets.specs.Sheet.{step_lines, signed_line, sheet_of, page_length, sheet_whole, no_sheet, laid_of, LaysSheet}
+use Rattle.sheets.specs.Sheet.{step_lines, signed_line, sheet_of, page_length, sheet_stages, sheet_whole, no_sheet, laid_of, LaysSheet}
 use Rattle.sheets.proofs.LineLaws.{signed_is_line}
 use Rattle.sheets.proofs.StepLaws.{lines_length, lines_alike}
 
 module _ (task plan : List ℕ) where
+  -- what the plan checker refuses
+  pub lays_early : (page : List ℕ) (r : Refusal) → checked_of (Err r) ≡ check_plan task plan → LaysSheet task plan page (laid_of (Err r)) page
+  unfolding with_total
+  lays_early page r e =
+      let same : refused r ≡ (check_plan task plan).outcome = ap (λ (c : Checked). c.outcome) e in
+      by_stop (ap is_done (sym same) ∙ refused_stands r) (ap no_sheet same) refl
+
+  pub early_answer : (page : List ℕ) (r : Refusal) → with_total (refused r) no_steps ≡ check_plan task plan
+      → no_sheet (refused r) ≡ answer_by (sheet_stages task plan page) (sheet_whole task plan) no_sheet
+  early_answer page r e = (lays_early page r e).answer
+
+  pub early_page : (page : List ℕ) (r : Refusal) → with_total (refused r) no_steps ≡ check_plan task plan → page ≡ left_by (sheet_stages task plan page) page
+  early_page page r e = (lays_early page r e).buffers
+
   -- what the plan checker refuses, handed on by `?`
   pub lays_unchecked : (page : List ℕ) (o : Result LaidPage Refusal) (r : Refusal) → IsErrAnd o (λ x. x ≡ r) → checked_of (Err r) ≡ check_plan task plan
       → LaysSheet task plan page (laid_of o) page
-  unfolding with_total
-  lays_unchecked page o r h e =
-      let p = err_from_is_err_and o h in
-      let same : refused r ≡ (check_plan task plan).outcome = ap (λ (c : Checked). c.outcome) e in
-      by_stop (ap is_done (sym same) ∙ refused_stands r) (rw (p.1, p.2) (ap no_sheet same)) refl
+  lays_unchecked page o r h e = let p = err_from_is_err_and o h in rw (p.1, p.2) (lays_early page r e)
 
   -- what it accepts
   module _ (total : PlanTotal) (is : checked_of (Ok total) ≡ check_plan task plan) where

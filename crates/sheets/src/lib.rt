@@ -21,6 +21,7 @@ pub struct LaidPage {
 
 // Lays out the plan of a plan file that the plan checker accepts for a task file: a line a step, and
 // the signer of the plan file below.
+#[tactic(auto, using(crate::proofs::CallLaws::early_answer, crate::proofs::CallLaws::early_page))]
 pub fn sheet(task: &[u8], plan: &[u8], page: &mut [u8]) -> Result<LaidPage, Refusal>
     ensures { LaysSheet task.now plan.now page.old (laid_of result) page.new }
 {

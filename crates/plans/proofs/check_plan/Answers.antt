@@ -2,7 +2,7 @@
 use mathlib.Core.Path.{refl, sym, ap, ◌∙◌}
 use borrow.Author.Rules.{rules}
 use Rattle.files.specs.Outcome.{outcome_of, in_second}
-use Rattle.plans.proofs.CheckLaws.{check_first, check_second, check_walks, handed_checked, second_file, second_done, file_steps_few, file_steps_known}
+use Rattle.plans.proofs.CheckLaws.{check_first, second_refused, check_walks, handed_checked, second_file, second_done, file_steps_few, file_steps_known}
 use Rattle.plans.proofs.check_plan.Goals as goal
 
 pub returns-in_err-read : goal.returns-in_err-read
@@ -12,8 +12,7 @@ pub returns-in_err-map_err : goal.returns-in_err-map_err
 returns-in_err-map_err c =
     let second = second_file c.check.result c.map_err.result c.map_err.ensures.cases (λ e r q. search rules) in
     handed_checked _ _ c.from_residual-in_err-map_err.ensures.1
-    ∙ check_second _ _ c.in_ok-read.ensures.outcome c.read.new.self.actions (c.in_ok-read.ensures.actions refl) _
-    (ap outcome_of (sym c.in_err-map_err.was) ∙ second ∙ ap in_second c.check.ensures)
+    ∙ second_refused _ _ _ _ _ _ c.in_ok-read.ensures c.check.ensures (ap outcome_of (sym c.in_err-map_err.was) ∙ second)
 
 pub take_steps-requires : goal.take_steps-requires
 take_steps-requires c =
