@@ -16,6 +16,7 @@ pub fn put_blanks(buffer: &mut [u8], at: usize, count: usize)
 }
 
 // Writes a number flush right in a column of so many bytes from `at` on.
+#[inline]
 pub fn put_column(buffer: &mut [u8], at: usize, width: usize, n: u64)
     requires { ColumnFits buffer.old at width n }
     ensures { buffer.new ≡ sets buffer.old at (column width n) }

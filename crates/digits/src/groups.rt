@@ -93,6 +93,7 @@ pub fn decimal(n: u64, out: &mut [u8; 20], digits: &impl Packed) -> usize
 }
 
 // Writes a number flush right in a column of so many bytes from `at` on.
+#[inline]
 pub fn put_column(buffer: &mut [u8], at: usize, width: usize, n: u64, digits: &impl Packed)
     requires { ColumnFits buffer.old at width n }
     ensures { buffer.new ≡ sets buffer.old at (column width n) }

@@ -27,15 +27,6 @@ module _ (front old from : List ℕ) (base count : ℕ) (copied : front ≡ take
       ∙ get_or-drop count old (w - count) 0
       ∙ ap (λ (n : ℕ). get_or old n 0) (omega arith)
 
--- a row that had no pair, with the front of another
-pub row_copied : (front rows : List ℕ) (base count : ℕ) → front ≡ take (base + count - base) (drop base rows) → RowWithin rows base count
-    → row_pairs (front ++ drop count (replicate 64 255)) 0 0 64 ≡ row_pairs rows base 0 count
-row_copied front rows base count e r =
-    let cell : ℕ → ℕ = λ w. get_or (front ++ drop count (replicate 64 255)) w 0 in
-    row_pairs_copied (front ++ drop count (replicate 64 255)) rows base 0 0 count 64 r.few
-    (λ w x y. ap cell (omega arith) ∙ copied_front front (replicate 64 255) rows base count e r.within w (omega arith))
-    (λ w x y. ap cell (omega arith) ∙ copied_behind front (replicate 64 255) rows base count e r.within w (omega arith) ∙ get_or-replicate {A = ℕ} 64 w 255 0 (omega arith))
-
 -- zeros, with the front of other values
 pub values_copied : (front values : List ℕ) (count : ℕ) → front ≡ take count values → count ≤ length values → ValuesCopied (front ++ drop count (replicate 64 0)) values count
 values_copied front values count e r =

@@ -108,28 +108,7 @@ module _ (row : List ℕ) (base : ℕ) (s : State) where
   unfolding apply
   apply_behind a n v is h = ap (λ (l : List Pair). Option.get_or (value_in l v) (s v)) is ∙ row_behind n v h
 
--- a row of its own, and values in a list: all conditions hold where each cell is met
-abbrev pub cell_met : ℕ × ℕ → Bool
-cell_met p = meets_cell p.0 p.1
-
-module _ (row state : List ℕ) where
-  met_from : (v count : ℕ) → v + count ≡ length row → length state ≡ length row
-      → list_all cell_met (zip (drop v row) (drop v state)) ≡ all_hold (row_pairs row 0 v count) (list_state state)
-  unfolding all_hold row_pairs list_state
-  met_from v zero h e = let none : drop v row ≡ [] = drop_of_length-le row {i = v} (omega arith) in rw none refl
-  met_from v (suc count) h e =
-      let next : suc v ≡ v + 1 = omega arith in
-      let here : get_or row v 0 ≡ get_or row (0 + v) 0 = ap (λ (n : ℕ). get_or row n 0) (omega arith) in
-      ap₂ (λ (a b : List ℕ). list_all cell_met (zip a b)) (drop-cons row v 0 (omega arith)) (drop-cons state v 0 (omega arith))
-      ∙ ap₂ (λ (a b : Bool). a && b) (cell here) (ap (λ (n : ℕ). list_all cell_met (zip (drop n row) (drop n state))) next ∙ met_from (v + 1) count (omega arith) e)
-      ∙ sym (hold_more row 0 (list_state state) v (suc count) count refl)
-    where
-      cell : {x y : ℕ} → x ≡ y → meets_cell x (get_or state v 0) ≡ meets_cell y (list_state state v)
-      cell q = ap (λ (x : ℕ). meets_cell x (get_or state v 0)) q
-
-  pub all_met : (n : ℕ) → length row ≡ n → length state ≡ n → list_all cell_met (zip row state) ≡ all_hold (row_pairs row 0 0 n) (list_state state)
-  all_met n a b = met_from 0 n (omega arith) (omega arith)
-
+-- a row of its own
 pub effect_cell : (row : List ℕ) (value w : ℕ) → w < 64 → after_cell (get_or row w 0) value ≡ Option.get_or (value_in (row_pairs row 0 0 64) w) value
 effect_cell row value w h = ap (λ (n : ℕ). after_cell (get_or row n 0) value) (omega arith) ∙ sym (row_value row 0 (λ u. value) 64 w h)
 

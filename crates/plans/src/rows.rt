@@ -17,7 +17,9 @@ pub(crate) fn row_at(rows: &[u8], base: usize, count: usize) -> [u8; 64]
     ensures { row_pairs result 0 0 64 ≡ row_pairs rows.now base 0 count }
 {
     let mut row = [limits::NO_PAIR; 64];
-    row[..count].copy_from_slice(&rows[base..base + count]);
+    for v in 0..count {
+        row[v] = rows[base + v];
+    }
     row
 }
 
@@ -35,9 +37,11 @@ pub(crate) fn state_of(values: &[u8; 64], count: usize) -> [u8; 64]
 pub(crate) fn all_hold(row: [u8; 64], state: [u8; 64]) -> bool
     ensures { result ≡ all_hold (row_pairs row 0 0 64) (list_state state) }
 {
-    row.iter()
-        .zip(&state)
-        .all(|(condition, value)| meets(*condition, *value))
+    let mut held = true;
+    for v in 0..limits::ROW {
+        held = meets(row[v], state[v]) & held;
+    }
+    held
 }
 
 // Whether a value meets a condition's cell.
