@@ -14,7 +14,7 @@ const BLOCK: usize = 64;
 // The states that are settled, and for each block the open state with the least entry, or the count of
 // states where none has an entry.
 // Kept: the count stands for no state, since the definition `Picked` says so.
-#[derive(Drop)]
+#[derive(Clone, Copy)]
 pub struct Selection {
     pub settled: [bool; 4096],
     pub least: [usize; 64],

@@ -6,15 +6,19 @@ use bits::sets;
 use files::arrays::Arrays;
 use files::limits;
 
+// So many words hold the rows of every task that is searched, and behind those of the facts one of
+// the actions that are cheap enough.
+pub const MOST_WORDS: usize = 1192;
+
 // The first word of the row behind those of the facts.
 const CHEAP: usize = 1184;
 
 // The rows of a task: for each of its facts, by variable and then by value, the actions of the task that
 // have to do with it, and behind them a row of those that are cheap enough. There are words for every
 // task that is searched.
-#[derive(Drop)]
+#[derive(Clone, Copy)]
 pub struct FactRows {
-    pub words: [u64; 1192],
+    pub words: [u64; MOST_WORDS],
     pub ghost long: { length words ≡ 1192 },
 }
 
@@ -34,7 +38,9 @@ fn can_have(condition: u8, effect: u8, value: usize) -> bool
 impl FactRows {
     // Rows without actions.
     pub fn empty() -> FactRows {
-        FactRows { words: [0; 1192] }
+        FactRows {
+            words: [0; MOST_WORDS],
+        }
     }
 
     // Writes the rows of the facts of variable `v`, the first of which has number `fact`: in each are the

@@ -18,7 +18,7 @@ pub struct Move {
 }
 
 // The moves of the actions of a task.
-#[derive(Drop)]
+#[derive(Clone, Copy)]
 pub struct Moves {
     pub actions: [Move; 512],
 }

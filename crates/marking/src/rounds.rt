@@ -17,7 +17,7 @@ use files::refusals::{Reason, Refusal};
 // The marks after a round: kept actions, relevant facts, and of those the unlinked ones.
 // Kept: bytes 0 and 1 in place of `bool`, since the definitions of marks (`is_marked`, `SetWhere`, `Final`) are of
 // lists of numbers, and layers above hand their own bytes to the same functions.
-#[derive(Drop)]
+#[derive(Clone, Copy)]
 pub struct Marks {
     pub kept: [u8; 512],
     pub facts: [u8; 2048],

@@ -45,7 +45,7 @@ fn ask_row(rows: &mut [u64], task: &Arrays, a: usize) -> u8
 
 // What is reached: a mark for each fact, for each action how many of its conditions are not reached, and
 // the `found` actions that lack none, in the order in which they were found.
-#[derive(Drop)]
+#[derive(Clone, Copy)]
 struct Reach {
     facts: [u8; 2048],
     counts: [u8; 512],

@@ -19,7 +19,7 @@ pub struct Step {
 
 // What reading off needs of a state: its applicable actions that are cheap enough as the bits of
 // eight words, and what the value of each variable adds to its number.
-#[derive(Drop)]
+#[derive(Clone, Copy)]
 pub struct Here {
     pub actions: [u64; 8],
     pub added: [usize; 64],
