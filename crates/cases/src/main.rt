@@ -26,12 +26,20 @@ fn main(rt: HostRuntime) -> io::Result<()> {
     let mut text = Vec::new(rt.alloc());
     rt.reader().take(MOST).read_to_end(&mut text)?;
     let mut out = BufWriter::new(rt.alloc(), io::writer(&rt))?;
-    for line in text.as_slice().split_inclusive(|byte| *byte == b'\n') {
-        run_line(
-            rt.alloc(),
-            &mut out,
-            line.strip_suffix(b"\n").unwrap_or(line),
-        )?;
+    match run(rt.alloc(), &mut out, text.as_slice()) {
+        Ok(()) => Ok(()),
+        Err(error) => {
+            // nothing more is printed, not even what waits
+            let _ = out.into_parts();
+            Err(error)
+        }
+    }
+}
+
+// Runs every line.
+fn run(alloc: Global, out: &mut impl Write, text: &[u8]) -> io::Result<()> {
+    for line in text.split_inclusive(|byte| *byte == b'\n') {
+        run_line(alloc, out, line.strip_suffix(b"\n").unwrap_or(line))?;
         out.write_all(b"\n")?;
     }
     out.flush()

@@ -141,6 +141,20 @@ pub enum Command<'a> {
 }
 
 impl<'a> Command<'a> {
+    // The file that the command reads first.
+    pub fn first_file(&self) -> Option<&'a [u8]> {
+        match *self {
+            Command::Check { file } | Command::Show { file } => Some(file),
+            Command::Mark { task, .. }
+            | Command::Reduce { task, .. }
+            | Command::Plan { task, .. }
+            | Command::CheckPlan { task, .. }
+            | Command::Sheet { task, .. } => Some(task),
+            Command::Translate { text, .. } => Some(text),
+            Command::Lines => None,
+        }
+    }
+
     // The command of some words. A word that is empty or has a line feed, which would end the line that a
     // name is printed in, is none.
     pub fn of(words: &[&'a [u8]]) -> Result<Command<'a>, Usage> {

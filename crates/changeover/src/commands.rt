@@ -9,7 +9,7 @@ use std::rt::Files;
 
 // Runs a command, and prints how it ended.
 pub fn run(
-    rt: &(impl Files + Eprint + AllocGlobal),
+    rt: &(impl Files + Eprint),
     out: &mut impl Write,
     command: Result<Command<'_>, Usage>,
 ) -> Result<(), Stop> {
@@ -26,100 +26,95 @@ pub fn run(
 }
 
 fn carry_out<'a>(
-    rt: &(impl Files + Eprint + AllocGlobal),
+    rt: &(impl Files + Eprint),
     out: &mut impl Write,
     command: Command<'a>,
 ) -> Result<Done, Failure<'a>> {
+    // no line of standard input says that lines are to be read
+    let Some(name) = command.first_file() else {
+        return Err(Failure::Words(Usage::OfAll));
+    };
+    let mut space = [0u8; input::MOST];
+    let file = input::read(rt, name, &mut space)?;
     match command {
-        Command::Check { file } => check(rt, file),
-        Command::Show { file } => show(rt, out, file),
-        Command::Mark { task, level } => mark(rt, out, task, level),
+        Command::Show { .. } => show(out, file),
+        Command::Mark { level, .. } => mark(out, file, level),
         Command::Reduce {
-            task,
             level,
             signer,
             reduced,
             origin,
-        } => reduce(rt, task, level, signer, reduced, origin),
+            ..
+        } => reduce(rt, file, level, signer, reduced, origin),
         Command::Plan {
-            task,
             signer,
             plan,
             level,
-        } => make_plan(rt, task, level, signer, plan),
-        Command::CheckPlan { task, plan } => check_plan(rt, task, plan),
-        Command::Sheet { task, plan, page } => sheet(rt, task, plan, page),
-        Command::Translate { text, signer, task } => translate(rt, text, signer, task),
-        // no line of standard input says that lines are to be read
-        Command::Lines => Err(Failure::Words(Usage::OfAll)),
+            ..
+        } => make_plan(rt, file, level, signer, plan),
+        Command::CheckPlan { plan, .. } => check_plan(rt, file, plan),
+        Command::Sheet { plan, page, .. } => sheet(rt, file, plan, page),
+        Command::Translate { signer, task, .. } => translate(rt, file, signer, task),
+        Command::Check { .. } | Command::Lines => check(file),
     }
 }
 
-fn check<'a>(
-    rt: &(impl Files + Eprint + AllocGlobal),
-    name: &'a [u8],
-) -> Result<Done, Failure<'a>> {
-    let file = input::read(rt, name)?;
-    let kind = show::check(file.as_slice())?;
-    Ok(show::counts(kind, file.as_slice()))
+// The first `count` bytes, or all where there are fewer.
+fn front(bytes: &[u8], count: usize) -> &[u8] {
+    bytes.split_at(count.min(bytes.len())).0
 }
 
-fn show<'a>(
-    rt: &(impl Files + Eprint + AllocGlobal),
-    out: &mut impl Write,
-    name: &'a [u8],
-) -> Result<Done, Failure<'a>> {
-    let file = input::read(rt, name)?;
-    let kind = show::check(file.as_slice())?;
-    show::put_file(out, kind, file.as_slice())?;
+fn check<'a>(file: &[u8]) -> Result<Done, Failure<'a>> {
+    let kind = show::check(file)?;
+    Ok(show::counts(kind, file))
+}
+
+// This and the commands below are calls of their own, so that their arrays take no room before their first file is read.
+#[inline(never)]
+fn show<'a>(out: &mut impl Write, file: &[u8]) -> Result<Done, Failure<'a>> {
+    let kind = show::check(file)?;
+    show::put_file(out, kind, file)?;
     Ok(Done::Shown)
 }
 
-fn mark<'a>(
-    rt: &(impl Files + Eprint + AllocGlobal),
-    out: &mut impl Write,
-    name: &'a [u8],
-    level: u32,
-) -> Result<Done, Failure<'a>> {
-    let file = input::read(rt, name)?;
+#[inline(never)]
+fn mark<'a>(out: &mut impl Write, file: &[u8], level: u32) -> Result<Done, Failure<'a>> {
     let mut actions = [0u8; limits::MOST_ACTIONS];
     let mut facts = [0u8; limits::MOST_FACTS];
-    let marked = marking::mark(file.as_slice(), level, &mut actions, &mut facts)?;
-    marks::put_kept(out, file.as_slice(), &actions)?;
-    marks::put_relevant(out, file.as_slice(), &facts)?;
+    let marked = marking::mark(file, level, &mut actions, &mut facts)?;
+    marks::put_kept(out, file, &actions)?;
+    marks::put_relevant(out, file, &facts)?;
     Ok(Done::Marked {
         rounds: marked.rounds,
     })
 }
 
+#[inline(never)]
 fn reduce<'a>(
-    rt: &(impl Files + Eprint + AllocGlobal),
-    name: &'a [u8],
+    rt: &(impl Files + Eprint),
+    file: &[u8],
     level: u32,
     signer: u32,
     task_name: &'a [u8],
     origin_name: &'a [u8],
 ) -> Result<Done, Failure<'a>> {
-    let file = input::read(rt, name)?;
     let mut actions = [0u8; limits::MOST_ACTIONS];
     let mut facts = [0u8; limits::MOST_FACTS];
-    let mut task = vec![in rt.alloc(); 0u8; limits::MOST_BYTES]?;
-    let mut origin = vec![in rt.alloc(); 0u8; limits::MOST_ORIGIN_BYTES]?;
+    let mut task = [0u8; limits::MOST_BYTES];
+    let mut origin = [0u8; limits::MOST_ORIGIN_BYTES];
     let reduced = reduction::reduce(
-        file.as_slice(),
+        file,
         level,
         signer,
         &mut actions,
         &mut facts,
-        task.as_mut_slice(),
-        origin.as_mut_slice(),
+        &mut task,
+        &mut origin,
     )?;
-    task.truncate(reduced.reduced);
-    origin.truncate(reduced.origin);
     output::write_two(
         rt,
-        (task_name, task.as_slice()),
-        (origin_name, origin.as_slice()),
+        (task_name, front(&task, reduced.reduced)),
+        (origin_name, front(&origin, reduced.origin)),
     )?;
     Ok(Done::Reduced {
         rounds: reduced.rounds,
@@ -129,31 +124,30 @@ fn reduce<'a>(
     })
 }
 
+#[inline(never)]
 fn make_plan<'a>(
-    rt: &(impl Files + Eprint + AllocGlobal),
-    name: &'a [u8],
+    rt: &(impl Files + Eprint),
+    file: &[u8],
     level: u32,
     signer: u32,
     plan_name: &'a [u8],
 ) -> Result<Done, Failure<'a>> {
-    let file = input::read(rt, name)?;
     let mut actions = [0u8; limits::MOST_ACTIONS];
     let mut facts = [0u8; limits::MOST_FACTS];
-    let mut reduced = vec![in rt.alloc(); 0u8; limits::MOST_BYTES]?;
-    let mut origin = vec![in rt.alloc(); 0u8; limits::MOST_ORIGIN_BYTES]?;
-    let mut plan = vec![in rt.alloc(); 0u8; limits::MOST_PLAN_BYTES]?;
+    let mut reduced = [0u8; limits::MOST_BYTES];
+    let mut origin = [0u8; limits::MOST_ORIGIN_BYTES];
+    let mut plan = [0u8; limits::MOST_PLAN_BYTES];
     let planned = search::own_table::plan(
-        file.as_slice(),
+        file,
         level,
         signer,
         &mut actions,
         &mut facts,
-        reduced.as_mut_slice(),
-        origin.as_mut_slice(),
-        plan.as_mut_slice(),
+        &mut reduced,
+        &mut origin,
+        &mut plan,
     )?;
-    plan.truncate(planned.plan);
-    output::write(rt, plan_name, plan.as_slice())?;
+    output::write(rt, plan_name, front(&plan, planned.plan))?;
     let total = Total {
         cost: planned.cost,
         steps: planned.steps,
@@ -164,50 +158,50 @@ fn make_plan<'a>(
     })
 }
 
+#[inline(never)]
 fn translate<'a>(
-    rt: &(impl Files + Eprint + AllocGlobal),
-    name: &'a [u8],
+    rt: &(impl Files + Eprint),
+    text: &[u8],
     signer: u32,
     task_name: &'a [u8],
 ) -> Result<Done, Failure<'a>> {
-    let text = input::read(rt, name)?;
-    let mut task = vec![in rt.alloc(); 0u8; limits::MOST_BYTES]?;
-    let length = translator::translate(text.as_slice(), signer, task.as_mut_slice())?;
-    task.truncate(length);
-    output::write(rt, task_name, task.as_slice())?;
+    let mut task = [0u8; limits::MOST_BYTES];
+    let length = translator::translate(text, signer, &mut task)?;
+    output::write(rt, task_name, front(&task, length))?;
     Ok(Done::Translated { task: length })
 }
 
+#[inline(never)]
 fn check_plan<'a>(
-    rt: &(impl Files + Eprint + AllocGlobal),
-    task_name: &'a [u8],
+    rt: &(impl Files + Eprint),
+    task: &[u8],
     plan_name: &'a [u8],
 ) -> Result<Done, Failure<'a>> {
-    let task = input::read(rt, task_name)?;
-    let plan = input::read(rt, plan_name)?;
-    let total = plans::check_plan(task.as_slice(), plan.as_slice()).map_err(
-        |refusal| Failure::Refused(refusal, plan_name),
-    )?;
+    let mut space = [0u8; input::MOST];
+    let plan = input::read(rt, plan_name, &mut space)?;
+    let total = plans::check_plan(task, plan).map_err(|refusal| Failure::Refused(
+        refusal, plan_name,
+    ))?;
     Ok(Done::Checked(Total {
         cost: total.cost,
         steps: total.steps,
     }))
 }
 
+#[inline(never)]
 fn sheet<'a>(
-    rt: &(impl Files + Eprint + AllocGlobal),
-    task_name: &'a [u8],
+    rt: &(impl Files + Eprint),
+    task: &[u8],
     plan_name: &'a [u8],
     page_name: &'a [u8],
 ) -> Result<Done, Failure<'a>> {
-    let task = input::read(rt, task_name)?;
-    let plan = input::read(rt, plan_name)?;
-    let mut page = vec![in rt.alloc(); 0u8; sheets::MOST_PAGE]?;
-    let laid = sheets::sheet(task.as_slice(), plan.as_slice(), page.as_mut_slice()).map_err(
-        |refusal| Failure::Refused(refusal, plan_name),
-    )?;
-    page.truncate(laid.length);
-    output::write(rt, page_name, page.as_slice())?;
+    let mut space = [0u8; input::MOST];
+    let plan = input::read(rt, plan_name, &mut space)?;
+    let mut page = [0u8; sheets::MOST_PAGE];
+    let laid = sheets::sheet(task, plan, &mut page).map_err(|refusal| Failure::Refused(
+        refusal, plan_name,
+    ))?;
+    output::write(rt, page_name, front(&page, laid.length))?;
     let total = Total {
         cost: laid.cost,
         steps: laid.steps,

@@ -2,33 +2,21 @@
 use crate::command::Usage;
 use digits::printed::Decimal;
 use files::refusals::Refusal;
-use std::alloc::AllocError;
 use std::io;
 use std::io::Write;
 
-// Why the program ends before its input does.
-#[derive(Debug, Drop)]
-pub enum Stop {
-    // Standard output has refused some bytes.
-    Output,
-    // There is no memory.
-    Memory(AllocError),
-}
+// The program ends before its input does: standard output has refused some bytes.
+#[derive(Clone, Copy, Debug)]
+pub struct Stop;
 
 impl From<io::Error> for Stop {
     fn from(_error: io::Error) -> Stop {
-        Stop::Output
-    }
-}
-
-impl From<AllocError> for Stop {
-    fn from(error: AllocError) -> Stop {
-        Stop::Memory(error)
+        Stop
     }
 }
 
 // How a command ends that is not done.
-#[derive(Drop)]
+#[derive(Clone, Copy)]
 pub enum Failure<'a> {
     // Its words are not those that it takes.
     Words(Usage),
@@ -47,12 +35,6 @@ impl<'a> From<Refusal> for Failure<'a> {
 
 impl<'a> From<io::Error> for Failure<'a> {
     fn from(error: io::Error) -> Failure<'a> {
-        Failure::Stop(Stop::from(error))
-    }
-}
-
-impl<'a> From<AllocError> for Failure<'a> {
-    fn from(error: AllocError) -> Failure<'a> {
         Failure::Stop(Stop::from(error))
     }
 }

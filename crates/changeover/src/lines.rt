@@ -1,9 +1,8 @@
 // Commands from standard input, a line each.
 use crate::command::{Command, Usage};
 use crate::failure::Stop;
-use crate::words::LINE;
+use crate::words::{LINE, Words};
 use crate::{commands, system};
-use std::alloc::Global;
 use std::io::{Read, Write};
 use std::rt::Files;
 
@@ -17,22 +16,20 @@ enum Kind {
     Comment,
 }
 
-// A line, of which a command's bytes are kept.
+// A line, of which a command's bytes are kept, and how many they are.
 #[derive(Drop)]
 struct Line {
     kind: Kind,
-    bytes: Vec<u8>,
+    bytes: [u8; LINE],
+    length: usize,
 }
 
 // Runs every line, until standard input ends or standard output takes no more. What stands behind the last
 // line feed is a line too, where standard input has been read whole.
-pub fn run(
-    rt: &(impl Files + Input + Eprint + AllocGlobal),
-    out: &mut impl Write,
-) -> Result<(), Stop> {
+pub fn run(rt: &(impl Files + Input + Eprint), out: &mut impl Write) -> Result<(), Stop> {
     let mut reader = rt.reader();
     let mut piece = [0u8; 4096];
-    let mut line = Line::new(rt.alloc());
+    let mut line = Line::new();
     // a proved loop must end, and no input has so many pieces
     for _ in 0..u64::MAX {
         match reader.read(&mut piece) {
@@ -54,21 +51,22 @@ pub fn run(
 
 impl Line {
     // No byte of a line yet.
-    fn new(alloc: Global) -> Line {
+    fn new() -> Line {
         Line {
             kind: Kind::Command,
-            bytes: Vec::new(alloc),
+            bytes: [0; LINE],
+            length: 0,
         }
     }
 
     fn is_empty(&self) -> bool {
-        self.kind == Kind::Command && self.bytes.is_empty()
+        self.kind == Kind::Command && self.length == 0
     }
 
     // Reads a piece of standard input, in which line feeds end lines.
     fn read(
         &mut self,
-        rt: &(impl Files + Eprint + AllocGlobal),
+        rt: &(impl Files + Eprint),
         out: &mut impl Write,
         piece: &[u8],
     ) -> Result<(), Stop> {
@@ -93,9 +91,10 @@ impl Line {
             out.write_all(part)?;
             return Ok(());
         }
-        let room = LINE.saturating_sub(self.bytes.len());
-        let (kept, more) = part.split_at(part.len().min(room));
-        self.bytes.extend_from_slice(kept)?;
+        let (_, room) = self.bytes.split_at_mut(self.length.min(LINE));
+        let (kept, more) = part.split_at(part.len().min(room.len()));
+        room[..kept.len()].copy_from_slice(kept);
+        self.length = self.length.min(LINE) + kept.len();
         if !more.is_empty() {
             self.kind = Kind::TooLong;
         }
@@ -103,29 +102,21 @@ impl Line {
     }
 
     // Ends a comment or runs a command, and begins the next line.
-    fn end(
-        &mut self,
-        rt: &(impl Files + Eprint + AllocGlobal),
-        out: &mut impl Write,
-    ) -> Result<(), Stop> {
+    fn end(&mut self, rt: &(impl Files + Eprint), out: &mut impl Write) -> Result<(), Stop> {
         if self.kind == Kind::Comment {
             out.write_all(b"\n")?;
         } else {
             self.run(rt, out)?;
         }
         self.kind = Kind::Command;
-        self.bytes.clear();
+        self.length = 0;
         Ok(())
     }
 
     // Runs the command whose words single blanks part. No line says that lines are to be read.
-    fn run(
-        &self,
-        rt: &(impl Files + Eprint + AllocGlobal),
-        out: &mut impl Write,
-    ) -> Result<(), Stop> {
-        let parts = self.bytes.as_slice().split(|byte| *byte == b' ');
-        let words: Vec<&[u8]> = parts.collect(rt.alloc())?;
+    fn run(&self, rt: &(impl Files + Eprint), out: &mut impl Write) -> Result<(), Stop> {
+        let (line, _) = self.bytes.split_at(self.length.min(LINE));
+        let words = Words::of_line(line);
         if self.kind == Kind::TooLong {
             return commands::run(rt, out, Err(Usage::of(words.as_slice())));
         }

@@ -9,42 +9,29 @@ mod input;
 mod lines;
 mod marks;
 mod output;
+mod printer;
 mod show;
 mod system;
 mod words;
 
 use command::Command;
 use failure::Stop;
+use printer::Printer;
 use std::io;
-use std::io::{BufWriter, Write};
+use std::io::Write;
 use std::rt::{Env, Files};
+use words::{LINE, Words};
 
-// How many bytes of the output may wait.
-const WAITING: usize = 512;
-
-fn main(rt: HostRuntime) -> io::Result<()> {
-    let mut out = BufWriter::with_capacity(rt.alloc(), WAITING, io::writer(&rt))?;
-    match run(&rt, &mut out) {
-        Ok(()) => Ok(()),
-        // nothing more is printed, not even what waits
-        Err(Stop::Output) => {
-            let _ = out.into_parts();
-            Ok(())
-        }
-        Err(Stop::Memory(error)) => Err(io::Error::from(error)),
-    }
+// Where standard output has refused some bytes, nothing more is printed, not even what waits.
+fn main(rt: HostRuntime) {
+    let mut out = Printer::new(io::writer(&rt));
+    let _ = run(&rt, &mut out);
 }
 
 // Runs the command of the arguments, or those of standard input.
-fn run(
-    rt: &(impl Env + Files + Input + Eprint + AllocGlobal),
-    out: &mut impl Write,
-) -> Result<(), Stop> {
-    let arguments = words::arguments(rt)?;
-    let words: Vec<&[u8]> = arguments
-        .iter()
-        .map(|word| word.as_slice())
-        .collect(rt.alloc())?;
+fn run(rt: &(impl Env + Files + Input + Eprint), out: &mut impl Write) -> Result<(), Stop> {
+    let mut text = [0u8; LINE];
+    let words = Words::of_arguments(rt, &mut text);
     match Command::of(words.as_slice()) {
         Ok(Command::Lines) => lines::run(rt, out),
         command => commands::run(rt, out, command),

@@ -1,14 +1,18 @@
 // Files written under another name and then put in place, so that a name always has a whole file.
 use crate::failure::Failure;
 use crate::system;
+use crate::words::LINE;
 use std::fs::{File, OpenFile, OpenOptions};
 use std::io::{ErrorKind, Write};
 use std::rt::Files;
 use std::{fs, io};
 
+// Room for a name with its ending.
+const ROOM: usize = LINE + 4;
+
 // Writes a file.
 pub fn write<'a>(
-    rt: &(impl Files + Eprint + AllocGlobal),
+    rt: &(impl Files + Eprint),
     name: &'a [u8],
     bytes: &[u8],
 ) -> Result<(), Failure<'a>> {
@@ -17,7 +21,7 @@ pub fn write<'a>(
 
 // Writes two files by their names and bytes, both of them whole before the first gets its name.
 pub fn write_two<'a>(
-    rt: &(impl Files + Eprint + AllocGlobal),
+    rt: &(impl Files + Eprint),
     first: (&'a [u8], &[u8]),
     second: (&'a [u8], &[u8]),
 ) -> Result<(), Failure<'a>> {
@@ -36,23 +40,53 @@ pub fn write_two<'a>(
     other.place(rt)
 }
 
+// The name with `.new` behind it, under which a file stands first.
+#[derive(Clone, Copy)]
+struct Path {
+    bytes: [u8; ROOM],
+    length: usize,
+}
+
+impl Path {
+    fn of(name: &[u8]) -> Path {
+        let mut path = Path {
+            bytes: [0; ROOM],
+            length: 0,
+        };
+        path.push(name);
+        path.push(b".new");
+        path
+    }
+
+    // More bytes, as far as there is room.
+    fn push(&mut self, more: &[u8]) {
+        let (_, room) = self.bytes.split_at_mut(self.length.min(ROOM));
+        let count = room.len().min(more.len());
+        room[..count].copy_from_slice(&more[..count]);
+        self.length = self.length.min(ROOM) + count;
+    }
+
+    fn as_slice(&self) -> &[u8] {
+        self.bytes.split_at(self.length.min(ROOM)).0
+    }
+}
+
 // A file that stands under another name, and has still to take its own.
 #[derive(Drop)]
 struct Prepared<'a> {
     name: &'a [u8],
-    path: Vec<u8>,
+    path: Path,
 }
 
 impl<'a> Prepared<'a> {
     // Writes a file NAME.new, which is not there. Where the system refuses, it says why, and the file is not left
     // behind.
     fn write(
-        rt: &(impl Files + Eprint + AllocGlobal),
+        rt: &(impl Files + Eprint),
         name: &'a [u8],
         bytes: &[u8],
     ) -> Result<Prepared<'a>, Failure<'a>> {
-        let mut path = name.to_vec(rt.alloc())?;
-        path.extend_from_slice(b".new")?;
+        let path = Path::of(name);
         if let Err(error) = is_for_files(rt, name) {
             return Err(system::fail(rt, name, name, &error));
         }
@@ -70,7 +104,7 @@ impl<'a> Prepared<'a> {
 
     // The same for a second file, where the first does not take the name under which this one is written.
     fn write_apart(
-        rt: &(impl Files + Eprint + AllocGlobal),
+        rt: &(impl Files + Eprint),
         name: &'a [u8],
         bytes: &[u8],
         first: &[u8],
@@ -86,7 +120,7 @@ impl<'a> Prepared<'a> {
     }
 
     // Gives the file its name. Where the system refuses, it says why, and the file is not left behind.
-    fn place(self, rt: &(impl Files + Eprint + AllocGlobal)) -> Result<(), Failure<'a>> {
+    fn place(self, rt: &(impl Files + Eprint)) -> Result<(), Failure<'a>> {
         match rename(rt, self.path.as_slice(), self.name) {
             Ok(()) => Ok(()),
             Err(error) => {

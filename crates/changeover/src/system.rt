@@ -1,6 +1,6 @@
 // What the system takes and what it says: names as paths, and why it refuses.
 use crate::failure::Failure;
-use std::alloc::AllocError;
+use std::io::{Cursor, Write};
 use std::{fmt, io};
 
 // The system's numbers for a name with a byte 0 and for one that is no text.
@@ -18,30 +18,25 @@ pub fn path(name: &[u8]) -> io::Result<&str> {
 
 // The failure of a command whose file has a name, and a line on standard error: the path that the system refuses, a
 // colon and why.
-pub fn fail<'a>(
-    rt: &(impl Eprint + AllocGlobal),
-    name: &'a [u8],
-    path: &[u8],
-    error: &io::Error,
-) -> Failure<'a> {
-    match say_error(rt, path, error) {
-        Ok(()) => Failure::File(name),
-        Err(error) => Failure::from(error),
-    }
+pub fn fail<'a>(rt: &impl Eprint, name: &'a [u8], path: &[u8], error: &io::Error) -> Failure<'a> {
+    let mut space = [0u8; 128];
+    say(rt, path, reason(error, &mut space));
+    Failure::File(name)
 }
 
-// The system's words for an error stand in the line without the number behind them.
-fn say_error(
-    rt: &(impl Eprint + AllocGlobal),
-    path: &[u8],
-    error: &io::Error,
-) -> Result<(), AllocError> {
-    let words = format!(in rt.alloc(); "{error}")?;
-    match words.as_str().split_once(" (os error ") {
-        Some((reason, _)) => say(rt, path, reason),
-        None => say(rt, path, words.as_str()),
+// The system's words for an error, without the number that stands behind them.
+fn reason<'a>(error: &io::Error, space: &'a mut [u8]) -> &'a str {
+    let mut words = Cursor::new(&mut *space);
+    let _ = write!(words, "{error}");
+    let length = words.position() as usize;
+    let said = match space.get(..length) {
+        Some(said) => str::from_utf8(said).unwrap_or(""),
+        None => "",
+    };
+    match said.split_once(" (os error ") {
+        Some((reason, _)) => reason,
+        None => said,
     }
-    Ok(())
 }
 
 // Writes a line to standard error: the name, a colon and a text.

@@ -1,13 +1,10 @@
 // Compares what the library answers and writes with what the enumerator finds.
 use crate::enumerate::Best;
-use crate::task::Task;
+use crate::task::{File, ROOM, Task};
 use files::refusals::{Reason, Refusal};
 use plans::{Minutes, Steps};
-use std::alloc::{AllocError, Global};
 
-// How many bytes are lent for a file, more than any here has, and what they hold before.
-const ROOM: usize = 512;
-
+// What the bytes that are lent for a plan file hold before.
 const BEFORE: u8 = 171;
 
 // Whether a refusal says that there is no plan, at no place.
@@ -17,7 +14,7 @@ fn is_no_plan(refusal: Refusal) -> bool {
 
 // Whether a cost and a number of steps are those that are found.
 fn is_total(cost: Minutes, steps: Steps, best: &Best) -> bool {
-    cost.0 == best.cost && usize::from(steps.0) == best.actions.len()
+    cost.0 == u64::from(best.cost) && usize::from(steps.0) == best.plan.as_slice().len()
 }
 
 // Whether the planner at a level answers for a file what is found, and writes the plan file and no other
@@ -55,50 +52,51 @@ pub fn checks_so(file: &[u8], plan: &[u8], best: &Best) -> bool {
 }
 
 // A file reduced at a level: the bytes of the reduced file, and the turns, of which level 5 alone has any.
-#[derive(Drop)]
+#[derive(Clone, Copy)]
 pub struct Reduced {
-    pub file: Vec<u8>,
+    pub file: File,
     pub turns: usize,
     // Whether it is reduced, and has turns at level 5 alone.
     pub is_right: bool,
 }
 
-pub fn reduce(alloc: Global, file: &[u8], level: u32, signer: u32) -> Result<Reduced, AllocError> {
+pub fn reduce(file: &[u8], level: u32, signer: u32) -> Reduced {
     let mut actions = [0u8; 10];
     let mut facts = [0u8; 16];
+    let mut reduced = [0u8; ROOM];
     let mut origin = [0u8; ROOM];
-    let mut reduced = vec![in alloc; 0u8; ROOM]?;
     let answer = reduction::reduce(
         file,
         level,
         signer,
         &mut actions,
         &mut facts,
-        reduced.as_mut_slice(),
+        &mut reduced,
         &mut origin,
     );
     let is_right = answer.is_ok_and(|counts| (counts.turns != 0) == (level == 5));
     let counts = answer.unwrap_or_default();
-    reduced.truncate(counts.reduced);
-    Ok(Reduced {
-        file: reduced,
+    Reduced {
+        file: File::of(reduced, counts.reduced),
         turns: counts.turns,
         is_right,
-    })
+    }
 }
 
 // Whether two tasks have as many variables, values of each and actions.
 pub fn same_counts(one: &Task, other: &Task) -> bool {
-    let sizes = one.variables.iter().map(|variable| variable.size);
-    let others = other.variables.iter().map(|variable| variable.size);
-    sizes.eq(others) && one.actions.len() == other.actions.len()
+    let variables = one.variables.as_slice().iter();
+    let others = other.variables.as_slice().iter();
+    let sizes = variables.map(|variable| variable.size);
+    sizes.eq(others.map(|variable| variable.size))
+        && one.actions.as_slice().len() == other.actions.as_slice().len()
 }
 
 // Whether the same is found in two tasks: no plan, or the cost and the number of steps.
 pub fn same_found(one: Option<&Best>, other: Option<&Best>) -> bool {
     match (one, other) {
         (Some(one), Some(other)) => {
-            one.cost == other.cost && one.actions.len() == other.actions.len()
+            one.cost == other.cost && one.plan.as_slice().len() == other.plan.as_slice().len()
         }
         (None, None) => true,
         _ => false,

@@ -5,32 +5,27 @@
 // several steps. There are few effects to a row, so that actions are alike and one covers another, at
 // the same cost or at a lower one.
 use crate::random::Random;
-use crate::task::{Action, Fact, Task, Variable};
-use std::alloc::{AllocError, Global};
+use crate::task::{Action, Fact, Facts, Task, Variable};
 
 // A task by its place in the row of tasks.
-pub fn task(alloc: Global, place: usize, random: &mut Random) -> Result<Task, AllocError> {
+pub fn task(place: usize, random: &mut Random) -> Option<Task> {
     let form = Form::of(place);
     let variables = form.variables(random.draw());
     let actions = form.actions(variables, random.draw());
     let seed = random.draw();
-    let mut task = Task {
-        variables: Vec::new(alloc),
-        goal: Vec::new(alloc),
-        actions: Vec::new(alloc),
-    };
+    let mut task = Task::default();
     let mut row = row_of(seed, 0);
     for variable in 0..variables {
         let size = form.size(variables, variable, random.draw());
         let start = form.start(&mut row, size);
         task.variables.push(Variable { size, start })?;
     }
-    task.goal = form.goal(alloc, task.variables.as_slice(), seed, random)?;
+    task.goal = form.goal(task.variables.as_slice(), seed, random)?;
     for action in 0..actions {
-        let added = form.action(alloc, task.variables.as_slice(), action, seed, random)?;
+        let added = form.action(task.variables.as_slice(), action, seed, random)?;
         task.actions.push(added)?;
     }
-    Ok(task)
+    Some(task)
 }
 
 // What tasks there are, by their places.
@@ -100,58 +95,46 @@ impl Form {
     }
 
     // The goal: the last state where the task counts, else some pairs of a row, seldom of the first.
-    fn goal(
-        self,
-        alloc: Global,
-        variables: &[Variable],
-        seed: u16,
-        random: &mut Random,
-    ) -> Result<Vec<Fact>, AllocError> {
+    fn goal(self, variables: &[Variable], seed: u16, random: &mut Random) -> Option<Facts> {
         if self == Form::Counting {
             let last = (variables.len() % 4 + 3) % 4;
-            return digits(alloc, last as u16, 3, 3);
+            return digits(last as u16, 3, 3);
         }
         let row = (3 + random.draw() % 13) / 4;
-        pairs(alloc, variables, row_of(seed, row), 17 - random.draw() % 8)
+        pairs(variables, row_of(seed, row), 17 - random.draw() % 8)
     }
 
     // An action, of which the first ones count where the task does.
     fn action(
         self,
-        alloc: Global,
         variables: &[Variable],
         action: u16,
         seed: u16,
         random: &mut Random,
-    ) -> Result<Action, AllocError> {
+    ) -> Option<Action> {
         let variable = action / 3;
         if self == Form::Counting && usize::from(variable) < variables.len() {
-            return Ok(Action {
+            return Some(Action {
                 cost: cost(seed, random.draw()),
-                conditions: digits(alloc, variable, 3, action % 3)?,
-                effects: digits(alloc, variable, 0, action % 3 + 1)?,
+                conditions: digits(variable, 3, action % 3)?,
+                effects: digits(variable, 0, action % 3 + 1)?,
             });
         }
-        random_action(alloc, variables, seed, random)
+        random_action(variables, seed, random)
     }
 }
 
-fn random_action(
-    alloc: Global,
-    variables: &[Variable],
-    seed: u16,
-    random: &mut Random,
-) -> Result<Action, AllocError> {
+fn random_action(variables: &[Variable], seed: u16, random: &mut Random) -> Option<Action> {
     let drawn = cost(seed, random.draw());
     let row = random.draw() % 4;
     let density = random.draw() % 12;
     // half as much where there are few conditions: others with more of the same are dearer then
     let cost = if density < 6 { drawn / 2 } else { drawn };
     let many = 6 + random.draw() % 2 * 6;
-    Ok(Action {
+    Some(Action {
         cost,
-        conditions: pairs(alloc, variables, row_of(seed, row), density)?,
-        effects: pairs(alloc, variables, row_of(seed, row + 1), many)?,
+        conditions: pairs(variables, row_of(seed, row), density)?,
+        effects: pairs(variables, row_of(seed, row + 1), many)?,
     })
 }
 
@@ -173,13 +156,8 @@ fn row_of(seed: u16, row: u16) -> Random {
 }
 
 // Some pairs of a row, with `density` chances in 16; with a lower density some of the same.
-fn pairs(
-    alloc: Global,
-    variables: &[Variable],
-    mut row: Random,
-    density: u16,
-) -> Result<Vec<Fact>, AllocError> {
-    let mut pairs = Vec::new(alloc);
+fn pairs(variables: &[Variable], mut row: Random, density: u16) -> Option<Facts> {
+    let mut pairs = Facts::default();
     for (variable, of) in (0..4).zip(variables.iter()) {
         let Some(value) = row.draw().checked_rem(of.size) else {
             continue;
@@ -188,12 +166,12 @@ fn pairs(
             pairs.push(Fact { variable, value })?;
         }
     }
-    Ok(pairs)
+    Some(pairs)
 }
 
 // The pairs of the variables below a variable, all with one value, and its own.
-fn digits(alloc: Global, variable: u16, lower: u16, own: u16) -> Result<Vec<Fact>, AllocError> {
-    let mut digits = Vec::new(alloc);
+fn digits(variable: u16, lower: u16, own: u16) -> Option<Facts> {
+    let mut digits = Facts::default();
     for below in 0..variable {
         digits.push(Fact {
             variable: below,
@@ -204,5 +182,5 @@ fn digits(alloc: Global, variable: u16, lower: u16, own: u16) -> Result<Vec<Fact
         variable,
         value: own,
     })?;
-    Ok(digits)
+    Some(digits)
 }

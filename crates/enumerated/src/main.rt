@@ -15,9 +15,8 @@ mod totals;
 
 use enumerate::Best;
 use random::Random;
-use std::alloc::Global;
 use std::{fmt, io};
-use task::{Task, Unreadable};
+use task::{File, Task};
 use totals::{Totals, count};
 
 const TASKS: usize = 4000;
@@ -29,14 +28,15 @@ fn main(rt: HostRuntime) -> io::Result<()> {
     let mut random = Random(20240608);
     let mut run = Run {
         rt: &rt,
-        alloc: rt.alloc(),
         totals: Totals::default(),
         place: 0,
     };
     for place in 0..TASKS {
         run.place = place;
-        let task = generate::task(run.alloc, place, &mut random)?;
-        run.compare(&task)?;
+        match generate::task(place, &mut random) {
+            Some(task) => run.compare(&task)?,
+            None => run.print(Difference::Unmade)?,
+        }
     }
     print!(rt; "{}", run.totals)
 }
@@ -44,6 +44,8 @@ fn main(rt: HostRuntime) -> io::Result<()> {
 // In what the library differs from the enumerator.
 #[derive(Clone, Copy, Debug)]
 enum Difference {
+    Unmade,
+    Unread,
     Planned { level: u32 },
     Checked,
     Reduced,
@@ -52,6 +54,8 @@ enum Difference {
 impl fmt::Display for Difference {
     fn fmt<W: fmt::Write>(&self, f: &mut fmt::Formatter<W>) -> fmt::Result {
         match self {
+            Difference::Unmade => write!(f, "not made"),
+            Difference::Unread => write!(f, "not read"),
             Difference::Planned { level } => write!(f, "planned otherwise at level {level}"),
             Difference::Checked => write!(f, "checked otherwise"),
             Difference::Reduced => write!(f, "other when reduced"),
@@ -63,7 +67,6 @@ impl fmt::Display for Difference {
 #[derive(Drop)]
 struct Run<'a, R: Print> {
     rt: &'a R,
-    alloc: Global,
     totals: Totals,
     place: usize,
 }
@@ -71,9 +74,14 @@ struct Run<'a, R: Print> {
 impl<R: Print> Run<'_, R> {
     // Compares all that the library answers for a task with what is found in it.
     fn compare(&mut self, task: &Task) -> io::Result<()> {
-        let file = task.file(self.alloc, SIGNER)?;
+        let file = task.file(SIGNER);
         let file = file.as_slice();
-        let found = enumerate::find(self.alloc, task)?;
+        // the enumerator reads the task from the bytes that the library gets
+        let Some(task) = Task::read(file) else {
+            return self.print(Difference::Unread);
+        };
+        let task = &task;
+        let found = enumerate::find(task);
         let found = found.as_ref();
         self.totals.add(found);
         self.compare_plans(file, found)?;
@@ -82,7 +90,7 @@ impl<R: Print> Run<'_, R> {
             *left = self.compare_reduced(file, task, level, found)?;
         }
         count(&mut self.totals.fewer, left[4] < left[3]);
-        let covered = covering::by_cheaper_alone(self.alloc, file, task)?;
+        let covered = covering::by_cheaper_alone(file, task);
         self.totals.covered = self.totals.covered.saturating_add(covered);
         Ok(())
     }
@@ -91,8 +99,8 @@ impl<R: Print> Run<'_, R> {
     fn compare_plans(&mut self, file: &[u8], found: Option<&Best>) -> io::Result<()> {
         let signer = 1 + (self.place % 4096) as u32 * 1048573;
         let plan = match found {
-            Some(best) => task::plan_file(self.alloc, best.actions.as_slice(), signer)?,
-            None => Vec::new(self.alloc),
+            Some(best) => task::plan_file(best.plan.as_slice(), signer),
+            None => File::new(),
         };
         let plan = plan.as_slice();
         for level in [4, 5] {
@@ -116,25 +124,21 @@ impl<R: Print> Run<'_, R> {
         level: u32,
         found: Option<&Best>,
     ) -> io::Result<usize> {
-        let reduced = compare::reduce(self.alloc, file, level, SIGNER)?;
-        let left = match Task::read(self.alloc, reduced.file.as_slice()) {
-            Ok(left) => left,
-            Err(Unreadable::Memory(error)) => return Err(io::Error::from(error)),
-            Err(Unreadable::NoTask) => {
-                self.print(Difference::Reduced)?;
-                return Ok(0);
-            }
+        let reduced = compare::reduce(file, level, SIGNER);
+        let Some(left) = Task::read(reduced.file.as_slice()) else {
+            self.print(Difference::Reduced)?;
+            return Ok(0);
         };
-        let again = enumerate::find(self.alloc, &left)?;
+        let again = enumerate::find(&left);
         if !reduced.is_right || !compare::same_found(again.as_ref(), found) {
             self.print(Difference::Reduced)?;
         }
         self.count_reduced(task, &left, level, reduced.turns);
-        Ok(left.actions.len())
+        Ok(left.actions.as_slice().len())
     }
 
     fn count_reduced(&mut self, task: &Task, left: &Task, level: u32, turns: usize) {
-        let is_struck = left.actions.len() < task.actions.len();
+        let is_struck = left.actions.as_slice().len() < task.actions.as_slice().len();
         for (each, struck) in (1..6).zip(self.totals.struck.iter_mut()) {
             count(struck, is_struck && each == level);
         }

@@ -9,7 +9,7 @@ impl State {
     // The start state.
     pub fn start_of(task: &Task) -> State {
         let mut state = State([0; 4]);
-        for (value, variable) in state.0.iter_mut().zip(task.variables.iter()) {
+        for (value, variable) in state.0.iter_mut().zip(task.variables.as_slice().iter()) {
             *value = (variable.start % 4) as u8;
         }
         state
@@ -25,12 +25,9 @@ impl State {
         State(values)
     }
 
-    pub fn number(self) -> usize {
+    pub fn number(self) -> u8 {
         let [first, second, third, fourth] = self.0;
-        usize::from(first)
-            + 4 * usize::from(second)
-            + 16 * usize::from(third)
-            + 64 * usize::from(fourth)
+        first % 4 + 4 * (second % 4) + 16 * (third % 4) + 64 * (fourth % 4)
     }
 
     // Whether all facts hold.
@@ -55,7 +52,7 @@ impl State {
 
 // How many numbers of states there are.
 pub fn states_of(task: &Task) -> usize {
-    match task.variables.len() {
+    match task.variables.as_slice().len() {
         0 => 1,
         1 => 4,
         2 => 16,

@@ -1,32 +1,92 @@
 // Tasks and their files, by code of this program's own. A file is a list of records, each of them numbers
 // of 2 bytes: how many bytes its body has, its kind, and the body.
-use std::alloc::{AllocError, AllocFailed, Global};
 
 // A value of a variable: of a state, a goal, a condition or an effect.
-#[derive(Clone, Copy, Debug, PartialEq, Eq)]
+#[derive(Clone, Copy, Debug, Default, PartialEq, Eq)]
 pub struct Fact {
     pub variable: u16,
     pub value: u16,
 }
 
-#[derive(Clone, Copy, Debug, PartialEq, Eq)]
+#[derive(Clone, Copy, Debug, Default, PartialEq, Eq)]
 pub struct Variable {
     pub size: u16,
     pub start: u16,
 }
 
-#[derive(Drop)]
-pub struct Action {
-    pub cost: u32,
-    pub conditions: Vec<Fact>,
-    pub effects: Vec<Fact>,
+// At most 4 facts, since no task here has more variables.
+// Kept: a list for each kind of item, since a generic struct can hold no array of a type parameter, and a `Vec` takes memory.
+#[derive(Clone, Copy, Default)]
+pub struct Facts {
+    items: [Fact; 4],
+    count: usize,
 }
 
-#[derive(Drop)]
+impl Facts {
+    pub fn as_slice(&self) -> &[Fact] {
+        self.items.split_at(self.count.min(4)).0
+    }
+
+    // Adds a fact, if there is room.
+    pub fn push(&mut self, fact: Fact) -> Option<()> {
+        *self.items.get_mut(self.count)? = fact;
+        self.count += 1;
+        Some(())
+    }
+}
+
+// At most 4 variables.
+#[derive(Clone, Copy, Default)]
+pub struct Variables {
+    items: [Variable; 4],
+    count: usize,
+}
+
+impl Variables {
+    pub fn as_slice(&self) -> &[Variable] {
+        self.items.split_at(self.count.min(4)).0
+    }
+
+    // Adds a variable, if there is room.
+    pub fn push(&mut self, variable: Variable) -> Option<()> {
+        *self.items.get_mut(self.count)? = variable;
+        self.count += 1;
+        Some(())
+    }
+}
+
+#[derive(Clone, Copy, Default)]
+pub struct Action {
+    pub cost: u32,
+    pub conditions: Facts,
+    pub effects: Facts,
+}
+
+// At most 10 actions.
+#[derive(Clone, Copy, Default)]
+pub struct Actions {
+    items: [Action; 10],
+    count: usize,
+}
+
+impl Actions {
+    pub fn as_slice(&self) -> &[Action] {
+        self.items.split_at(self.count.min(10)).0
+    }
+
+    // Adds an action, if there is room.
+    pub fn push(&mut self, action: Action) -> Option<()> {
+        *self.items.get_mut(self.count)? = action;
+        self.count += 1;
+        Some(())
+    }
+}
+
+#[derive(Clone, Copy, Default)]
 pub struct Task {
-    pub variables: Vec<Variable>,
-    pub goal: Vec<Fact>,
-    pub actions: Vec<Action>,
+    pub variables: Variables,
+    pub goal: Facts,
+    pub actions: Actions,
 }
 
 // The kinds of records.
@@ -40,159 +100,174 @@ enum Kind {
     Plan = 8,
 }
 
-// Why a file is not read.
-#[derive(Debug, Drop)]
-pub enum Unreadable {
-    // It is no task file.
-    NoTask,
-    Memory(AllocError),
+// How many bytes there are for a file, as many as the longest here can have.
+pub const ROOM: usize = 512;
+
+// A file, in the first of its bytes.
+#[derive(Clone, Copy)]
+pub struct File {
+    bytes: [u8; ROOM],
+    length: usize,
 }
 
-impl From<AllocError> for Unreadable {
-    fn from(error: AllocError) -> Unreadable {
-        Unreadable::Memory(error)
+impl File {
+    pub fn new() -> File {
+        File::of([0; ROOM], 0)
     }
-}
 
-impl<T: Drop> From<AllocFailed<T>> for Unreadable {
-    fn from(error: AllocFailed<T>) -> Unreadable {
-        Unreadable::Memory(AllocError::from(error))
+    pub fn of(bytes: [u8; ROOM], length: usize) -> File {
+        File { bytes, length }
+    }
+
+    pub fn as_slice(&self) -> &[u8] {
+        self.bytes.split_at(self.length.min(ROOM)).0
+    }
+
+    // Adds numbers, as far as there is room.
+    fn put(&mut self, numbers: &[u16]) {
+        for number in numbers {
+            for byte in number.to_le_bytes() {
+                if let Some(place) = self.bytes.get_mut(self.length) {
+                    *place = byte;
+                    self.length += 1;
+                }
+            }
+        }
+    }
+
+    // Adds the head of a record with so many numbers.
+    fn put_head(&mut self, kind: Kind, numbers: usize) {
+        self.put(&[count(numbers).saturating_mul(2), kind as u16]);
+    }
+
+    fn put_record(&mut self, kind: Kind, body: &[u16]) {
+        self.put_head(kind, body.len());
+        self.put(body);
+    }
+
+    fn put_facts(&mut self, facts: &[Fact]) {
+        for fact in facts {
+            self.put(&[fact.variable, fact.value]);
+        }
+    }
+
+    // Adds the record with the signer and how many bytes stand before it.
+    fn sign(&mut self, signer: u32) {
+        let before = u32::from(count(self.length));
+        let [signer, above] = halves(signer);
+        let [length, over] = halves(before);
+        self.put_record(Kind::SignOff, &[signer, above, length, over]);
     }
 }
 
 impl Task {
-    // The task of a file.
-    pub fn read(alloc: Global, file: &[u8]) -> Result<Task, Unreadable> {
+    // The task of a file, if it is one.
+    pub fn read(file: &[u8]) -> Option<Task> {
         let mut records = Records(file);
-        let header = records.next(alloc, Kind::Header)?;
-        let &[variables, actions] = header.as_slice() else {
-            return Err(Unreadable::NoTask);
-        };
-        let mut task = Task {
-            variables: Vec::new(alloc),
-            goal: Vec::new(alloc),
-            actions: Vec::new(alloc),
-        };
+        let [variables, actions] = pair(records.next(Kind::Header)?)?;
+        let mut task = Task::default();
         for _ in 0..variables {
-            let body = records.next(alloc, Kind::Variable)?;
-            let &[size, start] = body.as_slice() else {
-                return Err(Unreadable::NoTask);
-            };
+            let [size, start] = pair(records.next(Kind::Variable)?)?;
             task.variables.push(Variable { size, start })?;
         }
-        task.goal = facts(alloc, records.next(alloc, Kind::Goal)?.as_slice())?;
+        task.goal = read_facts(records.next(Kind::Goal)?)?;
         for _ in 0..actions {
-            task.actions.push(read_action(alloc, records.next(alloc, Kind::Action)?.as_slice())?)?;
+            task.actions
+                .push(read_action(records.next(Kind::Action)?)?)?;
         }
-        Ok(task)
+        Some(task)
     }
 
     // The file of the task under a signer.
-    pub fn file(&self, alloc: Global, signer: u32) -> Result<Vec<u8>, AllocError> {
-        let mut file = Vec::new(alloc);
-        let counts = [count(self.variables.len()), count(self.actions.len())];
-        put_record(&mut file, Kind::Header, &counts)?;
-        for variable in self.variables.iter() {
-            put_record(&mut file, Kind::Variable, &[variable.size, variable.start])?;
+    pub fn file(&self, signer: u32) -> File {
+        let mut file = File::new();
+        let variables = self.variables.as_slice();
+        let goal = self.goal.as_slice();
+        let actions = self.actions.as_slice();
+        file.put_record(
+            Kind::Header,
+            &[count(variables.len()), count(actions.len())],
+        );
+        for variable in variables {
+            file.put_record(Kind::Variable, &[variable.size, variable.start]);
         }
-        let mut goal = Vec::new(alloc);
-        put_facts(&mut goal, self.goal.as_slice())?;
-        put_record(&mut file, Kind::Goal, goal.as_slice())?;
-        for action in self.actions.iter() {
+        file.put_head(Kind::Goal, 2 * goal.len());
+        file.put_facts(goal);
+        for action in actions {
             let [lower, upper] = halves(action.cost);
-            let counts = [count(action.conditions.len()), count(action.effects.len())];
-            let mut body = Vec::new(alloc);
-            body.extend_from_slice(&[lower, upper])?;
-            body.extend_from_slice(&counts)?;
-            put_facts(&mut body, action.conditions.as_slice())?;
-            put_facts(&mut body, action.effects.as_slice())?;
-            put_record(&mut file, Kind::Action, body.as_slice())?;
+            let conditions = action.conditions.as_slice();
+            let effects = action.effects.as_slice();
+            file.put_head(Kind::Action, 4 + 2 * conditions.len() + 2 * effects.len());
+            file.put(&[lower, upper, count(conditions.len()), count(effects.len())]);
+            file.put_facts(conditions);
+            file.put_facts(effects);
         }
-        sign(&mut file, signer)?;
-        Ok(file)
+        file.sign(signer);
+        file
     }
 }
 
 // The file of a plan under a signer.
-pub fn plan_file(alloc: Global, actions: &[u16], signer: u32) -> Result<Vec<u8>, AllocError> {
-    let mut file = Vec::new(alloc);
-    put_record(&mut file, Kind::Plan, actions)?;
-    sign(&mut file, signer)?;
-    Ok(file)
+pub fn plan_file(actions: &[u16], signer: u32) -> File {
+    let mut file = File::new();
+    file.put_record(Kind::Plan, actions);
+    file.sign(signer);
+    file
 }
 
 // The records of a file that are still to be read.
 #[derive(Clone, Copy)]
 struct Records<'a>(&'a [u8]);
 
-impl Records<'_> {
+impl<'a> Records<'a> {
     // The body of the next one, which is of a kind.
-    fn next(&mut self, alloc: Global, kind: Kind) -> Result<Vec<u16>, Unreadable> {
-        let length = self.number()?;
-        if self.number()? != kind as u16 {
-            return Err(Unreadable::NoTask);
+    fn next(&mut self, kind: Kind) -> Option<&'a [u8]> {
+        let (head, rest) = self.0.split_at_checked(4)?;
+        let [length, number] = pair(head)?;
+        if number != kind as u16 {
+            return None;
         }
-        let mut body = Vec::new(alloc);
-        for _ in 0..length / 2 {
-            body.push(self.number()?)?;
-        }
-        Ok(body)
-    }
-
-    fn number(&mut self) -> Result<u16, Unreadable> {
-        let (number, rest) = self.0.split_first_chunk().ok_or(Unreadable::NoTask)?;
+        let (body, rest) = rest.split_at_checked(usize::from(length))?;
         self.0 = rest;
-        Ok(u16::from_le_bytes(*number))
+        Some(body)
     }
 }
 
 // The action of a record's body.
-fn read_action(alloc: Global, body: &[u16]) -> Result<Action, Unreadable> {
-    let [lower, upper, conditions, _, pairs @ ..] = body else {
-        return Err(Unreadable::NoTask);
-    };
-    let middle = 2 * usize::from(*conditions);
-    let (conditions, effects) = pairs.split_at_checked(middle).ok_or(Unreadable::NoTask)?;
-    Ok(Action {
-        cost: u32::from(*lower) + 65536 * u32::from(*upper),
-        conditions: facts(alloc, conditions)?,
-        effects: facts(alloc, effects)?,
+fn read_action(body: &[u8]) -> Option<Action> {
+    let (cost, rest) = body.split_at_checked(4)?;
+    let [lower, upper] = pair(cost)?;
+    let (counts, pairs) = rest.split_at_checked(4)?;
+    let [conditions, count] = pair(counts)?;
+    let (conditions, effects) = pairs.split_at_checked(4 * usize::from(conditions))?;
+    if effects.len() != 4 * usize::from(count) {
+        return None;
+    }
+    Some(Action {
+        cost: u32::from(lower) + 65536 * u32::from(upper),
+        conditions: read_facts(conditions)?,
+        effects: read_facts(effects)?,
     })
 }
 
-fn facts(alloc: Global, numbers: &[u16]) -> Result<Vec<Fact>, AllocError> {
-    let mut facts = Vec::new(alloc);
-    for pair in numbers.chunks(2) {
-        if let &[variable, value] = pair {
-            facts.push(Fact { variable, value })?;
-        }
+fn read_facts(bytes: &[u8]) -> Option<Facts> {
+    let mut facts = Facts::default();
+    for bytes in bytes.chunks(4) {
+        let [variable, value] = pair(bytes)?;
+        facts.push(Fact { variable, value })?;
     }
-    Ok(facts)
+    Some(facts)
 }
 
-fn put_facts(numbers: &mut Vec<u16>, facts: &[Fact]) -> Result<(), AllocError> {
-    for fact in facts {
-        numbers.extend_from_slice(&[fact.variable, fact.value])?;
-    }
-    Ok(())
-}
-
-fn put_record(file: &mut Vec<u8>, kind: Kind, body: &[u16]) -> Result<(), AllocError> {
-    let length = count(body.len()).saturating_mul(2);
-    file.extend_from_slice(&length.to_le_bytes())?;
-    file.extend_from_slice(&(kind as u16).to_le_bytes())?;
-    for number in body {
-        file.extend_from_slice(&number.to_le_bytes())?;
-    }
-    Ok(())
-}
-
-// The record with the signer and how many bytes stand before it.
-fn sign(file: &mut Vec<u8>, signer: u32) -> Result<(), AllocError> {
-    let before = u32::from(count(file.len()));
-    let [signer, above] = halves(signer);
-    let [length, over] = halves(before);
-    put_record(file, Kind::SignOff, &[signer, above, length, over])
+// The two numbers of 4 bytes.
+fn pair(bytes: &[u8]) -> Option<[u16; 2]> {
+    let &[first, second, third, fourth] = bytes else {
+        return None;
+    };
+    Some([
+        u16::from_le_bytes([first, second]),
+        u16::from_le_bytes([third, fourth]),
+    ])
 }
 
 // A number of 4 bytes as two, the lower first.

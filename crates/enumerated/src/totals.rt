@@ -35,7 +35,7 @@ impl Totals {
         count(&mut self.tasks, true);
         count(&mut self.without, found.is_none());
         if let Some(best) = found {
-            let steps = best.actions.len();
+            let steps = best.plan.as_slice().len();
             count(&mut self.empty, steps == 0);
             count(&mut self.tied, best.is_tied);
             self.steps = self.steps.saturating_add(steps);

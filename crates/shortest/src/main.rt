@@ -2,27 +2,27 @@
 // what it found.
 #![tactic(auto)]
 
+mod input;
 mod listing;
+mod printer;
 
 use files::limits;
 use listing::{Listing, Refused};
+use printer::Printer;
 use std::io;
-use std::io::{BufWriter, Read, Write};
+use std::io::Write;
 
 // It plans at this level.
 const LEVEL: u32 = 4;
 
-// One byte more than a file may have, so that a file over the limit is told from one at it.
-const MOST: u64 = limits::MOST_BYTES as u64 + 1;
-
-// How many bytes of the output may wait.
-const WAITING: usize = 512;
+// The bytes of a plan file of 4,095 steps, as many as a plan of a task of 4,096 states has at most.
+const PLAN: usize = limits::MOST_PLAN_BYTES - 2;
 
 fn main(rt: HostRuntime) -> io::Result<()> {
-    let mut file = Vec::new(rt.alloc());
-    rt.reader().take(MOST).read_to_end(&mut file)?;
-    let mut out = BufWriter::with_capacity(rt.alloc(), WAITING, io::writer(&rt))?;
-    print_plan(&mut out, file.as_slice())?;
+    let mut space = [0u8; input::MOST];
+    let length = input::read_full(&mut rt.reader(), &mut space)?;
+    let mut out = Printer::new(io::writer(&rt));
+    print_plan(&mut out, &space[..length])?;
     out.flush()
 }
 
@@ -32,7 +32,7 @@ fn print_plan(out: &mut impl Write, file: &[u8]) -> io::Result<()> {
     let mut facts = [0u8; limits::MOST_FACTS];
     let mut reduced = [0u8; limits::MOST_BYTES];
     let mut origin = [0u8; limits::MOST_ORIGIN_BYTES];
-    let mut plan = [0u8; limits::MOST_PLAN_BYTES];
+    let mut plan = [0u8; PLAN];
     let answer = search::own_table::plan(
         file,
         LEVEL,
